@@ -79,7 +79,8 @@ alike_behind g x a b q h e = (shows_behind h x a b s, by)
               (subst (ShowsAlike h (Then x (but_last a))) (sym (front_more x b s.some.1)) (shows_behind h x (but_last a) (but_last b) r.1)),
         )
 
-pub alike_first : (g : ℕ) (x y : Tree) (xs : Forest) → ((h : ℕ) → eqb g h ≡ false → ItemShowsAlike h x y) → reset_slot y ≡ None → AreAlike g (Then x xs) (Then y xs)
+pub alike_first : (g : ℕ) (x y : Tree) (xs : Forest) → ((h : ℕ) → eqb g h ≡ false → ItemShowsAlike h x y) → reset_slot y ≡ None →
+    AreAlike g (Then x xs) (Then y xs)
 alike_first g x y xs s n h e = (shows_first h x y xs (s h e), by xs)
   where
     by : (zs : Forest) → last_reset (Then y zs) ≡ Some h → (last_reset (Then x zs) ≡ Some h) × ShowsAlike h (but_last (Then x zs)) (but_last (Then y zs))
@@ -151,7 +152,8 @@ alike_taken : (g : ℕ) (x y z : Tree) (xs : Forest) → ((h : ℕ) → IsPlain 
     → ((h : ℕ) → eqb g h ≡ false → checks_of h y ≡ checks_of h x) → AreAlike g (Then x (Then z xs)) (Then y xs)
 alike_taken g x y z xs p q i n s h e = (shows_taken h x y z (p h) (q h) (reset_shows g h e z i) (s h e) xs, by xs)
   where
-    by : (zs : Forest) → last_reset (Then y zs) ≡ Some h → (last_reset (Then x (Then z zs)) ≡ Some h) × ShowsAlike h (but_last (Then x (Then z zs))) (but_last (Then y zs))
+    by : (zs : Forest) → last_reset (Then y zs) ≡ Some h → (last_reset (Then x (Then z zs)) ≡ Some h) × ShowsAlike h (but_last (Then x (Then z zs)))
+        (but_last (Then y zs))
     by Nil k = none_some h (sym n ∙ k)
     by (Then w ws) k = (k, shows_taken h x y z (p h) (q h) (reset_shows g h e z i) (s h e) (but_last (Then w ws)))
 
@@ -184,41 +186,51 @@ for_plain b t u a h = record { exits = refl; low = λ n. refl; check = refl }
 
 -- by `break`
 module _ (c : ℕ → ℕ) (n g : ℕ) where
-  before_taken : (x y : Tree) (a xs : Forest) (s : Option ℕ) → allowed (breaks c n a xs) s ≡ Some g → ((h : ℕ) → IsPlain h x) → ((h : ℕ) → IsPlain h y) → reset_slot y ≡ None
+  before_taken : (x y : Tree) (a xs : Forest) (s : Option ℕ) → allowed (breaks c n a xs) s ≡ Some g → ((h : ℕ) → IsPlain h x) →
+      ((h : ℕ) → IsPlain h y) → reset_slot y ≡ None
       → ((h : ℕ) → eqb g h ≡ false → checks_of h y ≡ checks_of h x) → AreAlike g (Then x xs) (Then y (but_first xs))
   before_taken x y a Nil s i p q r k = absurd (no (found_so (breaks c n a Nil) s g i).1)
     where
       no : breaks c n a Nil g ≡ true → ⊥
       no e = cc
   before_taken x y a (Then z zs) s i p q r k =
-      alike_taken g x y z zs p q (is_that g (reset_slot z) (first_so (is_it g (reset_slot z)) (are_low g n a && eqb (c g) (3 + exits_in g a)) (found_so (breaks c n a (Then z zs)) s g i).1)) r k
+      alike_taken g x y z zs p q (is_that g (reset_slot z) (first_so (is_it g (reset_slot z)) (are_low g n a && eqb (c g) (3 + exits_in g a))
+      (found_so (breaks c n a (Then z zs)) s g i).1)) r k
 
-  pub broken_alike : (x : Tree) (xs : Forest) → break_slot c n x xs ≡ Some g → item_is_steady g x ≡ true → AreAlike g (Then x xs) (Then (broken g x) (but_first xs))
+  pub broken_alike : (x : Tree) (xs : Forest) → break_slot c n x xs ≡ Some g → item_is_steady g x ≡ true →
+      AreAlike g (Then x xs) (Then (broken g x) (but_first xs))
   broken_alike (While t a) xs i s =
-      before_taken (While t a) (broken g (While t a)) a xs (stop_slot t) i (while_plain t a) (λ h. record { exits = refl; low = λ n. refl; check = refl }) refl (λ h e. tailed_checks g h e Break refl a s)
+      before_taken (While t a) (broken g (While t a)) a xs (stop_slot t) i (while_plain t a)
+      (λ h. record { exits = refl; low = λ n. refl; check = refl }) refl (λ h e. tailed_checks g h e Break refl a s)
   broken_alike (Do a t) xs i s =
-      before_taken (Do a t) (broken g (Do a t)) a xs (stop_slot t) i (do_plain a t) (λ h. record { exits = refl; low = λ n. refl; check = refl }) refl (λ h e. tailed_checks g h e Break refl a s)
+      before_taken (Do a t) (broken g (Do a t)) a xs (stop_slot t) i (do_plain a t) (λ h. record { exits = refl; low = λ n. refl; check = refl }) refl
+      (λ h e. tailed_checks g h e Break refl a s)
   broken_alike _ xs i s = none_some g i
 
   -- by `continue`
-  kept_front : (a : Forest) → allowed (continues c n (but_last a)) (last_reset a) ≡ Some g → is_steady g a ≡ true → (h : ℕ) → eqb g h ≡ false → checks_in h (tailed g Continue (but_last a)) ≡ checks_in h a
-  kept_front a i s h e = tailed_checks g h e Continue refl (but_last a) (steady_front g a s) ∙ front_checks h g a (found_so (continues c n (but_last a)) (last_reset a) g i).0
+  kept_front : (a : Forest) → allowed (continues c n (but_last a)) (last_reset a) ≡ Some g → is_steady g a ≡ true → (h : ℕ) → eqb g h ≡ false →
+      checks_in h (tailed g Continue (but_last a)) ≡ checks_in h a
+  kept_front a i s h e = tailed_checks g h e Continue refl (but_last a) (steady_front g a s) ∙
+      front_checks h g a (found_so (continues c n (but_last a)) (last_reset a) g i).0
 
   pub continued_alike : (x : Tree) (xs : Forest) → continue_slot c n x ≡ Some g → item_is_steady g x ≡ true → AreAlike g (Then x xs) (Then (continued g x) xs)
   continued_alike (While t a) xs i s =
       let b = tailed g Continue (but_last a) in
-      alike_first g (While t a) (While t b) xs (λ h e. plain_alike h (While t a) (While t b) (while_plain t a h) (while_plain t b h) (kept_front a i s h e)) refl
+      alike_first g (While t a) (While t b) xs (λ h e. plain_alike h (While t a) (While t b) (while_plain t a h) (while_plain t b h)
+      (kept_front a i s h e)) refl
   continued_alike (Do a t) xs i s =
       let b = tailed g Continue (but_last a) in
       alike_first g (Do a t) (Do b t) xs (λ h e. plain_alike h (Do a t) (Do b t) (do_plain a t h) (do_plain b t h) (kept_front a i s h e)) refl
   continued_alike (For f t u a) xs i s =
       let b = tailed g Continue (but_last a) in
-      alike_first g (For f t u a) (For f t u b) xs (λ h e. plain_alike h (For f t u a) (For f t u b) (for_plain f t u a h) (for_plain f t u b h) (kept_front a i s h e)) refl
+      alike_first g (For f t u a) (For f t u b) xs (λ h e. plain_alike h (For f t u a) (For f t u b) (for_plain f t u a h) (for_plain f t u b h)
+      (kept_front a i s h e)) refl
   continued_alike _ xs i s = none_some g i
 
 -- ---- what a loop asks
 
-asked_none : (f : FunctionTree) (n : ℕ) (x : Tree) (xs : Forest) → next_here f n (Then x xs) ≡ None → (break_slot (counts_of f) n x xs ≡ None) × (continue_slot (counts_of f) n x ≡ None)
+asked_none : (f : FunctionTree) (n : ℕ) (x : Tree) (xs : Forest) → next_here f n (Then x xs) ≡ None →
+    (break_slot (counts_of f) n x xs ≡ None) × (continue_slot (counts_of f) n x ≡ None)
 asked_none f n x xs e =
     let b = break_slot (counts_of f) n x xs in
     let c = continue_slot (counts_of f) n x in
@@ -226,7 +238,8 @@ asked_none f n x xs e =
     let G = λ (g : ℕ). Then (continued g x) xs in
     (unslot F b (first_none (of_slot F b) (of_slot G c) e), unslot G c (second_none (of_slot F b) (of_slot G c) e))
 
-none_asked : (f : FunctionTree) (n : ℕ) (x : Tree) (xs : Forest) → (break_slot (counts_of f) n x xs ≡ None) × (continue_slot (counts_of f) n x ≡ None) → next_here f n (Then x xs) ≡ None
+none_asked : (f : FunctionTree) (n : ℕ) (x : Tree) (xs : Forest) → (break_slot (counts_of f) n x xs ≡ None) ×
+    (continue_slot (counts_of f) n x ≡ None) → next_here f n (Then x xs) ≡ None
 none_asked f n x xs (p, q) =
     let b = break_slot (counts_of f) n x xs in
     let c = continue_slot (counts_of f) n x in
@@ -285,12 +298,18 @@ module _ (g : ℕ) (a b : Forest) (q : AreAlike g a b) (c d : ℕ → ℕ) (l : 
 while_asks : (g : ℕ) (t : TestTree) (a b : Forest) → AreAlike g a b → AsksAlike g (While t a) (While t b)
 while_asks g t a b q f h l z n xs e =
     let r = asked_none f n (While t a) xs e in
-    none_asked h n (While t b) xs (break_asked g a b q (counts_of f) (counts_of h) l z n xs (stop_slot t) r.0, continue_asked g a b q (counts_of f) (counts_of h) l z n r.1)
+    none_asked h n (While t b) xs (
+      break_asked g a b q (counts_of f) (counts_of h) l z n xs (stop_slot t) r.0,
+      continue_asked g a b q (counts_of f) (counts_of h) l z n r.1,
+    )
 
 do_asks : (g : ℕ) (t : TestTree) (a b : Forest) → AreAlike g a b → AsksAlike g (Do a t) (Do b t)
 do_asks g t a b q f h l z n xs e =
     let r = asked_none f n (Do a t) xs e in
-    none_asked h n (Do b t) xs (break_asked g a b q (counts_of f) (counts_of h) l z n xs (stop_slot t) r.0, continue_asked g a b q (counts_of f) (counts_of h) l z n r.1)
+    none_asked h n (Do b t) xs (
+      break_asked g a b q (counts_of f) (counts_of h) l z n xs (stop_slot t) r.0,
+      continue_asked g a b q (counts_of f) (counts_of h) l z n r.1,
+    )
 
 for_asks : (g : ℕ) (t u : Option ExpressionTree) (a b c d : Forest) → AreAlikeOf g a b c d → AsksAlike g (For a t u b) (For c t u d)
 for_asks g t u a b c d (inl (q, k)) f h l z n xs e =
@@ -346,7 +365,8 @@ no_check h t Nil k = absurd k
 no_check h (Source e) (Then x xs) k = refl
 no_check h _ (Then x xs) k = refl
 
-if_shows : (h : ℕ) (t : TestTree) (a b c d : Forest) → checks h t d ≡ checks h t b → checks_in h c ≡ checks_in h a → checks_in h d ≡ checks_in h b → exits_in h c ≡ exits_in h a → exits_in h d ≡ exits_in h b
+if_shows : (h : ℕ) (t : TestTree) (a b c d : Forest) → checks h t d ≡ checks h t b → checks_in h c ≡ checks_in h a → checks_in h d ≡ checks_in h b →
+    exits_in h c ≡ exits_in h a → exits_in h d ≡ exits_in h b
     → ((n : ℕ) → are_low h n c ≡ are_low h n a) → ((n : ℕ) → are_low h n d ≡ are_low h n b) → ItemShowsAlike h (If t a b) (If t c d)
 if_shows h t a b c d i p q r s u v = record {
   checks = let k = ap one_if i in omega (arith, k, p, q);
@@ -364,4 +384,5 @@ if_alike g t a b c d q = record { shows = by q; asks = λ f h l z n xs e. refl; 
         if_shows h t a b c d (ap (checks h t) k) s.checks (ap (checks_in h) k) s.exits (ap (exits_in h) k) s.low (λ n. ap (are_low h n) k)
     by (inr (k, p)) h e =
         let s = (p h e).0 in
-        if_shows h t a b c d (no_check h t d s.some.1 ∙ sym (no_check h t b s.some.0)) (ap (checks_in h) k) s.checks (ap (exits_in h) k) s.exits (λ n. ap (are_low h n) k) s.low
+        if_shows h t a b c d (no_check h t d s.some.1 ∙ sym (no_check h t b s.some.0)) (ap (checks_in h) k) s.checks (ap (exits_in h) k) s.exits
+        (λ n. ap (are_low h n) k) s.low

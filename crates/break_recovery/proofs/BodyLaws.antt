@@ -54,7 +54,8 @@ cond_no : (h : ℕ) (b : Bool) (v y : Tree) → is_declaration h v ≡ false →
 cond_no h true v y k e = sym (ap (λ o. option_map_or (is_declaration h) o false) e) ∙ k
 cond_no h false v y k e = cc
 
-broken_with : (g h n : ℕ) (loop : TestTree → Forest → Tree) → ((t : TestTree) (a : Forest) → is_declaration h (loop t a) ≡ false) → (o : Option TestTree) (a : Forest) (y : Tree) → with_breaks g n loop o a ≡ Some y → is_declaration h y ≡ false
+broken_with : (g h n : ℕ) (loop : TestTree → Forest → Tree) → ((t : TestTree) (a : Forest) → is_declaration h (loop t a) ≡ false) →
+    (o : Option TestTree) (a : Forest) (y : Tree) → with_breaks g n loop o a ≡ Some y → is_declaration h y ≡ false
 broken_with g h n loop k None a y e = cc
 broken_with g h n loop k (Some t) a y e = cond_no h (are_low g n a) (loop t (tailed g Break a)) y (k t (tailed g Break a)) e
 
@@ -63,7 +64,8 @@ broken_no g h n (While t a) y e = broken_with g h n While (λ t a. refl) (second
 broken_no g h n (Do a t) y e = broken_with g h n (λ t a. Do a t) (λ t a. refl) (second_test g t) a y e
 broken_no g h n _ y e = cc
 
-continued_with : (g h n : ℕ) (loop : Forest → Tree) → ((a : Forest) → is_declaration h (loop a) ≡ false) → (o : Option Forest) (y : Tree) → with_continues g n loop o ≡ Some y → is_declaration h y ≡ false
+continued_with : (g h n : ℕ) (loop : Forest → Tree) → ((a : Forest) → is_declaration h (loop a) ≡ false) → (o : Option Forest) (y : Tree) →
+    with_continues g n loop o ≡ Some y → is_declaration h y ≡ false
 continued_with g h n loop k None y e = cc
 continued_with g h n loop k (Some a) y e = cond_no h (are_low g n a) (loop (tailed g Continue a)) y (k (tailed g Continue a)) e
 
@@ -85,13 +87,15 @@ after_no : (g h : ℕ) (xs ys : Forest) → after_reset g xs ≡ Some ys → dec
 after_no g h Nil ys e = cc
 after_no g h (Then r rest) ys e = after_at g h r rest ys (is_reset g r) refl e
 
-both_by : (h : ℕ) (x : Tree) (xs l : Forest) (o : Option Tree) (q : Option Forest) → ((y : Tree) → o ≡ Some y → is_declaration h y ≡ is_declaration h x) → ((ys : Forest) → q ≡ Some ys → declares h ys ≡ declares h xs)
+both_by : (h : ℕ) (x : Tree) (xs l : Forest) (o : Option Tree) (q : Option Forest) →
+    ((y : Tree) → o ≡ Some y → is_declaration h y ≡ is_declaration h x) → ((ys : Forest) → q ≡ Some ys → declares h ys ≡ declares h xs)
     → both_there o q ≡ Some l → declares h l ≡ declares h (Then x xs)
 both_by h x xs l (Some y) (Some ys) i k e = sym (ap (λ o. option_map_or (declares h) o false) e) ∙ ap₂ (λ a b. a || b) (i y refl) (k ys refl)
 both_by h x xs l (Some y) None i k e = cc
 both_by h x xs l None q i k e = cc
 
-first_by : (h : ℕ) (x : Tree) (xs l : Forest) (o : Option Tree) → ((y : Tree) → o ≡ Some y → is_declaration h y ≡ is_declaration h x) → option_map (λ y. Then y xs) o ≡ Some l → declares h l ≡ declares h (Then x xs)
+first_by : (h : ℕ) (x : Tree) (xs l : Forest) (o : Option Tree) → ((y : Tree) → o ≡ Some y → is_declaration h y ≡ is_declaration h x) →
+    option_map (λ y. Then y xs) o ≡ Some l → declares h l ≡ declares h (Then x xs)
 first_by h x xs l (Some y) i e = sym (ap (λ o. option_map_or (declares h) o false) e) ∙ ap (λ b. b || declares h xs) (i y refl)
 first_by h x xs l None i e = cc
 
@@ -101,16 +105,24 @@ KeepsKind x c = (h : ℕ) → is_declaration h c.1 ≡ is_declaration h x
 items_keep : (p k n : ℕ) (x : Tree) → Each (KeepsKind x) (changed_items p k n x)
 items_keep p k n (If t a b) =
     each_append (KeepsKind (If t a b)) (around (λ c. If t c b) (changed_lists p k n a)) (around (If t a) (changed_lists p k n b))
-    (each_around (KeepsKind (If t a b)) (λ c. If t c b) (changed_lists p k n a) (each_all (λ (c : ℕ × Forest). KeepsKind (If t a b) (c.0, If t c.1 b)) (changed_lists p k n a) (λ c h. refl)))
-    (each_around (KeepsKind (If t a b)) (If t a) (changed_lists p k n b) (each_all (λ (c : ℕ × Forest). KeepsKind (If t a b) (c.0, If t a c.1)) (changed_lists p k n b) (λ c h. refl)))
-items_keep p k n (While t a) = each_around (KeepsKind (While t a)) (While t) (changed_lists p k n a) (each_all (λ (c : ℕ × Forest). KeepsKind (While t a) (c.0, While t c.1)) (changed_lists p k n a) (λ c h. refl))
-items_keep p k n (Do a t) = each_around (KeepsKind (Do a t)) (λ c. Do c t) (changed_lists p k n a) (each_all (λ (c : ℕ × Forest). KeepsKind (Do a t) (c.0, Do c.1 t)) (changed_lists p k n a) (λ c h. refl))
+    (each_around (KeepsKind (If t a b)) (λ c. If t c b) (changed_lists p k n a)
+    (each_all (λ (c : ℕ × Forest). KeepsKind (If t a b) (c.0, If t c.1 b)) (changed_lists p k n a) (λ c h. refl)))
+    (each_around (KeepsKind (If t a b)) (If t a) (changed_lists p k n b)
+    (each_all (λ (c : ℕ × Forest). KeepsKind (If t a b) (c.0, If t a c.1)) (changed_lists p k n b) (λ c h. refl)))
+items_keep p k n (While t a) = each_around (KeepsKind (While t a)) (While t) (changed_lists p k n a)
+    (each_all (λ (c : ℕ × Forest). KeepsKind (While t a) (c.0, While t c.1)) (changed_lists p k n a) (λ c h. refl))
+items_keep p k n (Do a t) = each_around (KeepsKind (Do a t)) (λ c. Do c t) (changed_lists p k n a)
+    (each_all (λ (c : ℕ × Forest). KeepsKind (Do a t) (c.0, Do c.1 t)) (changed_lists p k n a) (λ c h. refl))
 items_keep p k n (For f t u a) =
     each_append (KeepsKind (For f t u a)) (around (λ c. For c t u a) (changed_lists p k n f)) (around (For f t u) (changed_lists p k n a))
-    (each_around (KeepsKind (For f t u a)) (λ c. For c t u a) (changed_lists p k n f) (each_all (λ (c : ℕ × Forest). KeepsKind (For f t u a) (c.0, For c.1 t u a)) (changed_lists p k n f) (λ c h. refl)))
-    (each_around (KeepsKind (For f t u a)) (For f t u) (changed_lists p k n a) (each_all (λ (c : ℕ × Forest). KeepsKind (For f t u a) (c.0, For f t u c.1)) (changed_lists p k n a) (λ c h. refl)))
-items_keep p k n (Switch s d) = each_around (KeepsKind (Switch s d)) (Switch s) (changed_sections p k n d) (each_all (λ (c : ℕ × Sections). KeepsKind (Switch s d) (c.0, Switch s c.1)) (changed_sections p k n d) (λ c h. refl))
-items_keep p k n (Block a) = each_around (KeepsKind (Block a)) Block (changed_lists p k n a) (each_all (λ (c : ℕ × Forest). KeepsKind (Block a) (c.0, Block c.1)) (changed_lists p k n a) (λ c h. refl))
+    (each_around (KeepsKind (For f t u a)) (λ c. For c t u a) (changed_lists p k n f)
+    (each_all (λ (c : ℕ × Forest). KeepsKind (For f t u a) (c.0, For c.1 t u a)) (changed_lists p k n f) (λ c h. refl)))
+    (each_around (KeepsKind (For f t u a)) (For f t u) (changed_lists p k n a)
+    (each_all (λ (c : ℕ × Forest). KeepsKind (For f t u a) (c.0, For f t u c.1)) (changed_lists p k n a) (λ c h. refl)))
+items_keep p k n (Switch s d) = each_around (KeepsKind (Switch s d)) (Switch s) (changed_sections p k n d)
+    (each_all (λ (c : ℕ × Sections). KeepsKind (Switch s d) (c.0, Switch s c.1)) (changed_sections p k n d) (λ c h. refl))
+items_keep p k n (Block a) = each_around (KeepsKind (Block a)) Block (changed_lists p k n a)
+    (each_all (λ (c : ℕ × Forest). KeepsKind (Block a) (c.0, Block c.1)) (changed_lists p k n a) (λ c h. refl))
 items_keep p k n x = tt
 
 pub each_weaker : {A : Type 0} (P Q : A → Type 0) → ((x : A) → P x → Q x) → (xs : List A) → Each P xs → Each Q xs
@@ -130,8 +142,10 @@ lists_keep p k n (Then x xs) =
     (for_each P F (λ g l e h. both_by h x xs l (broken_loop g (suc n) x) (after_reset g xs) (λ y. broken_no g h (suc n) x y) (λ ys. after_no g h xs ys) e) p k)
     (for_each P G (λ g l e h. first_by h x xs l (continued_loop g (suc n) x) (λ y. continued_no g h (suc n) x y) e) p k))
     (each_append P (around (λ y. Then y xs) C) (around (Then x) D)
-    (each_around P (λ y. Then y xs) C (each_weaker (KeepsKind x) (λ (c : ℕ × Tree). P (c.0, Then c.1 xs)) (λ c k h. ap (λ b. b || declares h xs) (k h)) C (items_keep p k (suc n) x)))
-    (each_around P (Then x) D (each_weaker (KeepsDeclared xs) (λ (c : ℕ × Forest). P (c.0, Then x c.1)) (λ c k h. ap (λ b. is_declaration h x || b) (k h)) D (lists_keep p k n xs))))
+    (each_around P (λ y. Then y xs) C (each_weaker (KeepsKind x) (λ (c : ℕ × Tree). P (c.0, Then c.1 xs))
+    (λ c k h. ap (λ b. b || declares h xs) (k h)) C (items_keep p k (suc n) x)))
+    (each_around P (Then x) D (each_weaker (KeepsDeclared xs) (λ (c : ℕ × Forest). P (c.0, Then x c.1))
+    (λ c k h. ap (λ b. is_declaration h x || b) (k h)) D (lists_keep p k n xs))))
 
 -- ---- the declaration names it once
 
@@ -156,7 +170,8 @@ declared_once g (Local x es) h =
     omega (arith, k, l)
 declared_once g _ h = cc
 
-undeclared_at : (g : ℕ) (x : Tree) (xs ys : Forest) (b : Bool) → is_declaration g x ≡ b → (b || declares g xs) ≡ true → (declares g xs ≡ true → list_count g xs ≡ suc (list_count g ys)) → item_count g x + list_count g xs ≡ suc (list_count g (cond b xs (Then x ys)))
+undeclared_at : (g : ℕ) (x : Tree) (xs ys : Forest) (b : Bool) → is_declaration g x ≡ b → (b || declares g xs) ≡ true →
+    (declares g xs ≡ true → list_count g xs ≡ suc (list_count g ys)) → item_count g x + list_count g xs ≡ suc (list_count g (cond b xs (Then x ys)))
 undeclared_at g x xs ys true e h r = let p = declared_once g x e in omega (arith, p)
 undeclared_at g x xs ys false e h r = let p = r h in omega (arith, p)
 
@@ -181,7 +196,8 @@ allowed_is f a e c k =
     ∙ ap (λ d. (F && d) && E) (sym (k g))
     ∙ both_tests F (declares g c.1) E (list_lacks g (undeclared g c.1))
     (λ h. let u = undeclared_parts g c.1 h in
-    eqb_same (list_count g a + list_count g c.1) (suc (list_count g a)) (list_count g (undeclared g c.1)) 0 (λ w. omega (arith, u, w)) (λ w. omega (arith, u, w)) ∙ sym (count_laws_hold.none g (undeclared g c.1)))
+    eqb_same (list_count g a + list_count g c.1) (suc (list_count g a)) (list_count g (undeclared g c.1)) 0 (λ w. omega (arith, u, w))
+    (λ w. omega (arith, u, w)) ∙ sym (count_laws_hold.none g (undeclared g c.1)))
 
 filter_same : {A : Type 0} (P Q : A → Bool) (cs : List A) → Each (λ c. P c ≡ Q c) cs → filter P cs ≡ filter Q cs
 filter_same P Q [] h = refl
@@ -190,7 +206,8 @@ filter_same P Q (c ∷ cs) h = ap (λ b. cond b (c ∷ filter P cs) (filter P cs
 whole : (f : FunctionTree) (a : Forest) → f.body ≡ Some a → next_list f 1 a ≡ first (changes f a)
 whole f a e =
     let cs = changed_lists f.params (length f.slots - f.params) 1 a in
-    ap first (filter_same (fits f a) (is_allowed f.slots) cs (each_weaker (KeepsDeclared a) (λ c. fits f a c ≡ is_allowed f.slots c) (allowed_is f a e) cs (lists_keep f.params (length f.slots - f.params) 1 a)))
+    ap first (filter_same (fits f a) (is_allowed f.slots) cs
+    (each_weaker (KeepsDeclared a) (λ c. fits f a c ≡ is_allowed f.slots c) (allowed_is f a e) cs (lists_keep f.params (length f.slots - f.params) 1 a)))
 
 pub search_laws_hold : SearchLaws
 search_laws_hold = record {

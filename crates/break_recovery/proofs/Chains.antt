@@ -47,7 +47,8 @@ first_at [] i t u e s c = absurd (no e)
 first_at (x ∷ xs) zero t u e s c = let g : t ≡ x = cc in inl (subst (λ z. TopIsChangedFirst z u) g c, refl)
 first_at (x ∷ xs) (suc i) t u e s c = inr (s.0, refl, first_at xs i t u e s.1 c)
 
-pub times_at : (n : ℕ) (us : List Top) (i : ℕ) (t u : Top) → slice_get us i ≡ Some t → Settled i us → TopChangedTimes n t u → AreChangedTimes n us (slice_set us i u)
+pub times_at : (n : ℕ) (us : List Top) (i : ℕ) (t u : Top) → slice_get us i ≡ Some t → Settled i us → TopChangedTimes n t u →
+    AreChangedTimes n us (slice_set us i u)
 times_at zero us i t u e s c = ap (slice_set us i) c ∙ set_same us i t e
 times_at (suc n) us i t u e s (z, first, rest) = (
   slice_set us i z,
@@ -80,9 +81,11 @@ pub record Done (i n : ℕ) (ts us : List Top) : Type 0 where
 pub none_done : (ts : List Top) → Done 0 0 ts ts
 none_done ts = record { changed = refl; settled = tt }
 
-pub one_done : (i n m j k : ℕ) (ts us vs : List Top) (t u : Top) → slice_get us i ≡ Some t → TopTidied m t u → vs ≡ slice_set us i u → k ≡ n + m → j ≡ suc i → Done i n ts us → Done j k ts vs
+pub one_done : (i n m j k : ℕ) (ts us vs : List Top) (t u : Top) → slice_get us i ≡ Some t → TopTidied m t u → vs ≡ slice_set us i u → k ≡ n + m →
+    j ≡ suc i → Done i n ts us → Done j k ts vs
 one_done i n m j k ts us vs t u e c v a b d = record {
-  changed = subst (λ x. AreChangedTimes x ts vs) (sym a) (and_then n m ts us vs d.changed (subst (AreChangedTimes m us) (sym v) (times_at m us i t u e d.settled c.changed)));
+  changed = subst (λ x. AreChangedTimes x ts vs) (sym a)
+      (and_then n m ts us vs d.changed (subst (AreChangedTimes m us) (sym v) (times_at m us i t u e d.settled c.changed)));
   settled = subst (λ x. Settled x vs) (sym b) (subst (Settled (suc i)) (sym v) (settled_more us i u c.settled d.settled));
 }
 
@@ -133,12 +136,14 @@ tops_unnamed : (names others : Function → List (List ℕ)) (ts : List Top) →
 tops_unnamed names others [] h = refl
 tops_unnamed names others (t ∷ ts) h = ap₂ (λ x xs. x ∷ xs) (top_unnamed names others t h.0) (tops_unnamed names others ts h.1)
 
-pub unnamed : (names others : Function → List (List ℕ)) (n : ℕ) (ts us : List Top) → All IsTopUnflat ts → AreChangedTimes n ts us → map (plain_top names) us ≡ map (plain_top others) us
+pub unnamed : (names others : Function → List (List ℕ)) (n : ℕ) (ts us : List Top) → All IsTopUnflat ts → AreChangedTimes n ts us →
+    map (plain_top names) us ≡ map (plain_top others) us
 unnamed names others n ts us h c = tops_unnamed names others us (times_unflat n ts us c (are_unflat ts h))
 
 -- ---- the whole program
 
-pub tidied_by : (p : Program) (us : List Top) (names : List (List ℕ)) (n : ℕ) (q : Program) → All IsTopUnflat p.tops → AreTidied n p.tops us → q ≡ plain names (record p { tops = us }) → IsTidied p n q
+pub tidied_by : (p : Program) (us : List Top) (names : List (List ℕ)) (n : ℕ) (q : Program) → All IsTopUnflat p.tops → AreTidied n p.tops us →
+    q ≡ plain names (record p { tops = us }) → IsTidied p n q
 tidied_by p us names n q h a e = record {
   last = record p { tops = us };
   changes = a.changed;

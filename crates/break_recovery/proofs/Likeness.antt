@@ -30,12 +30,14 @@ use Rattle.break_recovery.proofs.Ways.{dropped_set}
 
 -- ---- lists
 
-pub alike_set : (g : ℕ) (xs : List Item) (i : ℕ) (x y : Item) → i < length xs → x ≡ get_or xs i x → IsAlike g (tree_at x) (tree_at y) → AreAlike g (trees_of xs) (trees_of (slice_set xs i y))
+pub alike_set : (g : ℕ) (xs : List Item) (i : ℕ) (x y : Item) → i < length xs → x ≡ get_or xs i x → IsAlike g (tree_at x) (tree_at y) →
+    AreAlike g (trees_of xs) (trees_of (slice_set xs i y))
 alike_set g [] i x y h e s = absurd (omega (arith, h))
 alike_set g (z ∷ zs) zero x y h e s =
     subst (λ a. AreAlike g a (trees_of (y ∷ zs))) (sym (trees-first z zs))
     (subst (AreAlike g (Then (tree_at z) (trees_of zs))) (sym (trees-first y zs))
-    (subst (λ w. AreAlike g (Then (tree_at w) (trees_of zs)) (Then (tree_at y) (trees_of zs))) e (alike_first g (tree_at x) (tree_at y) (trees_of zs) s.shows s.none)))
+    (subst (λ w. AreAlike g (Then (tree_at w) (trees_of zs)) (Then (tree_at y) (trees_of zs))) e
+    (alike_first g (tree_at x) (tree_at y) (trees_of zs) s.shows s.none)))
 alike_set g (z ∷ zs) (suc i) x y h e s =
     subst (λ a. AreAlike g a (trees_of (z ∷ slice_set zs i y))) (sym (trees-first z zs))
     (subst (AreAlike g (Then (tree_at z) (trees_of zs))) (sym (trees-first z (slice_set zs i y)))
@@ -49,7 +51,8 @@ alike_join g (x ∷ xs) (suc i) b q =
     (subst (λ z. AreAlike g (Then (tree_at x) (trees_of xs)) (join z b)) (sym (trees-first x (take i xs)))
     (alike_behind g (tree_at x) (trees_of xs) (join (trees_of (take i xs)) b) (alike_join g xs i b q)))
 
-pub sections_alike : (g : ℕ) (cs : List Real.Section) (i : ℕ) (s t : Real.Section) → i < length cs → s ≡ get_or cs i s → AreAlike g (trees_of (list_of s)) (trees_of (list_of t))
+pub sections_alike : (g : ℕ) (cs : List Real.Section) (i : ℕ) (s t : Real.Section) → i < length cs → s ≡ get_or cs i s →
+    AreAlike g (trees_of (list_of s)) (trees_of (list_of t))
     → AreSectionsAlike g (sections_of cs) (sections_of (slice_set cs i t))
 sections_alike g [] i s t l e q h o = absurd (omega (arith, l))
 sections_alike g (c ∷ cs) zero s t l e q h o =
@@ -66,7 +69,8 @@ sections_alike g (c ∷ cs) (suc i) s t l e q h o =
 
 -- ---- the change at a loop
 
-change_alike : (c : ℕ → ℕ) (n : ℕ) (x : Tree) (xs : Forest) (r : Change) → change_there c n x xs ≡ Some r → item_is_steady (slot_of r) x ≡ true → AreAlike (slot_of r) (Then x xs) (list_after r (Then x xs))
+change_alike : (c : ℕ → ℕ) (n : ℕ) (x : Tree) (xs : Forest) (r : Change) → change_there c n x xs ≡ Some r → item_is_steady (slot_of r) x ≡ true →
+    AreAlike (slot_of r) (Then x xs) (list_after r (Then x xs))
 change_alike c n x xs r e s = by (break_slot c n x xs) (continue_slot c n x) refl refl
   where
     it_is : (q : Change) → Some q ≡ Some r → q ≡ r
@@ -84,13 +88,15 @@ change_alike c n x xs r e s = by (break_slot c n x xs) (continue_slot c n x) ref
         no : None ≡ Some r → ⊥
         no e = cc
 
-pub here_alike : (c : ℕ → ℕ) (n : ℕ) (xs ys : List Item) (i : ℕ) (x : Item) (r : Change) → i < length xs → x ≡ get_or xs i x → change_first c n (trees_of (drop i xs)) ≡ Some r → item_is_steady (slot_of r) (tree_at x) ≡ true
+pub here_alike : (c : ℕ → ℕ) (n : ℕ) (xs ys : List Item) (i : ℕ) (x : Item) (r : Change) → i < length xs → x ≡ get_or xs i x →
+    change_first c n (trees_of (drop i xs)) ≡ Some r → item_is_steady (slot_of r) (tree_at x) ≡ true
     → trees_of ys ≡ join (trees_of (take i xs)) (list_after r (trees_of (drop i xs))) → AreAlike (slot_of r) (trees_of xs) (trees_of ys)
 here_alike c n xs ys i x r h k e s j =
     let t = trees-at xs i x h k in
     subst (AreAlike (slot_of r) (trees_of xs)) (sym j)
     (alike_join (slot_of r) xs i (list_after r (trees_of (drop i xs)))
-    (subst (λ a. AreAlike (slot_of r) a (list_after r a)) (sym t) (change_alike c n (tree_at x) (trees_of (drop (i + 1) xs)) r (sym (ap (change_first c n) t) ∙ e) s)))
+    (subst (λ a. AreAlike (slot_of r) a (list_after r a)) (sym t)
+    (change_alike c n (tree_at x) (trees_of (drop (i + 1) xs)) r (sym (ap (change_first c n) t) ∙ e) s)))
 
 -- ---- what is said of a change
 
@@ -103,12 +109,15 @@ empty_back : (w : List ℕ) → reverse w ≡ [] → w ≡ []
 empty_back w e = sym (reverse-reverse w) ∙ ap reverse e
 
 -- an item on a sure way was asked
-pub was_asked : (sure : Bool) (f : FunctionTree) (n : ℕ) (w : List ℕ) (a : Forest) → sure ≡ true → (w ≡ [] → ⊥) → IsWayAt sure f n (reverse w) a → next_here f n a ≡ None
+pub was_asked : (sure : Bool) (f : FunctionTree) (n : ℕ) (w : List ℕ) (a : Forest) → sure ≡ true → (w ≡ [] → ⊥) → IsWayAt sure f n (reverse w) a →
+    next_here f n a ≡ None
 was_asked sure f n w a e h q = asked_before sure f n (reverse w) a e (λ i. h (empty_back w i)) q
 
 -- where the changed item is like it was, the way goes on in it
-pub item_goes_in : (sure : Bool) (f h : FunctionTree) (g : ℕ) → Fewer (counts_of f) (counts_of h) → counts_of h g ≡ 0 → (n i : ℕ) (w : List ℕ) (xs : List Item) (x y : Item) → i < length xs → x ≡ get_or xs i x
-    → (sure ≡ true → IsAlike g (tree_at x) (tree_at y)) → next_here f n (trees_of (drop i xs)) ≡ None → IsWayIn sure h n w (tree_at y) → IsWayAt sure h n w (trees_of (drop i (slice_set xs i y)))
+pub item_goes_in : (sure : Bool) (f h : FunctionTree) (g : ℕ) → Fewer (counts_of f) (counts_of h) → counts_of h g ≡ 0 →
+    (n i : ℕ) (w : List ℕ) (xs : List Item) (x y : Item) → i < length xs → x ≡ get_or xs i x
+    → (sure ≡ true → IsAlike g (tree_at x) (tree_at y)) → next_here f n (trees_of (drop i xs)) ≡ None → IsWayIn sure h n w (tree_at y) →
+    IsWayAt sure h n w (trees_of (drop i (slice_set xs i y)))
 item_goes_in sure f h g l z n i w xs x y b e s k p =
     subst (IsWayAt sure h n w) (sym (dropped_set xs i y b))
     (goes_in sure f h g l z n w (tree_at x) (tree_at y) (trees_of (drop (i + 1) xs)) s (sym (ap (next_here f n) (trees-at xs i x b e)) ∙ k) p)
@@ -119,10 +128,12 @@ true_false e = cc
 -- ---- the forms of an item
 
 module _ (g : ℕ) (x : Item) where
-  pub if_is_alike : (t : Test) (a b c d : List Item) → x ≡ If t a b → AreAlikeOf g (trees_of a) (trees_of b) (trees_of c) (trees_of d) → IsAlike g (tree_at x) (tree_at (If t c d))
+  pub if_is_alike : (t : Test) (a b c d : List Item) → x ≡ If t a b → AreAlikeOf g (trees_of a) (trees_of b) (trees_of c) (trees_of d) →
+      IsAlike g (tree_at x) (tree_at (If t c d))
   if_is_alike t a b c d e q =
       subst (λ y. IsAlike g y (tree_at (If t c d))) (sym (ap tree_at e ∙ at-If t a b))
-      (subst (IsAlike g (Trees.If (test_tree t) (trees_of a) (trees_of b))) (sym (at-If t c d)) (if_alike g (test_tree t) (trees_of a) (trees_of b) (trees_of c) (trees_of d) q))
+      (subst (IsAlike g (Trees.If (test_tree t) (trees_of a) (trees_of b))) (sym (at-If t c d))
+      (if_alike g (test_tree t) (trees_of a) (trees_of b) (trees_of c) (trees_of d) q))
 
   pub while_is_alike : (t : Test) (a c : List Item) → x ≡ While t a → AreAlike g (trees_of a) (trees_of c) → IsAlike g (tree_at x) (tree_at (While t c))
   while_is_alike t a c e q =
@@ -134,17 +145,21 @@ module _ (g : ℕ) (x : Item) where
       subst (λ y. IsAlike g y (tree_at (Do c t))) (sym (ap tree_at e ∙ at-Do a t))
       (subst (IsAlike g (Trees.Do (trees_of a) (test_tree t))) (sym (at-Do c t)) (do_alike g (test_tree t) (trees_of a) (trees_of c) q))
 
-  pub for_is_alike : (a : List Item) (t u : Option Expression) (b c d : List Item) → x ≡ For a t u b → AreAlikeOf g (trees_of a) (trees_of b) (trees_of c) (trees_of d) → IsAlike g (tree_at x) (tree_at (For c t u d))
+  pub for_is_alike : (a : List Item) (t u : Option Expression) (b c d : List Item) → x ≡ For a t u b →
+      AreAlikeOf g (trees_of a) (trees_of b) (trees_of c) (trees_of d) → IsAlike g (tree_at x) (tree_at (For c t u d))
   for_is_alike a t u b c d e q =
       let i = option_map expression_tree t in
       let j = option_map expression_tree u in
       subst (λ y. IsAlike g y (tree_at (For c t u d))) (sym (ap tree_at e ∙ at-For a t u b))
-      (subst (IsAlike g (Trees.For (trees_of a) i j (trees_of b))) (sym (at-For c t u d)) (for_alike g i j (trees_of a) (trees_of b) (trees_of c) (trees_of d) q))
+      (subst (IsAlike g (Trees.For (trees_of a) i j (trees_of b))) (sym (at-For c t u d))
+      (for_alike g i j (trees_of a) (trees_of b) (trees_of c) (trees_of d) q))
 
-  pub switch_is_alike : (s : Selector) (c d : List Real.Section) → x ≡ Switch s c → AreSectionsAlike g (sections_of c) (sections_of d) → IsAlike g (tree_at x) (tree_at (Switch s d))
+  pub switch_is_alike : (s : Selector) (c d : List Real.Section) → x ≡ Switch s c → AreSectionsAlike g (sections_of c) (sections_of d) →
+      IsAlike g (tree_at x) (tree_at (Switch s d))
   switch_is_alike s c d e q =
       subst (λ y. IsAlike g y (tree_at (Switch s d))) (sym (ap tree_at e ∙ at-Switch s c))
-      (subst (IsAlike g (Trees.Switch (selector_tree s) (sections_of c))) (sym (at-Switch s d)) (switch_alike g (selector_tree s) (sections_of c) (sections_of d) q))
+      (subst (IsAlike g (Trees.Switch (selector_tree s) (sections_of c))) (sym (at-Switch s d))
+      (switch_alike g (selector_tree s) (sections_of c) (sections_of d) q))
 
   pub block_is_alike : (a c : List Item) → x ≡ Block a → AreAlike g (trees_of a) (trees_of c) → IsAlike g (tree_at x) (tree_at (Block c))
   block_is_alike a c e q =

@@ -20,7 +20,8 @@ use Rattle.break_recovery.proofs.Steps.{entry_is, breaks_next, breaks_last, cont
 -- ---- the next change there
 
 chosen : (s t : Option ℕ) (a : Forest)
-    → or_else (of_slot (λ g. broken_first g a) s) (of_slot (λ g. continued_first g a) t) ≡ option_map (λ x. (slot_of x, list_after x a)) (or_else (option_map V.Break s) (option_map V.Continue t))
+    → or_else (of_slot (λ g. broken_first g a) s) (of_slot (λ g. continued_first g a) t) ≡ option_map (λ x. (slot_of x, list_after x a))
+    (or_else (option_map V.Break s) (option_map V.Continue t))
 chosen None None a = refl
 chosen None (Some h) a = refl
 chosen (Some g) t a = refl
@@ -42,15 +43,18 @@ module _ (f : FunctionTree) (n : ℕ) (a : Forest) (F : Forest → Forest) (c : 
 -- ---- what it makes of a list
 
 module _ (xs : List Item) (i : ℕ) (x : Item) (h : i < length xs) (e : x ≡ get_or xs i x) (y : Item) where
-  pub next_kept : (c : Change) → tree_at y ≡ loop_after c (tree_at x) → keeps_next c ≡ true → trees_of (slice_set xs i y) ≡ join (trees_of (take i xs)) (list_after c (trees_of (drop i xs)))
+  pub next_kept : (c : Change) → tree_at y ≡ loop_after c (tree_at x) → keeps_next c ≡ true →
+      trees_of (slice_set xs i y) ≡ join (trees_of (take i xs)) (list_after c (trees_of (drop i xs)))
   next_kept (V.Break g) k t = cc
   next_kept (V.Continue g) k t = continues_at xs i x h e g y k
 
-  pub next_taken : (c : Change) → tree_at y ≡ loop_after c (tree_at x) → keeps_next c ≡ false → i + 1 < length xs → trees_of (remove (slice_set xs i y) (i + 1)) ≡ join (trees_of (take i xs)) (list_after c (trees_of (drop i xs)))
+  pub next_taken : (c : Change) → tree_at y ≡ loop_after c (tree_at x) → keeps_next c ≡ false → i + 1 < length xs →
+      trees_of (remove (slice_set xs i y) (i + 1)) ≡ join (trees_of (take i xs)) (list_after c (trees_of (drop i xs)))
   next_taken (V.Break g) k t l = breaks_next xs i x h e g y k l
   next_taken (V.Continue g) k t l = cc
 
-  pub none_next : (c : Change) → tree_at y ≡ loop_after c (tree_at x) → keeps_next c ≡ false → length xs ≤ i + 1 → trees_of (slice_set xs i y) ≡ join (trees_of (take i xs)) (list_after c (trees_of (drop i xs)))
+  pub none_next : (c : Change) → tree_at y ≡ loop_after c (tree_at x) → keeps_next c ≡ false → length xs ≤ i + 1 →
+      trees_of (slice_set xs i y) ≡ join (trees_of (take i xs)) (list_after c (trees_of (drop i xs)))
   none_next (V.Break g) k t l = breaks_last xs i x h e g y k l
   none_next (V.Continue g) k t l = cc
 

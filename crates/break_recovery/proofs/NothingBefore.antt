@@ -45,12 +45,14 @@ module _ (f : FunctionTree) (n : ℕ) where
   item_no_reset : (x : Tree) → Holds NoReset (next_item f n x)
   item_no_reset (If t a b) =
       subst (Holds NoReset) (sym (in_if f n t a b))
-      (holds_or NoReset (put (λ c. If t c b) (next_list f n a)) (put (If t a) (next_list f n b)) (holds_put NoReset (λ c. If t c b) (λ c. refl) (next_list f n a)) (holds_put NoReset (If t a) (λ c. refl) (next_list f n b)))
+      (holds_or NoReset (put (λ c. If t c b) (next_list f n a)) (put (If t a) (next_list f n b))
+      (holds_put NoReset (λ c. If t c b) (λ c. refl) (next_list f n a)) (holds_put NoReset (If t a) (λ c. refl) (next_list f n b)))
   item_no_reset (While t a) = subst (Holds NoReset) (sym (in_while f n t a)) (holds_put NoReset (While t) (λ c. refl) (next_list f n a))
   item_no_reset (Do a t) = subst (Holds NoReset) (sym (in_do f n a t)) (holds_put NoReset (λ c. Do c t) (λ c. refl) (next_list f n a))
   item_no_reset (For b t u a) =
       subst (Holds NoReset) (sym (in_for f n b t u a))
-      (holds_or NoReset (put (λ c. For c t u a) (next_list f n b)) (put (For b t u) (next_list f n a)) (holds_put NoReset (λ c. For c t u a) (λ c. refl) (next_list f n b)) (holds_put NoReset (For b t u) (λ c. refl) (next_list f n a)))
+      (holds_or NoReset (put (λ c. For c t u a) (next_list f n b)) (put (For b t u) (next_list f n a))
+      (holds_put NoReset (λ c. For c t u a) (λ c. refl) (next_list f n b)) (holds_put NoReset (For b t u) (λ c. refl) (next_list f n a)))
   item_no_reset (Switch v c) = subst (Holds NoReset) (sym (in_switch f n v c)) (holds_put NoReset (Switch v) (λ c. refl) (next_sections f n c))
   item_no_reset (Block a) = subst (Holds NoReset) (sym (in_block f n a)) (holds_put NoReset Block (λ c. refl) (next_list f n a))
   item_no_reset x = tt
@@ -58,12 +60,16 @@ module _ (f : FunctionTree) (n : ℕ) where
   here_none_first : (x : Tree) (xs : Forest) → Holds NoneFirst (next_here f n (Then x xs))
   here_none_first (While t a) xs =
       let x = While t a in
-      holds_or NoneFirst (of_slot (λ g. Then (broken g x) (but_first xs)) (break_slot (counts_of f) n x xs)) (of_slot (λ g. Then (continued g x) xs) (continue_slot (counts_of f) n x))
-      (holds_slot NoneFirst (λ g. Then (broken g x) (but_first xs)) (λ g. refl) (break_slot (counts_of f) n x xs)) (holds_slot NoneFirst (λ g. Then (continued g x) xs) (λ g. refl) (continue_slot (counts_of f) n x))
+      holds_or NoneFirst (of_slot (λ g. Then (broken g x) (but_first xs)) (break_slot (counts_of f) n x xs))
+      (of_slot (λ g. Then (continued g x) xs) (continue_slot (counts_of f) n x))
+      (holds_slot NoneFirst (λ g. Then (broken g x) (but_first xs)) (λ g. refl) (break_slot (counts_of f) n x xs))
+      (holds_slot NoneFirst (λ g. Then (continued g x) xs) (λ g. refl) (continue_slot (counts_of f) n x))
   here_none_first (Do a t) xs =
       let x = Do a t in
-      holds_or NoneFirst (of_slot (λ g. Then (broken g x) (but_first xs)) (break_slot (counts_of f) n x xs)) (of_slot (λ g. Then (continued g x) xs) (continue_slot (counts_of f) n x))
-      (holds_slot NoneFirst (λ g. Then (broken g x) (but_first xs)) (λ g. refl) (break_slot (counts_of f) n x xs)) (holds_slot NoneFirst (λ g. Then (continued g x) xs) (λ g. refl) (continue_slot (counts_of f) n x))
+      holds_or NoneFirst (of_slot (λ g. Then (broken g x) (but_first xs)) (break_slot (counts_of f) n x xs))
+      (of_slot (λ g. Then (continued g x) xs) (continue_slot (counts_of f) n x))
+      (holds_slot NoneFirst (λ g. Then (broken g x) (but_first xs)) (λ g. refl) (break_slot (counts_of f) n x xs))
+      (holds_slot NoneFirst (λ g. Then (continued g x) xs) (λ g. refl) (continue_slot (counts_of f) n x))
   here_none_first (For b t u a) xs =
       let x = For b t u a in
       holds_slot NoneFirst (λ g. Then (continued g x) xs) (λ g. refl) (continue_slot (counts_of f) n x)
@@ -95,7 +101,8 @@ module _ (f : FunctionTree) (n : ℕ) where
 -- ---- before the place of a change
 
 module _ (f h : FunctionTree) (l : Fewer (counts_of f) (counts_of h)) (n : ℕ) where
-  pub quiet_replaced : (j k : ℕ) (a : Forest) (g : ℕ) (c : Forest) → next_at f n (behind k a) ≡ Some (g, c) → j < k → next_at f n (behind j a) ≡ None → next_at h n (behind j (replaced k c a)) ≡ None
+  pub quiet_replaced : (j k : ℕ) (a : Forest) (g : ℕ) (c : Forest) → next_at f n (behind k a) ≡ Some (g, c) → j < k →
+      next_at f n (behind j a) ≡ None → next_at h n (behind j (replaced k c a)) ≡ None
   quiet_replaced j zero a g c e i q = absurd (omega (arith, i))
   quiet_replaced j (suc k) Nil g c e i q = none_some (g, c) e
   quiet_replaced zero (suc k) (Then x xs) g c e i q = at_still f h l x n xs (replaced k c xs) (first_replaced f n k xs g c e) q
@@ -129,7 +136,8 @@ moved_up (suc j) (suc d) (Then x xs) i = moved_up j d xs (omega (arith, i))
 
 -- ---- where the search goes on
 
-pub goes_on_at : (f h : FunctionTree) → Fewer (counts_of f) (counts_of h) → (n k : ℕ) (a : Forest) (g : ℕ) (c : Forest) (gone : Option ℕ) (doubt from : ℕ) → next_at f n (behind k a) ≡ Some (g, c) → AreQuiet f n k a
+pub goes_on_at : (f h : FunctionTree) → Fewer (counts_of f) (counts_of h) →
+    (n k : ℕ) (a : Forest) (g : ℕ) (c : Forest) (gone : Option ℕ) (doubt from : ℕ) → next_at f n (behind k a) ≡ Some (g, c) → AreQuiet f n k a
     → GoesOn k gone doubt from → AreQuietBut h n doubt from (removed_at gone (replaced k c a))
 goes_on_at f h l n k a g c None doubt from e q o j i p = let m = o j i in quiet_replaced f h l n j k a g c e m (q j m)
 goes_on_at f h l n k a g c (Some d) doubt from e q o j i p = by (o j i p)
@@ -140,7 +148,8 @@ goes_on_at f h l n k a g c (Some d) doubt from e q o j i p = by (o j i p)
 
 -- ---- the next change of the whole list
 
-pub found_next : (f : FunctionTree) (n k : ℕ) (a : Forest) (g : ℕ) (c : Forest) → AreQuiet f (suc n) k a → next_at f (suc n) (behind k a) ≡ Some (g, c) → next_list f n a ≡ Some (g, replaced k c a)
+pub found_next : (f : FunctionTree) (n k : ℕ) (a : Forest) (g : ℕ) (c : Forest) → AreQuiet f (suc n) k a →
+    next_at f (suc n) (behind k a) ≡ Some (g, c) → next_list f n a ≡ Some (g, replaced k c a)
 found_next f n zero Nil g c q e = none_some (g, c) e
 found_next f n (suc k) Nil g c q e = none_some (g, c) e
 found_next f n zero (Then x xs) g c q e = more f n x xs ∙ ap (λ o. or_else o (put (Then x) (next_list f n xs))) e

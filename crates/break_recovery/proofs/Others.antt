@@ -76,7 +76,8 @@ module _ (g h : ℕ) (other : eqb g h ≡ false) where
   number_other n (Typed (Some Int) (Number (pos m))) e = refl
   number_other n _ e = cc
 
-  leaving_at : (l : Tree) (v : ExpressionTree) (b : Bool) → is_number 1 v ≡ b → item_count h l ≡ 0 → item_count h (cond b l (If (Source v) (one l) Nil)) ≡ expression_count h v
+  leaving_at : (l : Tree) (v : ExpressionTree) (b : Bool) → is_number 1 v ≡ b → item_count h l ≡ 0 →
+      item_count h (cond b l (If (Source v) (one l) Nil)) ≡ expression_count h v
   leaving_at l v true e k = let p = number_other 1 v e in omega (arith, p, k)
   leaving_at l v false e k = omega (arith, k)
 
@@ -157,7 +158,8 @@ module _ (g h : ℕ) (other : eqb g h ≡ false) where
       let q = ap (list_count h) c.1 in
       omega (arith, p, q)
 
-  broken_with : (n : ℕ) (loop : TestTree → Forest → Tree) → ((t : TestTree) (a : Forest) → item_count h (loop t a) ≡ test_count h t + list_count h a) → (t : TestTree) (o : Option TestTree) → second_test g t ≡ o → (a : Forest) (y : Tree)
+  broken_with : (n : ℕ) (loop : TestTree → Forest → Tree) → ((t : TestTree) (a : Forest) →
+      item_count h (loop t a) ≡ test_count h t + list_count h a) → (t : TestTree) (o : Option TestTree) → second_test g t ≡ o → (a : Forest) (y : Tree)
       → with_breaks g n loop o a ≡ Some y → item_count h y ≡ test_count h t + list_count h a
   broken_with n loop k t None s a y e = cc
   broken_with n loop k t (Some u) s a y e =
@@ -173,7 +175,8 @@ module _ (g h : ℕ) (other : eqb g h ≡ false) where
   broken_other n (Do a t) y e = let p = broken_with n (λ t a. Do a t) (λ t a. omega arith) t (second_test g t) refl a y e in omega (arith, p)
   broken_other n _ y e = cc
 
-  continued_with : (n m : ℕ) (loop : Forest → Tree) → ((a : Forest) → item_count h (loop a) ≡ m + list_count h a) → (a : Forest) (o : Option Forest) → before_reset g a ≡ o → (y : Tree)
+  continued_with : (n m : ℕ) (loop : Forest → Tree) → ((a : Forest) → item_count h (loop a) ≡ m + list_count h a) → (a : Forest) (o : Option Forest) →
+      before_reset g a ≡ o → (y : Tree)
       → with_continues g n loop o ≡ Some y → item_count h y ≡ m + list_count h a
   continued_with n m loop k a None s y e = cc
   continued_with n m loop k a (Some b) s y e =
@@ -191,7 +194,8 @@ module _ (g h : ℕ) (other : eqb g h ≡ false) where
       let p = continued_with n (item_count h (For f t u Nil)) (For f t u) (λ a. omega arith) a (before_reset g a) refl y e in omega (arith, p)
   continued_other n _ y e = cc
 
-  both_other : (x : Tree) (xs l : Forest) (o : Option Tree) (q : Option Forest) → ((y : Tree) → o ≡ Some y → item_count h y ≡ item_count h x) → ((ys : Forest) → q ≡ Some ys → list_count h ys ≡ list_count h xs)
+  both_other : (x : Tree) (xs l : Forest) (o : Option Tree) (q : Option Forest) → ((y : Tree) → o ≡ Some y → item_count h y ≡ item_count h x) →
+      ((ys : Forest) → q ≡ Some ys → list_count h ys ≡ list_count h xs)
       → both_there o q ≡ Some l → list_count h l ≡ list_count h (Then x xs)
   both_other x xs l (Some y) (Some ys) i k e =
       let c = cond_so true (Then y ys) l e in
@@ -202,7 +206,8 @@ module _ (g h : ℕ) (other : eqb g h ≡ false) where
   both_other x xs l (Some y) None i k e = cc
   both_other x xs l None q i k e = cc
 
-  first_other : (x : Tree) (xs l : Forest) (o : Option Tree) → ((y : Tree) → o ≡ Some y → item_count h y ≡ item_count h x) → option_map (λ y. Then y xs) o ≡ Some l → list_count h l ≡ list_count h (Then x xs)
+  first_other : (x : Tree) (xs l : Forest) (o : Option Tree) → ((y : Tree) → o ≡ Some y → item_count h y ≡ item_count h x) →
+      option_map (λ y. Then y xs) o ≡ Some l → list_count h l ≡ list_count h (Then x xs)
   first_other x xs l o i e =
       let c = some_map (λ y. Then y xs) o l e in
       let p = i c.0 c.1 in
@@ -232,11 +237,14 @@ module _ (p k : ℕ) where
         let D = changed_lists p k n xs in
         each_append P (changed_for F p k ++ changed_for G p k) (around (λ y. Then y xs) C ++ around (Then x) D)
         (each_append P (changed_for F p k) (changed_for G p k)
-        (for_each P F (λ g l e h i. both_other g h i x xs l (broken_loop g (suc n) x) (after_reset g xs) (λ y. broken_other g h i (suc n) x y) (λ ys. after_other g h i xs ys) e) p k)
+        (for_each P F (λ g l e h i. both_other g h i x xs l (broken_loop g (suc n) x) (after_reset g xs) (λ y. broken_other g h i (suc n) x y)
+        (λ ys. after_other g h i xs ys) e) p k)
         (for_each P G (λ g l e h i. first_other g h i x xs l (continued_loop g (suc n) x) (λ y. continued_other g h i (suc n) x y) e) p k))
         (each_append P (around (λ y. Then y xs) C) (around (Then x) D)
-        (each_around P (λ y. Then y xs) C (each_weaker (ItemKeeps x) (λ (c : ℕ × Tree). P (c.0, Then c.1 xs)) (λ c q h i. ap (λ m. m + list_count h xs) (q h i)) C (items_others x (suc n))))
-        (each_around P (Then x) D (each_weaker (KeepsOthers xs) (λ (c : ℕ × Forest). P (c.0, Then x c.1)) (λ c q h i. ap (λ m. item_count h x + m) (q h i)) D (lists_others xs n))))
+        (each_around P (λ y. Then y xs) C (each_weaker (ItemKeeps x) (λ (c : ℕ × Tree). P (c.0, Then c.1 xs))
+        (λ c q h i. ap (λ m. m + list_count h xs) (q h i)) C (items_others x (suc n))))
+        (each_around P (Then x) D (each_weaker (KeepsOthers xs) (λ (c : ℕ × Forest). P (c.0, Then x c.1))
+        (λ c q h i. ap (λ m. item_count h x + m) (q h i)) D (lists_others xs n))))
 
     items_others : (x : Tree) (n : ℕ) → Each (ItemKeeps x) (changed_items p k n x)
     items_others (If t a b) n =
@@ -244,27 +252,36 @@ module _ (p k : ℕ) where
         let A = changed_lists p k n a in
         let B = changed_lists p k n b in
         each_append P (around (λ c. If t c b) A) (around (If t a) B)
-        (each_around P (λ c. If t c b) A (each_weaker (KeepsOthers a) (λ (c : ℕ × Forest). P (c.0, If t c.1 b)) (λ c q h i. ap (λ m. test_count h t + (m + list_count h b)) (q h i)) A (lists_others a n)))
-        (each_around P (If t a) B (each_weaker (KeepsOthers b) (λ (c : ℕ × Forest). P (c.0, If t a c.1)) (λ c q h i. ap (λ m. test_count h t + (list_count h a + m)) (q h i)) B (lists_others b n)))
+        (each_around P (λ c. If t c b) A (each_weaker (KeepsOthers a) (λ (c : ℕ × Forest). P (c.0, If t c.1 b))
+        (λ c q h i. ap (λ m. test_count h t + (m + list_count h b)) (q h i)) A (lists_others a n)))
+        (each_around P (If t a) B (each_weaker (KeepsOthers b) (λ (c : ℕ × Forest). P (c.0, If t a c.1))
+        (λ c q h i. ap (λ m. test_count h t + (list_count h a + m)) (q h i)) B (lists_others b n)))
     items_others (While t a) n =
         let A = changed_lists p k n a in
-        each_around (ItemKeeps (While t a)) (While t) A (each_weaker (KeepsOthers a) (λ (c : ℕ × Forest). ItemKeeps (While t a) (c.0, While t c.1)) (λ c q h i. ap (λ m. test_count h t + m) (q h i)) A (lists_others a n))
+        each_around (ItemKeeps (While t a)) (While t) A (each_weaker (KeepsOthers a) (λ (c : ℕ × Forest). ItemKeeps (While t a) (c.0, While t c.1))
+        (λ c q h i. ap (λ m. test_count h t + m) (q h i)) A (lists_others a n))
     items_others (Do a t) n =
         let A = changed_lists p k n a in
-        each_around (ItemKeeps (Do a t)) (λ c. Do c t) A (each_weaker (KeepsOthers a) (λ (c : ℕ × Forest). ItemKeeps (Do a t) (c.0, Do c.1 t)) (λ c q h i. ap (λ m. m + test_count h t) (q h i)) A (lists_others a n))
+        each_around (ItemKeeps (Do a t)) (λ c. Do c t) A (each_weaker (KeepsOthers a) (λ (c : ℕ × Forest). ItemKeeps (Do a t) (c.0, Do c.1 t))
+        (λ c q h i. ap (λ m. m + test_count h t) (q h i)) A (lists_others a n))
     items_others (For f t u a) n =
         let P = ItemKeeps (For f t u a) in
         let A = changed_lists p k n f in
         let B = changed_lists p k n a in
         each_append P (around (λ c. For c t u a) A) (around (For f t u) B)
-        (each_around P (λ c. For c t u a) A (each_weaker (KeepsOthers f) (λ (c : ℕ × Forest). P (c.0, For c.1 t u a)) (λ c q h i. let w = q h i in omega (arith, w)) A (lists_others f n)))
-        (each_around P (For f t u) B (each_weaker (KeepsOthers a) (λ (c : ℕ × Forest). P (c.0, For f t u c.1)) (λ c q h i. let w = q h i in omega (arith, w)) B (lists_others a n)))
+        (each_around P (λ c. For c t u a) A (each_weaker (KeepsOthers f) (λ (c : ℕ × Forest). P (c.0, For c.1 t u a))
+        (λ c q h i. let w = q h i in omega (arith, w)) A (lists_others f n)))
+        (each_around P (For f t u) B (each_weaker (KeepsOthers a) (λ (c : ℕ × Forest). P (c.0, For f t u c.1))
+        (λ c q h i. let w = q h i in omega (arith, w)) B (lists_others a n)))
     items_others (Switch s d) n =
         let D = changed_sections p k n d in
-        each_around (ItemKeeps (Switch s d)) (Switch s) D (each_weaker (SectionsKeep d) (λ (c : ℕ × Sections). ItemKeeps (Switch s d) (c.0, Switch s c.1)) (λ c q h i. let w = q h i in omega (arith, w)) D (sections_others d n))
+        each_around (ItemKeeps (Switch s d)) (Switch s) D
+        (each_weaker (SectionsKeep d) (λ (c : ℕ × Sections). ItemKeeps (Switch s d) (c.0, Switch s c.1))
+        (λ c q h i. let w = q h i in omega (arith, w)) D (sections_others d n))
     items_others (Block a) n =
         let A = changed_lists p k n a in
-        each_around (ItemKeeps (Block a)) Block A (each_weaker (KeepsOthers a) (λ (c : ℕ × Forest). ItemKeeps (Block a) (c.0, Block c.1)) (λ c q h i. q h i) A (lists_others a n))
+        each_around (ItemKeeps (Block a)) Block A (each_weaker (KeepsOthers a) (λ (c : ℕ × Forest). ItemKeeps (Block a) (c.0, Block c.1))
+        (λ c q h i. q h i) A (lists_others a n))
     items_others x n = tt
 
     sections_others : (d : Sections) (n : ℕ) → Each (SectionsKeep d) (changed_sections p k n d)
@@ -274,8 +291,12 @@ module _ (p k : ℕ) where
         let A = changed_lists p k n a in
         let D = changed_sections p k n d in
         each_append P (around (λ b. Section cases default b ends d) A) (around (Section cases default a ends) D)
-        (each_around P (λ b. Section cases default b ends d) A (each_weaker (KeepsOthers a) (λ (c : ℕ × Forest). P (c.0, Section cases default c.1 ends d)) (λ c q h i. ap (λ m. m + sections_count h d) (q h i)) A (lists_others a n)))
-        (each_around P (Section cases default a ends) D (each_weaker (SectionsKeep d) (λ (c : ℕ × Sections). P (c.0, Section cases default a ends c.1)) (λ c q h i. ap (λ m. list_count h a + m) (q h i)) D (sections_others d n)))
+        (each_around P (λ b. Section cases default b ends d) A
+        (each_weaker (KeepsOthers a) (λ (c : ℕ × Forest). P (c.0, Section cases default c.1 ends d))
+        (λ c q h i. ap (λ m. m + sections_count h d) (q h i)) A (lists_others a n)))
+        (each_around P (Section cases default a ends) D
+        (each_weaker (SectionsKeep d) (λ (c : ℕ × Sections). P (c.0, Section cases default a ends c.1))
+        (λ c q h i. ap (λ m. list_count h a + m) (q h i)) D (sections_others d n)))
 
 -- ---- the declaration
 
@@ -292,7 +313,8 @@ module _ (g h : ℕ) (other : eqb g h ≡ false) where
   undeclared_other Nil = refl
   undeclared_other (Then x xs) = by (is_declaration g x) refl (undeclared_other xs)
     where
-      by : (b : Bool) → is_declaration g x ≡ b → list_count h (undeclared g xs) ≡ list_count h xs → list_count h (cond b xs (Then x (undeclared g xs))) ≡ item_count h x + list_count h xs
+      by : (b : Bool) → is_declaration g x ≡ b → list_count h (undeclared g xs) ≡ list_count h xs →
+          list_count h (cond b xs (Then x (undeclared g xs))) ≡ item_count h x + list_count h xs
       by true e i = let p = declared_other x e in omega (arith, p)
       by false e i = omega (arith, i)
 
@@ -306,6 +328,7 @@ module _ (g h : ℕ) (other : eqb g h ≡ false) where
   declares_other Nil = refl
   declares_other (Then x xs) = by (is_declaration g x) refl (declares_other xs)
     where
-      by : (b : Bool) → is_declaration g x ≡ b → declares h (undeclared g xs) ≡ declares h xs → declares h (cond b xs (Then x (undeclared g xs))) ≡ (is_declaration h x || declares h xs)
+      by : (b : Bool) → is_declaration g x ≡ b → declares h (undeclared g xs) ≡ declares h xs →
+          declares h (cond b xs (Then x (undeclared g xs))) ≡ (is_declaration h x || declares h xs)
       by true e i = sym (ap (λ b. b || declares h xs) (no_declaration x e))
       by false e i = ap (λ b. is_declaration h x || b) i

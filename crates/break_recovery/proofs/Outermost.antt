@@ -23,12 +23,14 @@ behind_is (suc k) (x ∷ xs) = behind_is k xs ∙ sym (ap (behind (suc k)) (tree
 replaced_is : (k : ℕ) (c : Forest) (xs : List Item) → join (trees_of (take k xs)) c ≡ replaced k c (trees_of xs)
 replaced_is zero c xs = ap (λ z. join z c) trees-none
 replaced_is (suc k) c [] = ap (λ z. join z c) trees-none ∙ sym (ap (replaced (suc k) c) trees-none)
-replaced_is (suc k) c (x ∷ xs) = ap (λ z. join z c) (trees-first x (take k xs)) ∙ ap (Then (tree_at x)) (replaced_is k c xs) ∙ sym (ap (replaced (suc k) c) (trees-first x xs))
+replaced_is (suc k) c (x ∷ xs) = ap (λ z. join z c) (trees-first x (take k xs)) ∙ ap (Then (tree_at x)) (replaced_is k c xs) ∙
+    sym (ap (replaced (suc k) c) (trees-first x xs))
 
 pub removed_is : (xs : List Item) (i : ℕ) → i < length xs → trees_of (remove xs i) ≡ removed i (trees_of xs)
 removed_is [] i h = absurd (omega (arith, h))
 removed_is (x ∷ xs) zero h = sym (ap (removed zero) (trees-first x xs))
-removed_is (x ∷ xs) (suc i) h = trees-first x (remove xs i) ∙ ap (Then (tree_at x)) (removed_is xs i (omega (arith, h))) ∙ sym (ap (removed (suc i)) (trees-first x xs))
+removed_is (x ∷ xs) (suc i) h = trees-first x (remove xs i) ∙ ap (Then (tree_at x)) (removed_is xs i (omega (arith, h))) ∙
+    sym (ap (removed (suc i)) (trees-first x xs))
 
 none_past : (xs : List Item) (k : ℕ) → length xs ≤ k → behind k (trees_of xs) ≡ Nil
 none_past xs k h = sym (behind_is k xs) ∙ trees-end xs k h
@@ -45,7 +47,8 @@ at_place xs k f n =
     put_same (join (trees_of (take k xs))) (λ c. replaced k c (trees_of xs)) (λ c. replaced_is k c xs) (next_at f n (trees_of (drop k xs)))
     ∙ ap (λ a. put (λ c. replaced k c (trees_of xs)) (next_at f n a)) (behind_is k xs)
 
-pub past_place : (xs : List Item) (k : ℕ) (f : FunctionTree) (n : ℕ) → length xs ≤ k → None ≡ put (λ c. replaced k c (trees_of xs)) (next_at f n (behind k (trees_of xs)))
+pub past_place : (xs : List Item) (k : ℕ) (f : FunctionTree) (n : ℕ) → length xs ≤ k →
+    None ≡ put (λ c. replaced k c (trees_of xs)) (next_at f n (behind k (trees_of xs)))
 past_place xs k f n h = sym (ap (λ z. put (λ c. replaced k c (trees_of xs)) (next_at f n z)) (none_past xs k h))
 
 apart : {A : Type 0} (x : A) → Some x ≡ None → ⊥
@@ -67,7 +70,8 @@ abbrev list_in : Option (ℕ × Forest) → Forest
 list_in None = Nil
 list_in (Some c) = c.1
 
-pub one_found : (f : FunctionTree) (n k : ℕ) (a b : Forest) (s : Option ℕ) (g : ℕ) → changed_to s b ≡ put (λ c. replaced k c a) (next_at f n (behind k a)) → s ≡ Some g → AreQuiet f n k a → IsFoundAt f n (Some (g, k)) a b
+pub one_found : (f : FunctionTree) (n k : ℕ) (a b : Forest) (s : Option ℕ) (g : ℕ) →
+    changed_to s b ≡ put (λ c. replaced k c a) (next_at f n (behind k a)) → s ≡ Some g → AreQuiet f n k a → IsFoundAt f n (Some (g, k)) a b
 one_found f n k a b s g e h q = by (next_at f n (behind k a)) refl
   where
     by : (o : Option (ℕ × Forest)) → next_at f n (behind k a) ≡ o → IsFoundAt f n (Some (g, k)) a b
@@ -87,7 +91,8 @@ more_quiet f n k a h q j i = elim (cases_lt j k) [
   | inr m ↦ let e : j ≡ k = omega (arith, i, m) in ap (λ z. next_at f n (behind z a)) e ∙ h
 ]
 
-pub all_quiet : (f : FunctionTree) (n : ℕ) (xs : List Item) (i : ℕ) → length xs ≤ i → AreQuiet f n i (trees_of xs) → (j : ℕ) → next_at f n (behind j (trees_of xs)) ≡ None
+pub all_quiet : (f : FunctionTree) (n : ℕ) (xs : List Item) (i : ℕ) → length xs ≤ i → AreQuiet f n i (trees_of xs) → (j : ℕ) →
+    next_at f n (behind j (trees_of xs)) ≡ None
 all_quiet f n xs i h q j = elim (cases_lt j i) [
   | inl m ↦ q j m
   | inr m ↦ ap (next_at f n) (none_past xs j (omega (arith, h, m)))
@@ -129,7 +134,8 @@ goes_behind k d j i p = elim (cases_lt j (d - 1)) [
 pub found_changed : (f : FunctionTree) (g k : ℕ) (a b : Forest) → IsFoundAt f 2 (Some (g, k)) a b → Some (g, b) ≡ next_list f 1 a
 found_changed f g k a b (q, c, e, i) = ap (λ z. Some (g, z)) i ∙ sym (found_next f 1 k a g c q e)
 
-pub found_goes_on : (f h : FunctionTree) → Fewer (counts_of f) (counts_of h) → (g k : ℕ) (a b d : Forest) (gone : Option ℕ) (doubt from : ℕ) → IsFoundAt f 2 (Some (g, k)) a b
+pub found_goes_on : (f h : FunctionTree) → Fewer (counts_of f) (counts_of h) → (g k : ℕ) (a b d : Forest) (gone : Option ℕ) (doubt from : ℕ) →
+    IsFoundAt f 2 (Some (g, k)) a b
     → d ≡ removed_at gone b → GoesOn k gone doubt from → AreQuietBut h 2 doubt from d
 found_goes_on f h l g k a b d gone doubt from (q, c, e, i) r o =
     subst (AreQuietBut h 2 doubt from) (sym (r ∙ ap (removed_at gone) i)) (goes_on_at f h l 2 k a g c gone doubt from e q o)
@@ -143,13 +149,15 @@ set_or (x ∷ xs) zero (suc g) = inl refl
 set_or (x ∷ xs) (suc s) zero = inl refl
 set_or (x ∷ xs) (suc s) (suc g) = set_or xs s g
 
-pub fewer_counted : (f h : FunctionTree) (counts after : List ℕ) (s : ℕ) → after ≡ slice_set counts s 0 → Tells counts f → Tells after h → Fewer (counts_of f) (counts_of h)
+pub fewer_counted : (f h : FunctionTree) (counts after : List ℕ) (s : ℕ) → after ≡ slice_set counts s 0 → Tells counts f → Tells after h →
+    Fewer (counts_of f) (counts_of h)
 fewer_counted f h counts after s e t u g = by (set_or counts s g)
   where
     now : counts_of h g ≡ get_or (slice_set counts s 0) g 0
     now = sym (u g) ∙ ap (λ xs. get_or xs g 0) e
 
-    by : (get_or (slice_set counts s 0) g 0 ≡ get_or counts g 0) ⊎ (get_or (slice_set counts s 0) g 0 ≡ 0) → (counts_of h g ≡ counts_of f g) ⊎ (counts_of h g ≡ 0)
+    by : (get_or (slice_set counts s 0) g 0 ≡ get_or counts g 0) ⊎ (get_or (slice_set counts s 0) g 0 ≡ 0) →
+        (counts_of h g ≡ counts_of f g) ⊎ (counts_of h g ≡ 0)
     by (inl k) = inl (now ∙ k ∙ t g)
     by (inr k) = inr (now ∙ k)
 

@@ -21,7 +21,8 @@ mutual
   real_expression (Typed k n) =
       let m = real_node n in (
         roll-Expression (record { kind = k; node = m.0 }),
-        expression-parts (roll-Expression (record { kind = k; node = m.0 })) ∙ ap (λ o. Typed o.kind (node_tree o.node)) (out-roll-Expression (record { kind = k; node = m.0 })) ∙ ap (Typed k) m.1,
+        expression-parts (roll-Expression (record { kind = k; node = m.0 })) ∙
+            ap (λ o. Typed o.kind (node_tree o.node)) (out-roll-Expression (record { kind = k; node = m.0 })) ∙ ap (Typed k) m.1,
       )
 
   real_place : (p : PlaceTree) → (x : L.Place) × (place_tree x ≡ p)
@@ -82,7 +83,8 @@ mutual
   real_item : (x : Tree) → (y : I.Item) × (tree_of y ≡ x)
   real_item (Evaluate e) = let x = real_expression e in (I.Evaluate x.0, tree-Evaluate x.0 ∙ ap Evaluate x.1)
   real_item (Return e) = let x = real_option e in (I.Return x.0, tree-Return x.0 ∙ ap Return x.1)
-  real_item (If t a b) = let x = real_test t in let y = real_list a in let z = real_list b in (I.If x.0 y.0 z.0, tree-If x.0 y.0 z.0 ∙ three_same If x.1 y.1 z.1)
+  real_item (If t a b) = let x = real_test t in let y = real_list a in let z = real_list b in
+      (I.If x.0 y.0 z.0, tree-If x.0 y.0 z.0 ∙ three_same If x.1 y.1 z.1)
   real_item (While t a) = let x = real_test t in let y = real_list a in (I.While x.0 y.0, tree-While x.0 y.0 ∙ ap₂ While x.1 y.1)
   real_item (Do a t) = let y = real_list a in let x = real_test t in (I.Do y.0 x.0, tree-Do y.0 x.0 ∙ ap₂ Do y.1 x.1)
   real_item (For f t u a) =
@@ -109,7 +111,8 @@ mutual
       let z = real_sections c in (
         Real.roll-Section (record { cases = x.0; default = default; list = y.0; ends = ends }) ∷ z.0,
         section-first (Real.roll-Section (record { cases = x.0; default = default; list = y.0; ends = ends })) z.0
-            ∙ ap (λ o. Section (expression_trees o.cases) o.default (trees_of o.list) o.ends (sections_of z.0)) (Real.out-roll-Section (record { cases = x.0; default = default; list = y.0; ends = ends }))
+            ∙ ap (λ o. Section (expression_trees o.cases) o.default (trees_of o.list) o.ends (sections_of z.0))
+            (Real.out-roll-Section (record { cases = x.0; default = default; list = y.0; ends = ends }))
             ∙ three_same (λ e b d. Section e default b ends d) x.1 y.1 z.1,
       )
 

@@ -27,6 +27,7 @@ module _ (s : ℕ → ℕ) (same : (x y : ℕ) → eqb (s x) (s y) ≡ eqb x y) 
   undeclared_same g (Then x xs) =
       ap₂ (λ b z. cond b (renamed_list s xs) (Then (renamed_item s x) z)) (declaration_same g x) (undeclared_same g xs) ∙ by (is_declaration g x)
     where
-      by : (b : Bool) → cond b (renamed_list s xs) (Then (renamed_item s x) (renamed_list s (undeclared g xs))) ≡ renamed_list s (cond b xs (Then x (undeclared g xs)))
+      by : (b : Bool) → cond b (renamed_list s xs) (Then (renamed_item s x) (renamed_list s (undeclared g xs))) ≡ renamed_list s
+          (cond b xs (Then x (undeclared g xs)))
       by true = refl
       by false = refl

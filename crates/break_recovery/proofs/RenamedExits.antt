@@ -71,7 +71,8 @@ module _ (s : ℕ → ℕ) (same : (x y : ℕ) → eqb (s x) (s y) ≡ eqb x y) 
       ap₂ (λ b z. cond b z (If (Source (renamed s e)) (one z) Nil)) (number_same 1 e) (sym j)
       ∙ sym (item_cond (is_number 1 e) l (If (Source e) (one l) Nil))
 
-  set_or_same : (l : Tree) → renamed_item s l ≡ l → (e : ExpressionTree) (v : Option ExpressionTree) → set_or l (renamed s e) (option_map (renamed s) v) ≡ renamed_item s (set_or l e v)
+  set_or_same : (l : Tree) → renamed_item s l ≡ l → (e : ExpressionTree) (v : Option ExpressionTree) →
+      set_or l (renamed s e) (option_map (renamed s) v) ≡ renamed_item s (set_or l e v)
   set_or_same l j e None = refl
   set_or_same l j e (Some v) = leaving_same l j v
 
@@ -91,7 +92,8 @@ module _ (s : ℕ → ℕ) (same : (x y : ℕ) → eqb (s x) (s y) ≡ eqb x y) 
   given_same : (a : Forest) → given_way (renamed_list s a) ≡ renamed_list s (given_way a)
   given_same a = ap (λ b. cond b (one (Block (renamed_list s a))) (renamed_list s a)) (local_same a) ∙ list_cond (has_local a) (one (Block a)) a
 
-  unchecked_same : (c : Bool) (t : TestTree) (a b : Forest) → unchecked c (renamed_test s t) (renamed_list s a) (renamed_list s b) ≡ renamed_list s (unchecked c t a b)
+  unchecked_same : (c : Bool) (t : TestTree) (a b : Forest) → unchecked c (renamed_test s t) (renamed_list s a) (renamed_list s b) ≡ renamed_list s
+      (unchecked c t a b)
   unchecked_same true t a b = given_same a
   unchecked_same false t a b = refl
 
@@ -106,7 +108,8 @@ module _ (s : ℕ → ℕ) (same : (x y : ℕ) → eqb (s x) (s y) ≡ eqb x y) 
     inner_same g (Then x xs) = ap₂ join (inner_item_same g x) (inner_same g xs) ∙ join_same (inner_item g x) (inner g xs)
 
     inner_item_same : (g : ℕ) (x : Tree) → inner_item (s g) (renamed_item s x) ≡ renamed_list s (inner_item g x)
-    inner_item_same g (If t a b) = if_same g t a b (inner g a) (inner g b) (inner (s g) (renamed_list s a)) (inner (s g) (renamed_list s b)) (inner_same g a) (inner_same g b)
+    inner_item_same g (If t a b) = if_same g t a b (inner g a) (inner g b) (inner (s g) (renamed_list s a)) (inner (s g) (renamed_list s b))
+        (inner_same g a) (inner_same g b)
     inner_item_same g (While t a) = ap (λ z. one (While (renamed_test s t) z)) (inner_same g a)
     inner_item_same g (Do a t) = ap (λ z. one (Do z (renamed_test s t))) (inner_same g a)
     inner_item_same g (For f t u a) = ap (λ z. one (For (renamed_list s f) (renamed_option s t) (renamed_option s u) z)) (inner_same g a)
@@ -129,13 +132,15 @@ module _ (s : ℕ → ℕ) (same : (x y : ℕ) → eqb (s x) (s y) ≡ eqb x y) 
       tailed_same g (Then x xs) =
           ap₂ join
           (ap (λ b. cond b (tailed_item (s g) l (renamed_item s x)) (inner_item (s g) (renamed_item s x))) (end_same g xs)
-          ∙ chosen_same (is_end g xs) (tailed_item g l x) (inner_item g x) (tailed_item (s g) l (renamed_item s x)) (inner_item (s g) (renamed_item s x)) (tailed_item_same g x) (inner_item_same g x))
+          ∙ chosen_same (is_end g xs) (tailed_item g l x) (inner_item g x) (tailed_item (s g) l (renamed_item s x))
+          (inner_item (s g) (renamed_item s x)) (tailed_item_same g x) (inner_item_same g x))
           (tailed_same g xs)
           ∙ join_same (cond (is_end g xs) (tailed_item g l x) (inner_item g x)) (tailed g l xs)
 
       tailed_item_same : (g : ℕ) (x : Tree) → tailed_item (s g) l (renamed_item s x) ≡ renamed_list s (tailed_item g l x)
       tailed_item_same g (Evaluate e) = ap (λ v. one (set_or l (renamed s e) v)) (set_same g e) ∙ ap one (set_or_same l j e (set_value g e))
-      tailed_item_same g (If t a b) = if_same g t a b (tailed g l a) (tailed g l b) (tailed (s g) l (renamed_list s a)) (tailed (s g) l (renamed_list s b)) (tailed_same g a) (tailed_same g b)
+      tailed_item_same g (If t a b) = if_same g t a b (tailed g l a) (tailed g l b) (tailed (s g) l (renamed_list s a))
+          (tailed (s g) l (renamed_list s b)) (tailed_same g a) (tailed_same g b)
       tailed_item_same g x = inner_item_same g x
 
   mutual

@@ -27,11 +27,13 @@ moved_or : {A B : Type 0} (s : ℕ → ℕ) (F : A → B) (a b : Option (ℕ × 
 moved_or s F None b = refl
 moved_or s F (Some c) b = refl
 
-put_moved : {A B C D : Type 0} (s : ℕ → ℕ) (F : A → B) (G : C → D) (P : A → C) (Q : B → D) → ((a : A) → Q (F a) ≡ G (P a)) → (o : Option (ℕ × A)) → put Q (moved s F o) ≡ moved s G (put P o)
+put_moved : {A B C D : Type 0} (s : ℕ → ℕ) (F : A → B) (G : C → D) (P : A → C) (Q : B → D) → ((a : A) → Q (F a) ≡ G (P a)) → (o : Option (ℕ × A)) →
+    put Q (moved s F o) ≡ moved s G (put P o)
 put_moved s F G P Q h None = refl
 put_moved s F G P Q h (Some c) = ap (λ z. Some (s c.0, z)) (h c.1)
 
-of_moved : {A B : Type 0} (s : ℕ → ℕ) (F : A → B) (make : ℕ → A) (made : ℕ → B) → ((g : ℕ) → made (s g) ≡ F (make g)) → (o : Option ℕ) → of_slot made (option_map s o) ≡ moved s F (of_slot make o)
+of_moved : {A B : Type 0} (s : ℕ → ℕ) (F : A → B) (make : ℕ → A) (made : ℕ → B) → ((g : ℕ) → made (s g) ≡ F (make g)) → (o : Option ℕ) →
+    of_slot made (option_map s o) ≡ moved s F (of_slot make o)
 of_moved s F make made h None = refl
 of_moved s F make made h (Some g) = ap (λ z. Some (s g, z)) (h g)
 
@@ -123,10 +125,12 @@ module _ (s : ℕ → ℕ) (same : (x y : ℕ) → eqb (s x) (s y) ≡ eqb x y) 
         ∙ allowed_same (breaks c n (renamed_list s a) (renamed_list s xs)) (breaks d n a xs) (breaks_same n a xs) (stop_slot t)
     break_slot_same n _ xs = refl
 
-    last_allowed : (n : ℕ) (a : Forest) → allowed (continues c n (but_last (renamed_list s a))) (last_reset (renamed_list s a)) ≡ option_map s (allowed (continues d n (but_last a)) (last_reset a))
+    last_allowed : (n : ℕ) (a : Forest) → allowed (continues c n (but_last (renamed_list s a))) (last_reset (renamed_list s a)) ≡ option_map s
+        (allowed (continues d n (but_last a)) (last_reset a))
     last_allowed n a =
         ap (allowed (continues c n (but_last (renamed_list s a)))) (last_same a)
-        ∙ allowed_same (continues c n (but_last (renamed_list s a))) (continues d n (but_last a)) (continues_same n (but_last a) (but_last (renamed_list s a)) (but_last_same a)) (last_reset a)
+        ∙ allowed_same (continues c n (but_last (renamed_list s a))) (continues d n (but_last a))
+        (continues_same n (but_last a) (but_last (renamed_list s a)) (but_last_same a)) (last_reset a)
 
     continue_slot_same : (n : ℕ) (x : Tree) → continue_slot c n (renamed_item s x) ≡ option_map s (continue_slot d n x)
     continue_slot_same n (While t a) = last_allowed n a
@@ -149,19 +153,27 @@ module _ (s : ℕ → ℕ) (same : (x y : ℕ) → eqb (s x) (s y) ≡ eqb x y) 
   continued_same g _ = refl
 
   module _ (f h : FunctionTree) (k : (g : ℕ) → counts_of f (s g) ≡ counts_of h g) where
-    here_same : (n : ℕ) (x : Tree) (xs : Forest) → next_here f n (Then (renamed_item s x) (renamed_list s xs)) ≡ moved s (renamed_list s) (next_here h n (Then x xs))
+    here_same : (n : ℕ) (x : Tree) (xs : Forest) → next_here f n (Then (renamed_item s x) (renamed_list s xs)) ≡ moved s (renamed_list s)
+        (next_here h n (Then x xs))
     here_same n x xs =
-        ap₂ (λ a b. or_else (of_slot (λ g. Then (broken g (renamed_item s x)) (but_first (renamed_list s xs))) a) (of_slot (λ g. Then (continued g (renamed_item s x)) (renamed_list s xs)) b))
+        ap₂ (λ a b. or_else (of_slot (λ g. Then (broken g (renamed_item s x)) (but_first (renamed_list s xs))) a)
+        (of_slot (λ g. Then (continued g (renamed_item s x)) (renamed_list s xs)) b))
         (break_slot_same (counts_of f) (counts_of h) k n x xs) (continue_slot_same (counts_of f) (counts_of h) k n x)
         ∙ ap₂ or_else
-        (of_moved s (renamed_list s) (λ g. Then (broken g x) (but_first xs)) (λ g. Then (broken g (renamed_item s x)) (but_first (renamed_list s xs))) (λ g. ap₂ Then (broken_same g x) (but_first_same xs)) (break_slot (counts_of h) n x xs))
-        (of_moved s (renamed_list s) (λ g. Then (continued g x) xs) (λ g. Then (continued g (renamed_item s x)) (renamed_list s xs)) (λ g. ap (λ z. Then z (renamed_list s xs)) (continued_same g x)) (continue_slot (counts_of h) n x))
-        ∙ moved_or s (renamed_list s) (of_slot (λ g. Then (broken g x) (but_first xs)) (break_slot (counts_of h) n x xs)) (of_slot (λ g. Then (continued g x) xs) (continue_slot (counts_of h) n x))
+        (of_moved s (renamed_list s) (λ g. Then (broken g x) (but_first xs)) (λ g. Then (broken g (renamed_item s x)) (but_first (renamed_list s xs)))
+        (λ g. ap₂ Then (broken_same g x) (but_first_same xs)) (break_slot (counts_of h) n x xs))
+        (of_moved s (renamed_list s) (λ g. Then (continued g x) xs) (λ g. Then (continued g (renamed_item s x)) (renamed_list s xs))
+        (λ g. ap (λ z. Then z (renamed_list s xs)) (continued_same g x)) (continue_slot (counts_of h) n x))
+        ∙ moved_or s (renamed_list s) (of_slot (λ g. Then (broken g x) (but_first xs)) (break_slot (counts_of h) n x xs))
+        (of_slot (λ g. Then (continued g x) xs) (continue_slot (counts_of h) n x))
 
     -- one of two lists
-    either_same : {A B : Type 0} (n : ℕ) (a b : Forest) (F : A → B) (P Q : Forest → A) (R S : Forest → B) → ((c : Forest) → R (renamed_list s c) ≡ F (P c)) → ((c : Forest) → S (renamed_list s c) ≡ F (Q c))
-        → next_list f n (renamed_list s a) ≡ moved s (renamed_list s) (next_list h n a) → next_list f n (renamed_list s b) ≡ moved s (renamed_list s) (next_list h n b)
-        → or_else (put R (next_list f n (renamed_list s a))) (put S (next_list f n (renamed_list s b))) ≡ moved s F (or_else (put P (next_list h n a)) (put Q (next_list h n b)))
+    either_same : {A B : Type 0} (n : ℕ) (a b : Forest) (F : A → B) (P Q : Forest → A) (R S : Forest → B) →
+        ((c : Forest) → R (renamed_list s c) ≡ F (P c)) → ((c : Forest) → S (renamed_list s c) ≡ F (Q c))
+        → next_list f n (renamed_list s a) ≡ moved s (renamed_list s) (next_list h n a) →
+        next_list f n (renamed_list s b) ≡ moved s (renamed_list s) (next_list h n b)
+        → or_else (put R (next_list f n (renamed_list s a))) (put S (next_list f n (renamed_list s b))) ≡ moved s F
+        (or_else (put P (next_list h n a)) (put Q (next_list h n b)))
     either_same n a b F P Q R S u v i j =
         ap₂ (λ x y. or_else (put R x) (put S y)) i j
         ∙ ap₂ or_else (put_moved s (renamed_list s) F P R u (next_list h n a)) (put_moved s (renamed_list s) F Q S v (next_list h n b))
@@ -173,30 +185,38 @@ module _ (s : ℕ → ℕ) (same : (x y : ℕ) → eqb (s x) (s y) ≡ eqb x y) 
       next_same (Then x xs) n =
           more f n (renamed_item s x) (renamed_list s xs)
           ∙ ap₂ or_else
-          (ap₂ or_else (here_same (suc n) x xs) (ap (put (λ y. Then y (renamed_list s xs))) (next_item_same x (suc n)) ∙ put_moved s (renamed_item s) (renamed_list s) (λ y. Then y xs) (λ y. Then y (renamed_list s xs)) (λ c. refl) (next_item h (suc n) x))
+          (ap₂ or_else (here_same (suc n) x xs) (ap (put (λ y. Then y (renamed_list s xs))) (next_item_same x (suc n)) ∙
+          put_moved s (renamed_item s) (renamed_list s) (λ y. Then y xs) (λ y. Then y (renamed_list s xs)) (λ c. refl) (next_item h (suc n) x))
           ∙ moved_or s (renamed_list s) (next_here h (suc n) (Then x xs)) (put (λ y. Then y xs) (next_item h (suc n) x)))
-          (ap (put (Then (renamed_item s x))) (next_same xs n) ∙ put_moved s (renamed_list s) (renamed_list s) (Then x) (Then (renamed_item s x)) (λ c. refl) (next_list h n xs))
+          (ap (put (Then (renamed_item s x))) (next_same xs n) ∙ put_moved s (renamed_list s) (renamed_list s) (Then x) (Then (renamed_item s x))
+          (λ c. refl) (next_list h n xs))
           ∙ moved_or s (renamed_list s) (next_at h (suc n) (Then x xs)) (put (Then x) (next_list h n xs))
           ∙ sym (ap (moved s (renamed_list s)) (more h n x xs))
 
       next_item_same : (x : Tree) (n : ℕ) → next_item f n (renamed_item s x) ≡ moved s (renamed_item s) (next_item h n x)
       next_item_same (If t a b) n =
           in_if f n (renamed_test s t) (renamed_list s a) (renamed_list s b)
-          ∙ either_same n a b (renamed_item s) (λ c. If t c b) (If t a) (λ c. If (renamed_test s t) c (renamed_list s b)) (If (renamed_test s t) (renamed_list s a)) (λ c. refl) (λ c. refl) (next_same a n) (next_same b n)
+          ∙ either_same n a b (renamed_item s) (λ c. If t c b) (If t a) (λ c. If (renamed_test s t) c (renamed_list s b))
+          (If (renamed_test s t) (renamed_list s a)) (λ c. refl) (λ c. refl) (next_same a n) (next_same b n)
           ∙ sym (ap (moved s (renamed_item s)) (in_if h n t a b))
       next_item_same (While t a) n =
           in_while f n (renamed_test s t) (renamed_list s a) ∙ ap (put (While (renamed_test s t))) (next_same a n)
-          ∙ put_moved s (renamed_list s) (renamed_item s) (While t) (While (renamed_test s t)) (λ c. refl) (next_list h n a) ∙ sym (ap (moved s (renamed_item s)) (in_while h n t a))
+          ∙ put_moved s (renamed_list s) (renamed_item s) (While t) (While (renamed_test s t)) (λ c. refl) (next_list h n a) ∙
+          sym (ap (moved s (renamed_item s)) (in_while h n t a))
       next_item_same (Do a t) n =
           in_do f n (renamed_list s a) (renamed_test s t) ∙ ap (put (λ c. Do c (renamed_test s t))) (next_same a n)
-          ∙ put_moved s (renamed_list s) (renamed_item s) (λ c. Do c t) (λ c. Do c (renamed_test s t)) (λ c. refl) (next_list h n a) ∙ sym (ap (moved s (renamed_item s)) (in_do h n a t))
+          ∙ put_moved s (renamed_list s) (renamed_item s) (λ c. Do c t) (λ c. Do c (renamed_test s t)) (λ c. refl) (next_list h n a) ∙
+          sym (ap (moved s (renamed_item s)) (in_do h n a t))
       next_item_same (For b t u a) n =
           in_for f n (renamed_list s b) (renamed_option s t) (renamed_option s u) (renamed_list s a)
-          ∙ either_same n b a (renamed_item s) (λ c. For c t u a) (For b t u) (λ c. For c (renamed_option s t) (renamed_option s u) (renamed_list s a)) (For (renamed_list s b) (renamed_option s t) (renamed_option s u)) (λ c. refl) (λ c. refl) (next_same b n) (next_same a n)
+          ∙ either_same n b a (renamed_item s) (λ c. For c t u a) (For b t u)
+          (λ c. For c (renamed_option s t) (renamed_option s u) (renamed_list s a))
+          (For (renamed_list s b) (renamed_option s t) (renamed_option s u)) (λ c. refl) (λ c. refl) (next_same b n) (next_same a n)
           ∙ sym (ap (moved s (renamed_item s)) (in_for h n b t u a))
       next_item_same (Switch v c) n =
           in_switch f n (renamed_selector s v) (renamed_sections s c) ∙ ap (put (Switch (renamed_selector s v))) (next_sections_same c n)
-          ∙ put_moved s (renamed_sections s) (renamed_item s) (Switch v) (Switch (renamed_selector s v)) (λ c. refl) (next_sections h n c) ∙ sym (ap (moved s (renamed_item s)) (in_switch h n v c))
+          ∙ put_moved s (renamed_sections s) (renamed_item s) (Switch v) (Switch (renamed_selector s v)) (λ c. refl) (next_sections h n c) ∙
+          sym (ap (moved s (renamed_item s)) (in_switch h n v c))
       next_item_same (Block a) n =
           in_block f n (renamed_list s a) ∙ ap (put Block) (next_same a n)
           ∙ put_moved s (renamed_list s) (renamed_item s) Block Block (λ c. refl) (next_list h n a) ∙ sym (ap (moved s (renamed_item s)) (in_block h n a))
@@ -206,9 +226,13 @@ module _ (s : ℕ → ℕ) (same : (x y : ℕ) → eqb (s x) (s y) ≡ eqb x y) 
       next_sections_same NoSection n = refl
       next_sections_same (Section cases default a ends c) n =
           more_sections f n cases default (renamed_list s a) ends (renamed_sections s c)
-          ∙ ap₂ (λ x y. or_else (put (λ b. Section cases default b ends (renamed_sections s c)) x) (put (Section cases default (renamed_list s a) ends) y)) (next_same a n) (next_sections_same c n)
+          ∙ ap₂ (λ x y. or_else (put (λ b. Section cases default b ends (renamed_sections s c)) x)
+          (put (Section cases default (renamed_list s a) ends) y)) (next_same a n) (next_sections_same c n)
           ∙ ap₂ or_else
-          (put_moved s (renamed_list s) (renamed_sections s) (λ b. Section cases default b ends c) (λ b. Section cases default b ends (renamed_sections s c)) (λ b. refl) (next_list h n a))
-          (put_moved s (renamed_sections s) (renamed_sections s) (Section cases default a ends) (Section cases default (renamed_list s a) ends) (λ b. refl) (next_sections h n c))
-          ∙ moved_or s (renamed_sections s) (put (λ b. Section cases default b ends c) (next_list h n a)) (put (Section cases default a ends) (next_sections h n c))
+          (put_moved s (renamed_list s) (renamed_sections s) (λ b. Section cases default b ends c)
+          (λ b. Section cases default b ends (renamed_sections s c)) (λ b. refl) (next_list h n a))
+          (put_moved s (renamed_sections s) (renamed_sections s) (Section cases default a ends) (Section cases default (renamed_list s a) ends)
+          (λ b. refl) (next_sections h n c))
+          ∙ moved_or s (renamed_sections s) (put (λ b. Section cases default b ends c) (next_list h n a))
+          (put (Section cases default a ends) (next_sections h n c))
           ∙ sym (ap (moved s (renamed_sections s)) (more_sections h n cases default a ends c))

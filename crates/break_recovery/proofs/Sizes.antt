@@ -28,7 +28,8 @@ of_while x t a e = ap items_of (ap tree_of e ∙ tree-While t a)
 pub of_do : (x : Item) (t : Test) (a : List Item) → x ≡ Do a t → items_of (tree_of x) ≡ 1 + items (trees_of a)
 of_do x t a e = ap items_of (ap tree_of e ∙ tree-Do a t)
 
-pub of_for : (x : Item) (a : List Item) (t u : Option Expression) (b : List Item) → x ≡ For a t u b → items_of (tree_of x) ≡ 1 + items (trees_of a) + items (trees_of b)
+pub of_for : (x : Item) (a : List Item) (t u : Option Expression) (b : List Item) → x ≡ For a t u b →
+    items_of (tree_of x) ≡ 1 + items (trees_of a) + items (trees_of b)
 of_for x a t u b e = ap items_of (ap tree_of e ∙ tree-For a t u b)
 
 pub of_switch : (x : Item) (s : Selector) (c : List Section) → x ≡ Switch s c → items_of (tree_of x) ≡ 1 + items_in (sections_of c)

@@ -101,7 +101,8 @@ module _ (f h : FunctionTree) (l : Fewer (counts_of f) (counts_of h)) where
       let G = λ (g : ℕ). Then (continued g x) xs in
       let p = unslot F b (first_none (of_slot F b) (of_slot G c) e) in
       let q = unslot G c (second_none (of_slot F b) (of_slot G c) e) in
-      both_none (of_slot (λ g. Then (broken g x) (but_first ys)) (break_slot (counts_of h) n x ys)) (of_slot (λ g. Then (continued g x) ys) (continue_slot (counts_of h) n x))
+      both_none (of_slot (λ g. Then (broken g x) (but_first ys)) (break_slot (counts_of h) n x ys))
+      (of_slot (λ g. Then (continued g x) ys) (continue_slot (counts_of h) n x))
       (slot_none (λ g. Then (broken g x) (but_first ys)) (break_slot (counts_of h) n x ys) (break_still (counts_of f) (counts_of h) l n x xs ys r p))
       (slot_none (λ g. Then (continued g x) ys) (continue_slot (counts_of h) n x) (continue_still (counts_of f) (counts_of h) l n x q))
 
@@ -109,10 +110,12 @@ module _ (f h : FunctionTree) (l : Fewer (counts_of f) (counts_of h)) where
   either_still : {A : Type 0} (P Q : Forest → A) (a b : Option (ℕ × Forest)) (c d : Option (ℕ × Forest)) → (a ≡ None → c ≡ None) → (b ≡ None → d ≡ None)
       → or_else (put P a) (put Q b) ≡ None → or_else (put P c) (put Q d) ≡ None
   either_still P Q a b c d i j e =
-      both_none (put P c) (put Q d) (put_none P c (i (unput P a (first_none (put P a) (put Q b) e)))) (put_none Q d (j (unput Q b (second_none (put P a) (put Q b) e))))
+      both_none (put P c) (put Q d) (put_none P c (i (unput P a (first_none (put P a) (put Q b) e))))
+      (put_none Q d (j (unput Q b (second_none (put P a) (put Q b) e))))
 
   -- at an item, of which the one behind it resets the same
-  at_step : (x : Tree) (n : ℕ) (xs ys : Forest) → first_reset xs ≡ first_reset ys → (next_item f n x ≡ None → next_item h n x ≡ None) → next_at f n (Then x xs) ≡ None → next_at h n (Then x ys) ≡ None
+  at_step : (x : Tree) (n : ℕ) (xs ys : Forest) → first_reset xs ≡ first_reset ys → (next_item f n x ≡ None → next_item h n x ≡ None) →
+      next_at f n (Then x xs) ≡ None → next_at h n (Then x ys) ≡ None
   at_step x n xs ys r i e =
       let A = next_here f n (Then x xs) in
       let F = λ (y : Tree). Then y xs in
@@ -136,15 +139,19 @@ module _ (f h : FunctionTree) (l : Fewer (counts_of f) (counts_of h)) where
     pub item_still : (x : Tree) (n : ℕ) → next_item f n x ≡ None → next_item h n x ≡ None
     item_still (If t a b) n e =
         in_if h n t a b
-        ∙ either_still (λ c. If t c b) (If t a) (next_list f n a) (next_list f n b) (next_list h n a) (next_list h n b) (list_still a n) (list_still b n) (sym (in_if f n t a b) ∙ e)
-    item_still (While t a) n e = in_while h n t a ∙ put_none (While t) (next_list h n a) (list_still a n (unput (While t) (next_list f n a) (sym (in_while f n t a) ∙ e)))
+        ∙ either_still (λ c. If t c b) (If t a) (next_list f n a) (next_list f n b) (next_list h n a) (next_list h n b) (list_still a n)
+        (list_still b n) (sym (in_if f n t a b) ∙ e)
+    item_still (While t a) n e = in_while h n t a ∙ put_none (While t) (next_list h n a)
+        (list_still a n (unput (While t) (next_list f n a) (sym (in_while f n t a) ∙ e)))
     item_still (Do a t) n e =
         let F = λ (c : Forest). Do c t in
         in_do h n a t ∙ put_none F (next_list h n a) (list_still a n (unput F (next_list f n a) (sym (in_do f n a t) ∙ e)))
     item_still (For b t u a) n e =
         in_for h n b t u a
-        ∙ either_still (λ c. For c t u a) (For b t u) (next_list f n b) (next_list f n a) (next_list h n b) (next_list h n a) (list_still b n) (list_still a n) (sym (in_for f n b t u a) ∙ e)
-    item_still (Switch v c) n e = in_switch h n v c ∙ put_none (Switch v) (next_sections h n c) (sections_still c n (unput (Switch v) (next_sections f n c) (sym (in_switch f n v c) ∙ e)))
+        ∙ either_still (λ c. For c t u a) (For b t u) (next_list f n b) (next_list f n a) (next_list h n b) (next_list h n a) (list_still b n)
+        (list_still a n) (sym (in_for f n b t u a) ∙ e)
+    item_still (Switch v c) n e = in_switch h n v c ∙ put_none (Switch v) (next_sections h n c)
+        (sections_still c n (unput (Switch v) (next_sections f n c) (sym (in_switch f n v c) ∙ e)))
     item_still (Block a) n e = in_block h n a ∙ put_none Block (next_list h n a) (list_still a n (unput Block (next_list f n a) (sym (in_block f n a) ∙ e)))
     item_still x n e = refl
 

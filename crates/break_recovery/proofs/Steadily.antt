@@ -23,7 +23,8 @@ none_else _ = refl
 pub else_empty : (t : Test) (xs : List Item) → xs ≡ [] → has_else (test_at t) (trees_of xs) ≡ false
 else_empty t xs e = ap (has_else (test_at t)) (ap trees_of e ∙ trees-none) ∙ none_else (test_at t)
 
-pub else_there : (t : Test) (e : Expression) (xs : List Item) → t ≡ S.Source e → (xs ≡ [] → ⊥) → has_else (test_at t) (trees_of xs) ≡ is_some (off_slot (expression_at e))
+pub else_there : (t : Test) (e : Expression) (xs : List Item) → t ≡ S.Source e → (xs ≡ [] → ⊥) →
+    has_else (test_at t) (trees_of xs) ≡ is_some (off_slot (expression_at e))
 else_there t e [] h i = absurd (i refl)
 else_there t e (x ∷ xs) h i =
     ap (λ z. has_else (test_at z) (trees_of (x ∷ xs))) h ∙ ap (λ z. has_else z (trees_of (x ∷ xs))) (at_source e) ∙ ap (has_else (Source _)) (trees-first x xs)
@@ -35,4 +36,5 @@ steady_first g xs i x b h e l = ap (λ z. z && is_steady g (trees_of (drop (i + 
 
 pub section_first : (g : ℕ) (cs : List Section) (i : ℕ) (s : Section) (b : Bool) → i < length cs → s ≡ get_or cs i s → is_steady g (trees_of (list_of s)) ≡ b
     → (b && sections_are_steady g (sections_of (drop (i + 1) cs))) ≡ sections_are_steady g (sections_of (drop i cs))
-section_first g cs i s b h e l = ap (λ z. z && sections_are_steady g (sections_of (drop (i + 1) cs))) (sym l) ∙ sym (ap (sections_are_steady g) (sections-at cs i s h e))
+section_first g cs i s b h e l = ap (λ z. z && sections_are_steady g (sections_of (drop (i + 1) cs))) (sym l) ∙
+    sym (ap (sections_are_steady g) (sections-at cs i s h e))

@@ -67,7 +67,8 @@ module _ (g h : ℕ) (other : eqb g h ≡ false) where
   check_other (Source e) (Then x xs) i = cc
   check_other _ b i = cc
 
-  if_checks : (t : TestTree) (a b v w : Forest) (c : Bool) → checks g t b ≡ c → (b ≡ Nil → w ≡ Nil) → has_else t b ≡ false → checks_in h v ≡ checks_in h a → checks_in h w ≡ checks_in h b
+  if_checks : (t : TestTree) (a b v w : Forest) (c : Bool) → checks g t b ≡ c → (b ≡ Nil → w ≡ Nil) → has_else t b ≡ false →
+      checks_in h v ≡ checks_in h a → checks_in h w ≡ checks_in h b
       → checks_in h (unchecked c t v w) ≡ checks_of h (If t a b)
   if_checks t a b v w true i k n p q =
       let r = check_other t b i in
@@ -81,8 +82,10 @@ module _ (g h : ℕ) (other : eqb g h ≡ false) where
 
   if_steady : (t : TestTree) (a b : Forest) → item_is_steady g (If t a b) ≡ true → (has_else t b ≡ false) × ((is_steady g a ≡ true) × (is_steady g b ≡ true))
   if_steady t a b e =
-      let k = right_so (not (has_else t b)) (is_steady g a && is_steady g b) e in
-      (not_so (has_else t b) (left_so (not (has_else t b)) (is_steady g a && is_steady g b) e), (left_so (is_steady g a) (is_steady g b) k, right_so (is_steady g a) (is_steady g b) k))
+      let k = right_so (not (has_else t b)) (is_steady g a && is_steady g b) e in (
+        not_so (has_else t b) (left_so (not (has_else t b)) (is_steady g a && is_steady g b) e),
+        (left_so (is_steady g a) (is_steady g b) k, right_so (is_steady g a) (is_steady g b) k),
+      )
 
   inner_none : (b : Forest) → b ≡ Nil → inner g b ≡ Nil
   inner_none b e = ap (inner g) e
@@ -116,11 +119,13 @@ module _ (g h : ℕ) (other : eqb g h ≡ false) where
 
   -- ---- sets
 
-  leaving_checks : (l : Tree) (v : ExpressionTree) (b : Bool) → checks_of h l ≡ 0 → is_some (off_slot v) ≡ false → checks_of h (cond b l (If (Source v) (one l) Nil)) ≡ 0
+  leaving_checks : (l : Tree) (v : ExpressionTree) (b : Bool) → checks_of h l ≡ 0 → is_some (off_slot v) ≡ false →
+      checks_of h (cond b l (If (Source v) (one l) Nil)) ≡ 0
   leaving_checks l v true k i = k
   leaving_checks l v false k i = let m = ap one_if (not_off h v i) in omega (arith, m, k)
 
-  set_at : (l : Tree) → checks_of h l ≡ 0 → (e v : ExpressionTree) (a b : Bool) → not (a && is_some (off_slot v)) ≡ true → checks_in h (one (set_or l e (cond (a && b) (Some v) None))) ≡ 0
+  set_at : (l : Tree) → checks_of h l ≡ 0 → (e v : ExpressionTree) (a b : Bool) → not (a && is_some (off_slot v)) ≡ true →
+      checks_in h (one (set_or l e (cond (a && b) (Some v) None))) ≡ 0
   set_at l k e v true true i = let p = leaving_checks l v (is_number 1 v) k (not_so (is_some (off_slot v)) i) in omega (arith, p)
   set_at l k e v true false i = omega arith
   set_at l k e v false b i = omega arith

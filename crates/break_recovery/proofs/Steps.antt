@@ -52,12 +52,16 @@ module _ (f : FunctionTree) (n : ℕ) (cs : List Real.Section) where
   SectionsGo i = next_sections f n (sections_of cs) ≡ put (behind_sections (sections_of (take i cs))) (next_sections f n (sections_of (drop i cs)))
 
   pub sections_start : SectionsGo 0
-  sections_start = sym (put_all (behind_sections (sections_of (take 0 cs))) (λ x. ap (λ z. behind_sections z x) sections-none) (next_sections f n (sections_of cs)))
+  sections_start = sym (put_all (behind_sections (sections_of (take 0 cs))) (λ x. ap (λ z. behind_sections z x) sections-none)
+      (next_sections f n (sections_of cs)))
 
-  split : (x : Real.Section) (d : Sections) → next_sections f n (before x d) ≡ or_else (put (λ b. with_list b x d) (next_list f n (trees_of (list_of x)))) (put (before x) (next_sections f n d))
+  split : (x : Real.Section) (d : Sections) → next_sections f n (before x d) ≡ or_else
+      (put (λ b. with_list b x d) (next_list f n (trees_of (list_of x)))) (put (before x) (next_sections f n d))
   split x d = let o = Real.out-Section x in more_sections f n (expression_trees o.cases) o.default (trees_of o.list) o.ends d
 
-  pub section_found : (i : ℕ) (x : Real.Section) (r : Option (ℕ × Sections)) → i < length cs → x ≡ get_or cs i x → r ≡ put (behind_sections (sections_of (take i cs))) (put (λ b. with_list b x (sections_of (drop (i + 1) cs))) (next_list f n (trees_of (list_of x)))) → (r ≡ None → ⊥) → SectionsGo i → r ≡ next_sections f n (sections_of cs)
+  pub section_found : (i : ℕ) (x : Real.Section) (r : Option (ℕ × Sections)) → i < length cs → x ≡ get_or cs i x →
+      r ≡ put (behind_sections (sections_of (take i cs))) (put (λ b. with_list b x (sections_of (drop (i + 1) cs)))
+      (next_list f n (trees_of (list_of x)))) → (r ≡ None → ⊥) → SectionsGo i → r ≡ next_sections f n (sections_of cs)
   section_found i x r h e k o g =
       let F = behind_sections (sections_of (take i cs)) in
       let rest = sections_of (drop (i + 1) cs) in
@@ -78,7 +82,8 @@ quiet_go f n (suc k) (x ∷ xs) q =
     ap (next_sections f n) (section-first x xs) ∙ split f n xs x d
     ∙ ap (λ z. or_else (put (λ b. with_list b x d) z) (put (before x) (next_sections f n d))) p.0
     ∙ ap (put (before x)) (quiet_go f n k xs p.1)
-    ∙ put_put (before x) (behind_sections (sections_of (take k xs))) (behind_sections (sections_of (x ∷ take k xs))) (λ e. sym (ap (λ z. behind_sections z e) (section-first x (take k xs)))) (next_sections f n (sections_of (drop k xs)))
+    ∙ put_put (before x) (behind_sections (sections_of (take k xs))) (behind_sections (sections_of (x ∷ take k xs)))
+    (λ e. sym (ap (λ z. behind_sections z e) (section-first x (take k xs)))) (next_sections f n (sections_of (drop k xs)))
 
 -- ---- an entry within bounds
 
@@ -118,48 +123,60 @@ an_answer (Some g) h e = absurd (some_none g e)
 
 -- ---- one item exchanged
 
-pub set_trees : (xs : List Item) (i : ℕ) (y : Item) → i < length xs → trees_of (slice_set xs i y) ≡ join (trees_of (take i xs)) (Then (tree_at y) (trees_of (drop (i + 1) xs)))
+pub set_trees : (xs : List Item) (i : ℕ) (y : Item) → i < length xs → trees_of (slice_set xs i y) ≡ join (trees_of (take i xs))
+    (Then (tree_at y) (trees_of (drop (i + 1) xs)))
 set_trees [] i y h = absurd (omega (arith, h))
 set_trees (x ∷ xs) zero y h = trees-first y xs ∙ sym (ap (λ z. join z (Then (tree_at y) (trees_of xs))) trees-none)
 set_trees (x ∷ xs) (suc i) y h =
     let k : i < length xs = omega (arith, h) in
     let j : suc i + 1 ≡ suc (i + 1) = omega arith in
     trees-first x (slice_set xs i y) ∙ ap (Then (tree_at x)) (set_trees xs i y k)
-    ∙ sym (ap (λ m. join (trees_of (x ∷ take i xs)) (Then (tree_at y) (trees_of (drop m (x ∷ xs))))) j ∙ ap (λ z. join z (Then (tree_at y) (trees_of (drop (i + 1) xs)))) (trees-first x (take i xs)))
+    ∙ sym (ap (λ m. join (trees_of (x ∷ take i xs)) (Then (tree_at y) (trees_of (drop m (x ∷ xs))))) j ∙
+    ap (λ z. join z (Then (tree_at y) (trees_of (drop (i + 1) xs)))) (trees-first x (take i xs)))
 
 -- and the next one taken out
-pub set_remove : (xs : List Item) (i : ℕ) (y : Item) → i + 1 < length xs → trees_of (remove (slice_set xs i y) (i + 1)) ≡ join (trees_of (take i xs)) (Then (tree_at y) (but_first (trees_of (drop (i + 1) xs))))
+pub set_remove : (xs : List Item) (i : ℕ) (y : Item) → i + 1 < length xs →
+    trees_of (remove (slice_set xs i y) (i + 1)) ≡ join (trees_of (take i xs)) (Then (tree_at y) (but_first (trees_of (drop (i + 1) xs))))
 set_remove [] i y h = absurd (omega (arith, h))
 set_remove (x ∷ []) zero y h = absurd (omega (arith, h))
-set_remove (x ∷ z ∷ xs) zero y h = trees-first y xs ∙ sym (ap (λ w. join w (Then (tree_at y) (but_first (trees_of (z ∷ xs))))) trees-none ∙ ap (λ w. Then (tree_at y) (but_first w)) (trees-first z xs))
+set_remove (x ∷ z ∷ xs) zero y h = trees-first y xs ∙ sym (ap (λ w. join w (Then (tree_at y) (but_first (trees_of (z ∷ xs))))) trees-none ∙
+    ap (λ w. Then (tree_at y) (but_first w)) (trees-first z xs))
 set_remove (x ∷ xs) (suc i) y h =
     let k : i + 1 < length xs = omega (arith, h) in
     let j : suc i + 1 ≡ suc (i + 1) = omega arith in
     ap (λ m. trees_of (remove (x ∷ slice_set xs i y) m)) j
     ∙ trees-first x (remove (slice_set xs i y) (i + 1)) ∙ ap (Then (tree_at x)) (set_remove xs i y k)
-    ∙ sym (ap (λ m. join (trees_of (x ∷ take i xs)) (Then (tree_at y) (but_first (trees_of (drop m (x ∷ xs)))))) j ∙ ap (λ z. join z (Then (tree_at y) (but_first (trees_of (drop (i + 1) xs))))) (trees-first x (take i xs)))
+    ∙ sym (ap (λ m. join (trees_of (x ∷ take i xs)) (Then (tree_at y) (but_first (trees_of (drop m (x ∷ xs)))))) j ∙
+    ap (λ z. join z (Then (tree_at y) (but_first (trees_of (drop (i + 1) xs))))) (trees-first x (take i xs)))
 
 module _ (xs : List Item) (i : ℕ) (x : Item) (h : i < length xs) (e : x ≡ get_or xs i x) where
   -- a change by `break`
-  pub breaks_next : (g : ℕ) (y : Item) → tree_at y ≡ broken g (tree_at x) → i + 1 < length xs → trees_of (remove (slice_set xs i y) (i + 1)) ≡ join (trees_of (take i xs)) (broken_first g (trees_of (drop i xs)))
+  pub breaks_next : (g : ℕ) (y : Item) → tree_at y ≡ broken g (tree_at x) → i + 1 < length xs →
+      trees_of (remove (slice_set xs i y) (i + 1)) ≡ join (trees_of (take i xs)) (broken_first g (trees_of (drop i xs)))
   breaks_next g y k l =
       let rest = trees_of (drop (i + 1) xs) in
-      set_remove xs i y l ∙ ap (λ z. join (trees_of (take i xs)) (Then z (but_first rest))) k ∙ sym (ap (λ z. join (trees_of (take i xs)) (broken_first g z)) (trees-at xs i x h e))
+      set_remove xs i y l ∙ ap (λ z. join (trees_of (take i xs)) (Then z (but_first rest))) k ∙
+      sym (ap (λ z. join (trees_of (take i xs)) (broken_first g z)) (trees-at xs i x h e))
 
-  pub breaks_last : (g : ℕ) (y : Item) → tree_at y ≡ broken g (tree_at x) → length xs ≤ i + 1 → trees_of (slice_set xs i y) ≡ join (trees_of (take i xs)) (broken_first g (trees_of (drop i xs)))
+  pub breaks_last : (g : ℕ) (y : Item) → tree_at y ≡ broken g (tree_at x) → length xs ≤ i + 1 →
+      trees_of (slice_set xs i y) ≡ join (trees_of (take i xs)) (broken_first g (trees_of (drop i xs)))
   breaks_last g y k l =
       let rest = trees_of (drop (i + 1) xs) in
       let n = trees-end xs (i + 1) l in
-      set_trees xs i y h ∙ ap₂ (λ z w. join (trees_of (take i xs)) (Then z w)) k (n ∙ sym (ap but_first n)) ∙ sym (ap (λ z. join (trees_of (take i xs)) (broken_first g z)) (trees-at xs i x h e))
+      set_trees xs i y h ∙ ap₂ (λ z w. join (trees_of (take i xs)) (Then z w)) k (n ∙ sym (ap but_first n)) ∙
+      sym (ap (λ z. join (trees_of (take i xs)) (broken_first g z)) (trees-at xs i x h e))
 
   -- a change by `continue`
-  pub continues_at : (g : ℕ) (y : Item) → tree_at y ≡ continued g (tree_at x) → trees_of (slice_set xs i y) ≡ join (trees_of (take i xs)) (continued_first g (trees_of (drop i xs)))
+  pub continues_at : (g : ℕ) (y : Item) → tree_at y ≡ continued g (tree_at x) →
+      trees_of (slice_set xs i y) ≡ join (trees_of (take i xs)) (continued_first g (trees_of (drop i xs)))
   continues_at g y k =
       let rest = trees_of (drop (i + 1) xs) in
-      set_trees xs i y h ∙ ap (λ z. join (trees_of (take i xs)) (Then z rest)) k ∙ sym (ap (λ z. join (trees_of (take i xs)) (continued_first g z)) (trees-at xs i x h e))
+      set_trees xs i y h ∙ ap (λ z. join (trees_of (take i xs)) (Then z rest)) k ∙
+      sym (ap (λ z. join (trees_of (take i xs)) (continued_first g z)) (trees-at xs i x h e))
 
   -- a change in the item
-  pub item_changed : (f : FunctionTree) (n : ℕ) (y : Item) (s : Option ℕ) → next_here f n (trees_of (drop i xs)) ≡ None → changed_to s (tree_at y) ≡ next_item f n (tree_at x)
+  pub item_changed : (f : FunctionTree) (n : ℕ) (y : Item) (s : Option ℕ) → next_here f n (trees_of (drop i xs)) ≡ None →
+      changed_to s (tree_at y) ≡ next_item f n (tree_at x)
       → changed_to s (trees_of (slice_set xs i y)) ≡ put (join (trees_of (take i xs))) (next_at f n (trees_of (drop i xs)))
   item_changed f n y s o k =
       let rest = trees_of (drop (i + 1) xs) in
@@ -168,7 +185,8 @@ module _ (xs : List Item) (i : ℕ) (x : Item) (h : i < length xs) (e : x ≡ ge
       ∙ sym (put_changed (λ z. join (trees_of (take i xs)) (Then z rest)) s (tree_at y))
       ∙ ap (put (λ z. join (trees_of (take i xs)) (Then z rest))) k
       ∙ sym (put_put (join (trees_of (take i xs))) (λ z. Then z rest) (λ z. join (trees_of (take i xs)) (Then z rest)) (λ z. refl) (next_item f n (tree_at x)))
-      ∙ sym (ap (put (join (trees_of (take i xs)))) (ap (next_at f n) t ∙ ap (λ z. or_else z (put (λ y. Then y rest) (next_item f n (tree_at x)))) (ap (next_here f n) (sym t) ∙ o)))
+      ∙ sym (ap (put (join (trees_of (take i xs)))) (ap (next_at f n) t ∙
+      ap (λ z. or_else z (put (λ y. Then y rest) (next_item f n (tree_at x)))) (ap (next_here f n) (sym t) ∙ o)))
 
 -- ---- sections
 
@@ -176,20 +194,24 @@ before_with : (s t : Real.Section) (d : Sections) → t ≡ Paths.with_list (lis
 before_with s t d e =
     let o = Real.out-Section s in
     ap (λ c. before c d) e
-    ∙ ap (λ o. Section (expression_trees o.cases) o.default (trees_of o.list) o.ends d) (Real.out-roll-Section (record { cases = o.cases; default = o.default; list = list_of t; ends = o.ends }))
+    ∙ ap (λ o. Section (expression_trees o.cases) o.default (trees_of o.list) o.ends d)
+    (Real.out-roll-Section (record { cases = o.cases; default = o.default; list = list_of t; ends = o.ends }))
 
-set_sections : (cs : List Real.Section) (i : ℕ) (t : Real.Section) → i < length cs → sections_of (slice_set cs i t) ≡ behind_sections (sections_of (take i cs)) (before t (sections_of (drop (i + 1) cs)))
+set_sections : (cs : List Real.Section) (i : ℕ) (t : Real.Section) → i < length cs →
+    sections_of (slice_set cs i t) ≡ behind_sections (sections_of (take i cs)) (before t (sections_of (drop (i + 1) cs)))
 set_sections [] i t h = absurd (omega (arith, h))
 set_sections (c ∷ cs) zero t h = section-first t cs ∙ sym (ap (λ z. behind_sections z (before t (sections_of cs))) sections-none)
 set_sections (c ∷ cs) (suc i) t h =
     let k : i < length cs = omega (arith, h) in
     let j : suc i + 1 ≡ suc (i + 1) = omega arith in
     section-first c (slice_set cs i t) ∙ ap (before c) (set_sections cs i t k)
-    ∙ sym (ap (λ m. behind_sections (sections_of (c ∷ take i cs)) (before t (sections_of (drop m (c ∷ cs))))) j ∙ ap (λ z. behind_sections z (before t (sections_of (drop (i + 1) cs)))) (section-first c (take i cs)))
+    ∙ sym (ap (λ m. behind_sections (sections_of (c ∷ take i cs)) (before t (sections_of (drop m (c ∷ cs))))) j ∙
+    ap (λ z. behind_sections z (before t (sections_of (drop (i + 1) cs)))) (section-first c (take i cs)))
 
 pub section_changed : (f : FunctionTree) (n : ℕ) (cs : List Real.Section) (i : ℕ) (x t : Real.Section) (s : Option ℕ) → i < length cs
     → t ≡ Paths.with_list (list_of t) x → changed_to s (trees_of (list_of t)) ≡ next_list f n (trees_of (list_of x))
-    → changed_to s (sections_of (slice_set cs i t)) ≡ put (behind_sections (sections_of (take i cs))) (put (λ b. with_list b x (sections_of (drop (i + 1) cs))) (next_list f n (trees_of (list_of x))))
+    → changed_to s (sections_of (slice_set cs i t)) ≡ put (behind_sections (sections_of (take i cs)))
+    (put (λ b. with_list b x (sections_of (drop (i + 1) cs))) (next_list f n (trees_of (list_of x))))
 section_changed f n cs i x t s h w k =
     let F = behind_sections (sections_of (take i cs)) in
     let rest = sections_of (drop (i + 1) cs) in
@@ -206,7 +228,8 @@ entry_is (y ∷ ys) zero x e = cc
 entry_is (y ∷ ys) (suc i) x e = entry_is ys i x e
 
 pub here_found : (xs : List Item) (i : ℕ) (x : Item) (f : FunctionTree) (n : ℕ) (r : Option (ℕ × Forest)) → i < length xs → x ≡ get_or xs i x
-    → r ≡ put (join (trees_of (take i xs))) (next_here f n (trees_of (drop i xs))) → (r ≡ None → ⊥) → r ≡ put (join (trees_of (take i xs))) (next_at f n (trees_of (drop i xs)))
+    → r ≡ put (join (trees_of (take i xs))) (next_here f n (trees_of (drop i xs))) → (r ≡ None → ⊥) →
+    r ≡ put (join (trees_of (take i xs))) (next_at f n (trees_of (drop i xs)))
 here_found xs i x f n r h e k o =
     let F = join (trees_of (take i xs)) in
     let rest = trees_of (drop (i + 1) xs) in
@@ -214,7 +237,8 @@ here_found xs i x f n r h e k o =
     sym (ap (put F) (ap (next_at f n) t ∙ ap (λ z. or_else (next_here f n z) (put (λ y. Then y rest) (next_item f n (tree_at x)))) (sym t))
     ∙ something F r (next_here f n (trees_of (drop i xs))) (put (λ y. Then y rest) (next_item f n (tree_at x))) k o)
 
-pub no_here : (xs : List Item) (i : ℕ) (f : FunctionTree) (n : ℕ) (s : Option ℕ) (a : Forest) → changed_to s a ≡ put (join (trees_of (take i xs))) (next_here f n (trees_of (drop i xs))) → is_some s ≡ false → next_here f n (trees_of (drop i xs)) ≡ None
+pub no_here : (xs : List Item) (i : ℕ) (f : FunctionTree) (n : ℕ) (s : Option ℕ) (a : Forest) →
+    changed_to s a ≡ put (join (trees_of (take i xs))) (next_here f n (trees_of (drop i xs))) → is_some s ≡ false → next_here f n (trees_of (drop i xs)) ≡ None
 no_here xs i f n s a k h = nothing (join (trees_of (take i xs))) (changed_to s a) (next_here f n (trees_of (drop i xs))) k (no_slot s a h)
 
 -- ---- the forms of an item
@@ -228,7 +252,8 @@ either_in F (Some c) p a b = refl
 
 -- ---- two lists
 
-pub first_changed : (f : FunctionTree) (n : ℕ) (a b v : Forest) (s : Option ℕ) → changed_to s v ≡ next_list f n a → is_some s ≡ true → changed_to s (v, b) ≡ next_either f n a b
+pub first_changed : (f : FunctionTree) (n : ℕ) (a b v : Forest) (s : Option ℕ) → changed_to s v ≡ next_list f n a → is_some s ≡ true →
+    changed_to s (v, b) ≡ next_either f n a b
 first_changed f n a b v None k h = cc
 first_changed f n a b v (Some g) k h = ap (λ o. or_else (put (λ c. (c, b)) o) (put (λ c. (a, c)) (next_list f n b))) k
 
@@ -236,7 +261,8 @@ module _ (f : FunctionTree) (n : ℕ) (x : Item) (s : Option ℕ) where
   abbrev pub Changes : Item → Type 0
   Changes y = changed_to s (tree_at y) ≡ next_item f n (tree_at x)
 
-  pub if_changed : (t : Test) (a b v w : List Item) → x ≡ If t a b → changed_to s (trees_of v, trees_of w) ≡ next_either f n (trees_of a) (trees_of b) → Changes (If t v w)
+  pub if_changed : (t : Test) (a b v w : List Item) → x ≡ If t a b → changed_to s (trees_of v, trees_of w) ≡ next_either f n (trees_of a)
+      (trees_of b) → Changes (If t v w)
   if_changed t a b v w e k =
       ap (changed_to s) (at-If t v w)
       ∙ sym (put_changed (λ (c : Forest × Forest). P.If (test_tree t) c.0 c.1) s (trees_of v, trees_of w))
@@ -254,7 +280,8 @@ module _ (f : FunctionTree) (n : ℕ) (x : Item) (s : Option ℕ) where
       ap (changed_to s) (at-Do v t) ∙ sym (put_changed (λ c. P.Do c (test_tree t)) s (trees_of v)) ∙ ap (put (λ c. P.Do c (test_tree t))) k
       ∙ sym (ap (next_item f n) (ap tree_at e ∙ at-Do a t) ∙ in_do f n (trees_of a) (test_tree t))
 
-  pub for_changed : (t u : Option Expression) (a b v w : List Item) → x ≡ For a t u b → changed_to s (trees_of v, trees_of w) ≡ next_either f n (trees_of a) (trees_of b) → Changes (For v t u w)
+  pub for_changed : (t u : Option Expression) (a b v w : List Item) → x ≡ For a t u b →
+      changed_to s (trees_of v, trees_of w) ≡ next_either f n (trees_of a) (trees_of b) → Changes (For v t u w)
   for_changed t u a b v w e k =
       let c = option_map expression_tree t in
       let d = option_map expression_tree u in
@@ -264,7 +291,8 @@ module _ (f : FunctionTree) (n : ℕ) (x : Item) (s : Option ℕ) where
       ∙ either_in (λ y z. P.For y c d z) (next_list f n (trees_of a)) (next_list f n (trees_of b)) (trees_of a) (trees_of b)
       ∙ sym (ap (next_item f n) (ap tree_at e ∙ at-For a t u b) ∙ in_for f n (trees_of a) c d (trees_of b))
 
-  pub switch_changed : (t : Selector) (a v : List Real.Section) → x ≡ Switch t a → changed_to s (sections_of v) ≡ next_sections f n (sections_of a) → Changes (Switch t v)
+  pub switch_changed : (t : Selector) (a v : List Real.Section) → x ≡ Switch t a → changed_to s (sections_of v) ≡ next_sections f n (sections_of a) →
+      Changes (Switch t v)
   switch_changed t a v e k =
       ap (changed_to s) (at-Switch t v) ∙ sym (put_changed (P.Switch (selector_tree t)) s (sections_of v)) ∙ ap (put (P.Switch (selector_tree t))) k
       ∙ sym (ap (next_item f n) (ap tree_at e ∙ at-Switch t a) ∙ in_switch f n (selector_tree t) (sections_of a))

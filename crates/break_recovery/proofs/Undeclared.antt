@@ -26,7 +26,8 @@ pub record Passed (g i : ℕ) (old now : List Item) : Type 0 where
 pub none_passed : (g : ℕ) (xs : List Item) → Passed g 0 xs xs
 none_passed g xs = record { same = refl; rest = sym (ap (λ z. join z (undeclared g (trees_of xs))) trees-none) }
 
-pub one_passed : (g i : ℕ) (old xs : List Item) (x : Item) → i < length xs → x ≡ get_or xs i x → is_declaration g (tree_at x) ≡ false → Passed g i old xs → Passed g (i + 1) old xs
+pub one_passed : (g i : ℕ) (old xs : List Item) (x : Item) → i < length xs → x ≡ get_or xs i x → is_declaration g (tree_at x) ≡ false →
+    Passed g i old xs → Passed g (i + 1) old xs
 one_passed g i old xs x h e n p =
     let rest = trees_of (drop (i + 1) xs) in
     record {
@@ -34,7 +35,8 @@ one_passed g i old xs x h e n p =
       rest =
           p.rest ∙ ap (λ z. join (trees_of (take i xs)) (undeclared g z)) (trees-at xs i x h e)
           ∙ ap (λ b. join (trees_of (take i xs)) (cond b rest (Then (tree_at x) (undeclared g rest)))) n
-          ∙ sym (ap (λ z. join z (undeclared g rest)) (ap trees_of (take_more xs i x h ∙ ap (λ z. take i xs ++ z ∷ []) (sym e)) ∙ trees-push (take i xs) x) ∙ join_join (trees_of (take i xs)) (one (tree_at x)) (undeclared g rest));
+          ∙ sym (ap (λ z. join z (undeclared g rest)) (ap trees_of (take_more xs i x h ∙ ap (λ z. take i xs ++ z ∷ []) (sym e)) ∙
+          trees-push (take i xs) x) ∙ join_join (trees_of (take i xs)) (one (tree_at x)) (undeclared g rest));
     }
 
 removed : (xs : List Item) (i : ℕ) → i < length xs → trees_of (remove xs i) ≡ join (trees_of (take i xs)) (trees_of (drop (i + 1) xs))
@@ -46,7 +48,8 @@ removed (x ∷ xs) (suc i) h =
     trees-first x (remove xs i) ∙ ap (Then (tree_at x)) (removed xs i k)
     ∙ sym (ap (λ m. join (trees_of (x ∷ take i xs)) (trees_of (drop m (x ∷ xs)))) j ∙ ap (λ z. join z (trees_of (drop (i + 1) xs))) (trees-first x (take i xs)))
 
-pub declaration_gone : (g i : ℕ) (old xs new : List Item) (x : Item) → i < length xs → x ≡ get_or xs i x → is_declaration g (tree_at x) ≡ true → new ≡ remove xs i → Passed g i old xs → trees_of new ≡ undeclared g (trees_of old)
+pub declaration_gone : (g i : ℕ) (old xs new : List Item) (x : Item) → i < length xs → x ≡ get_or xs i x → is_declaration g (tree_at x) ≡ true →
+    new ≡ remove xs i → Passed g i old xs → trees_of new ≡ undeclared g (trees_of old)
 declaration_gone g i old xs new x h e d r p =
     let rest = trees_of (drop (i + 1) xs) in
     ap trees_of r ∙ removed xs i h
@@ -71,7 +74,8 @@ first_none (d ∷ ds) e = absurd (some_none d (sym e))
 next_is : (f : FunctionTree) (a : Forest) → f.body ≡ Some a → next_list f 1 a ≡ first (changes_of f)
 next_is f a h = search_laws_hold.whole f a h ∙ sym (ap (λ b. first (option_map_or (changes f) b [])) h)
 
-pub body_changed : (f : FunctionTree) (g : ℕ) (a b d : Forest) → f.body ≡ Some a → Some (g, b) ≡ next_list f 1 a → d ≡ undeclared g b → IsBodyChanged f (Some g) (Some d)
+pub body_changed : (f : FunctionTree) (g : ℕ) (a b d : Forest) → f.body ≡ Some a → Some (g, b) ≡ next_list f 1 a → d ≡ undeclared g b →
+    IsBodyChanged f (Some g) (Some d)
 body_changed f g a b d e h k = let l = first_some (changes_of f) (g, b) (h ∙ next_is f a e) in (b, l.0, l.1, ap Some k)
 
 pub body_settled : (f : FunctionTree) (a : Forest) → f.body ≡ Some a → None ≡ next_list f 1 a → changes_of f ≡ []

@@ -32,7 +32,8 @@ module _ (gone : List Bool) (f h : FunctionTree) (k : Stands gone f h) where
   items_same : items_of f ≡ renamed_list (old_number gone) (items_of h)
   items_same = ap (λ b. option_map_or (λ a. a) b Nil) k.body ∙ by h.body
     where
-      by : (b : Option Forest) → option_map_or (λ a. a) (option_map (renamed_list (old_number gone)) b) Nil ≡ renamed_list (old_number gone) (option_map_or (λ a. a) b Nil)
+      by : (b : Option Forest) → option_map_or (λ a. a) (option_map (renamed_list (old_number gone)) b) Nil ≡ renamed_list (old_number gone)
+          (option_map_or (λ a. a) b Nil)
       by None = refl
       by (Some a) = refl
 
@@ -55,7 +56,8 @@ module _ (gone : List Bool) (f h : FunctionTree) (k : Stands gone f h) where
   pub first_same : first (changes_of f) ≡ moved (old_number gone) (renamed_list (old_number gone)) (first (changes_of h))
   first_same = ap (λ b. first (option_map_or (changes f) b [])) k.body ∙ by h.body refl
     where
-      by : (b : Option Forest) → h.body ≡ b → first (option_map_or (changes f) (option_map (renamed_list (old_number gone)) b) []) ≡ moved (old_number gone) (renamed_list (old_number gone)) (first (changes_of h))
+      by : (b : Option Forest) → h.body ≡ b → first (option_map_or (changes f) (option_map (renamed_list (old_number gone)) b) []) ≡ moved
+          (old_number gone) (renamed_list (old_number gone)) (first (changes_of h))
       by None e = sym (ap (λ b. moved (old_number gone) (renamed_list (old_number gone)) (first (option_map_or (changes h) b []))) e)
       by (Some a) e =
           let s = old_number gone in
@@ -115,7 +117,8 @@ none_past [] g = refl
 none_past (x ∷ xs) zero = refl
 none_past (x ∷ xs) (suc g) = none_past xs g
 
-told_after : (counts : List ℕ) (f : FunctionTree) (c : ℕ × Forest) (later : List (ℕ × Forest)) → changes_of f ≡ c ∷ later → Tells counts f → Tells (slice_set counts c.0 0) (record f { body = Some (undeclared c.0 c.1) })
+told_after : (counts : List ℕ) (f : FunctionTree) (c : ℕ × Forest) (later : List (ℕ × Forest)) → changes_of f ≡ c ∷ later → Tells counts f →
+    Tells (slice_set counts c.0 0) (record f { body = Some (undeclared c.0 c.1) })
 told_after counts f c later e t g = at (eqb c.0 g) refl
   where
     k : Known f c
@@ -124,9 +127,11 @@ told_after counts f c later e t g = at (eqb c.0 g) refl
     at : (b : Bool) → eqb c.0 g ≡ b → count_in (slice_set counts c.0 0) g ≡ counts_of (record f { body = Some (undeclared c.0 c.1) }) g
     at true i =
         let q : c.0 ≡ g = eqb-true c.0 g i in
-        let n : list_count c.0 (undeclared c.0 c.1) ≡ 0 = eqb-true (list_count c.0 (undeclared c.0 c.1)) 0 (sym (count_laws_hold.none c.0 (undeclared c.0 c.1)) ∙ lacked f c k.1) in
+        let n : list_count c.0 (undeclared c.0 c.1) ≡ 0 = eqb-true (list_count c.0 (undeclared c.0 c.1)) 0
+        (sym (count_laws_hold.none c.0 (undeclared c.0 c.1)) ∙ lacked f c k.1) in
         ap (count_in (slice_set counts c.0 0)) (sym q) ∙ none_past counts c.0
-        ∙ sym (ap (counts_of (record f { body = Some (undeclared c.0 c.1) })) (sym q) ∙ cond_same (may_go (record f { body = Some (undeclared c.0 c.1) }) c.0) (list_count c.0 (undeclared c.0 c.1)) n)
+        ∙ sym (ap (counts_of (record f { body = Some (undeclared c.0 c.1) })) (sym q) ∙
+        cond_same (may_go (record f { body = Some (undeclared c.0 c.1) }) c.0) (list_count c.0 (undeclared c.0 c.1)) n)
     at false i =
         let q : c.0 ≢ g = eqb-false c.0 g i in
         get_or-set_other counts c.0 g 0 0 (λ w. q (sym w)) ∙ t g
@@ -165,16 +170,20 @@ starts f gone counts e t = subst (λ gone. Underway 0 f gone counts f) (sym e) (
 
 -- ---- one change
 
-times_more : (n : ℕ) (f h : FunctionTree) (c : ℕ × Forest) (later : List (ℕ × Forest)) → TreeChangedTimes n f h → changes_of h ≡ c ∷ later → TreeChangedTimes (suc n) f (changed h c)
+times_more : (n : ℕ) (f h : FunctionTree) (c : ℕ × Forest) (later : List (ℕ × Forest)) → TreeChangedTimes n f h → changes_of h ≡ c ∷ later →
+    TreeChangedTimes (suc n) f (changed h c)
 times_more zero f h c later e i = (c, later, ap changes_of (sym e) ∙ i, ap (λ z. changed z c) e)
 times_more (suc n) f h c later (d, l, first, rest) i = (d, l, first, times_more n (changed f d) h c later rest i)
 
-some_first : {A B : Type 0} (s : ℕ → ℕ) (F : A → B) (cs : List (ℕ × A)) (d : ℕ × B) → Some d ≡ moved s F (first cs) → (c : ℕ × A) × (later : List (ℕ × A)) × (cs ≡ c ∷ later) × (d.0 ≡ s c.0) × (d.1 ≡ F c.1)
+some_first : {A B : Type 0} (s : ℕ → ℕ) (F : A → B) (cs : List (ℕ × A)) (d : ℕ × B) → Some d ≡ moved s F (first cs) →
+    (c : ℕ × A) × (later : List (ℕ × A)) × (cs ≡ c ∷ later) × (d.0 ≡ s c.0) × (d.1 ≡ F c.1)
 some_first {A} {B} s F [] d e = cc
 some_first {A} {B} s F (c ∷ cs) d e = (c, cs, refl, ap (λ o. option_map_or (λ (z : ℕ × B). z.0) o d.0) e, ap (λ o. option_map_or (λ (z : ℕ × B). z.1) o d.1) e)
 
-pub goes_on : (n : ℕ) (start : FunctionTree) (gone : List Bool) (counts : List ℕ) (f : FunctionTree) (c : ℕ × Forest) (later : List (ℕ × Forest)) → changes_of f ≡ c ∷ later → Underway n start gone counts f
-    → Underway (suc n) start (slice_set gone c.0 true) (slice_set counts c.0 0) (record f { body = Some (undeclared c.0 c.1) }) × (suc (length (left (slice_set gone c.0 true) f.slots)) ≡ length (left gone f.slots))
+pub goes_on : (n : ℕ) (start : FunctionTree) (gone : List Bool) (counts : List ℕ) (f : FunctionTree) (c : ℕ × Forest) (later : List (ℕ × Forest)) →
+    changes_of f ≡ c ∷ later → Underway n start gone counts f
+    → Underway (suc n) start (slice_set gone c.0 true) (slice_set counts c.0 0) (record f { body = Some (undeclared c.0 c.1) }) ×
+    (suc (length (left (slice_set gone c.0 true) f.slots)) ≡ length (left gone f.slots))
 goes_on n start gone counts f c later e u =
     let s = old_number gone in
     let h : FunctionTree = u.now in
@@ -211,7 +220,8 @@ goes_on n start gone counts f c later e u =
 
 -- ---- the end
 
-pub settles : (n : ℕ) (start : FunctionTree) (gone : List Bool) (counts : List ℕ) (f : FunctionTree) → changes_of f ≡ [] → (u : Underway n start gone counts f) → changes_of u.now ≡ []
+pub settles : (n : ℕ) (start : FunctionTree) (gone : List Bool) (counts : List ℕ) (f : FunctionTree) → changes_of f ≡ [] →
+    (u : Underway n start gone counts f) → changes_of u.now ≡ []
 settles n start gone counts f e u = none (changes_of u.now) (sym (ap first e) ∙ first_same gone f u.now u.stands)
   where
     none : (cs : List (ℕ × Forest)) → None ≡ moved (old_number gone) (renamed_list (old_number gone)) (first cs) → cs ≡ []
@@ -221,7 +231,8 @@ settles n start gone counts f e u = none (changes_of u.now) (sym (ap first e) �
         no : None ≡ moved (old_number gone) (renamed_list (old_number gone)) (first (c ∷ cs)) → ⊥
         no e = cc
 
-pub numbered : (gone : List Bool) (f h k : FunctionTree) (r : ℕ → ℕ) → ((x : ℕ) → r x ≡ x - gone_before gone x) → Stands gone f h → k.result ≡ f.result → k.params ≡ f.params → k.slots ≡ left gone f.slots
+pub numbered : (gone : List Bool) (f h k : FunctionTree) (r : ℕ → ℕ) → ((x : ℕ) → r x ≡ x - gone_before gone x) → Stands gone f h →
+    k.result ≡ f.result → k.params ≡ f.params → k.slots ≡ left gone f.slots
     → k.body ≡ option_map (renamed_list r) f.body → k ≡ h
 numbered gone f h k r e s a b c d = same a b c (d ∙ ap (option_map (renamed_list r)) s.body ∙ by h.body)
   where

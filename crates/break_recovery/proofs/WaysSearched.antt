@@ -52,62 +52,77 @@ if_way sure f n (zero ∷ k ∷ w) t a b q = q
 if_way sure f n (suc j ∷ []) t a b q = q
 if_way sure f n (suc j ∷ k ∷ w) t a b q = q
 
-pub in_for_way : (sure : Bool) (f : FunctionTree) (n : ℕ) (w : List ℕ) (a : Forest) (t u : Option ExpressionTree) (b : Forest) → IsWayIn sure f n w (For a t u b) → IsWayOf sure f n w a b
+pub in_for_way : (sure : Bool) (f : FunctionTree) (n : ℕ) (w : List ℕ) (a : Forest) (t u : Option ExpressionTree) (b : Forest) →
+    IsWayIn sure f n w (For a t u b) → IsWayOf sure f n w a b
 in_for_way sure f n [] a t u b q = tt
 in_for_way sure f n (zero ∷ []) a t u b q = tt
 in_for_way sure f n (zero ∷ k ∷ w) a t u b q = q
 in_for_way sure f n (suc j ∷ []) a t u b q = q
 in_for_way sure f n (suc j ∷ k ∷ w) a t u b q = q
 
-pub for_way : (sure : Bool) (f : FunctionTree) (n : ℕ) (w : List ℕ) (a : Forest) (t u : Option ExpressionTree) (b : Forest) → IsWayOf sure f n w a b → IsWayIn sure f n w (For a t u b)
+pub for_way : (sure : Bool) (f : FunctionTree) (n : ℕ) (w : List ℕ) (a : Forest) (t u : Option ExpressionTree) (b : Forest) → IsWayOf sure f n w a b →
+    IsWayIn sure f n w (For a t u b)
 for_way sure f n [] a t u b q = tt
 for_way sure f n (zero ∷ []) a t u b q = tt
 for_way sure f n (zero ∷ k ∷ w) a t u b q = q
 for_way sure f n (suc j ∷ []) a t u b q = q
 for_way sure f n (suc j ∷ k ∷ w) a t u b q = q
 
-pub in_switch_way : (sure : Bool) (f : FunctionTree) (n : ℕ) (w : List ℕ) (s : SelectorTree) (c : Sections) → IsWayIn sure f n w (Switch s c) → IsWayThrough sure f n w c
+pub in_switch_way : (sure : Bool) (f : FunctionTree) (n : ℕ) (w : List ℕ) (s : SelectorTree) (c : Sections) → IsWayIn sure f n w (Switch s c) →
+    IsWayThrough sure f n w c
 in_switch_way sure f n [] s c q = tt
 in_switch_way sure f n (j ∷ []) s c q = q
 in_switch_way sure f n (j ∷ k ∷ w) s c q = q
 
-pub switch_way : (sure : Bool) (f : FunctionTree) (n : ℕ) (w : List ℕ) (s : SelectorTree) (c : Sections) → IsWayThrough sure f n w c → IsWayIn sure f n w (Switch s c)
+pub switch_way : (sure : Bool) (f : FunctionTree) (n : ℕ) (w : List ℕ) (s : SelectorTree) (c : Sections) → IsWayThrough sure f n w c →
+    IsWayIn sure f n w (Switch s c)
 switch_way sure f n [] s c q = tt
 switch_way sure f n (j ∷ []) s c q = q
 switch_way sure f n (j ∷ k ∷ w) s c q = q
 
 -- the places before that of a change stay quiet
-pub still_quiet : (f h : FunctionTree) → Fewer (counts_of f) (counts_of h) → (n k : ℕ) (a : Forest) (g : ℕ) (c : Forest) → next_at f n (behind k a) ≡ Some (g, c) → AreQuiet f n k a → AreQuiet h n k (replaced k c a)
+pub still_quiet : (f h : FunctionTree) → Fewer (counts_of f) (counts_of h) → (n k : ℕ) (a : Forest) (g : ℕ) (c : Forest) →
+    next_at f n (behind k a) ≡ Some (g, c) → AreQuiet f n k a → AreQuiet h n k (replaced k c a)
 still_quiet f h l n k a g c e q j i = quiet_replaced f h l n j k a g c e i (q j i)
 
 -- a step of a way
-pub step_in_list : (sure : Bool) (f : FunctionTree) (n k : ℕ) (v w : List ℕ) (a : Forest) → IsStep v k w → IsWay sure f n v a → AreQuiet f (suc n) k a × IsWayAt sure f (suc n) w (behind k a)
+pub step_in_list : (sure : Bool) (f : FunctionTree) (n k : ℕ) (v w : List ℕ) (a : Forest) → IsStep v k w → IsWay sure f n v a →
+    AreQuiet f (suc n) k a × IsWayAt sure f (suc n) w (behind k a)
 step_in_list sure f n k v w a (inl e) q = subst (λ v. IsWay sure f n v a) e q
 step_in_list sure f n k v w a (inr (e, (z, r))) q = (λ j i. absurd (omega (arith, z, i)), subst (λ w. IsWayAt sure f (suc n) w (behind k a)) (sym r) (tt, tt))
 
-pub step_in_first : (sure : Bool) (f : FunctionTree) (n k : ℕ) (v w : List ℕ) (a b : Forest) → k ≡ 0 → IsStep v k w → IsWayOf sure f n v a b → IsWay sure f n w a
+pub step_in_first : (sure : Bool) (f : FunctionTree) (n k : ℕ) (v w : List ℕ) (a b : Forest) → k ≡ 0 → IsStep v k w → IsWayOf sure f n v a b →
+    IsWay sure f n w a
 step_in_first sure f n k v w a b z (inl e) q = subst (λ v. IsWayOf sure f n v a b) (e ∙ ap (λ k. k ∷ w) z) q
 step_in_first sure f n k v w a b z (inr (e, (y, r))) q = subst (λ w. IsWay sure f n w a) (sym r) tt
 
-pub step_in_second : (sure : Bool) (f : FunctionTree) (n k : ℕ) (v w : List ℕ) (a b : Forest) → 0 < k → IsStep v k w → IsWayOf sure f n v a b → (next_list f n a ≡ None) × IsWay sure f n w b
+pub step_in_second : (sure : Bool) (f : FunctionTree) (n k : ℕ) (v w : List ℕ) (a b : Forest) → 0 < k → IsStep v k w → IsWayOf sure f n v a b →
+    (next_list f n a ≡ None) × IsWay sure f n w b
 step_in_second sure f n zero v w a b z s q = absurd (omega (arith, z))
 step_in_second sure f n (suc k) v w a b z (inl e) q = subst (λ v. IsWayOf sure f n v a b) e q
 step_in_second sure f n (suc k) v w a b z (inr (e, (y, r))) q = absurd (omega (arith, y))
 
-pub step_in_sections : (sure : Bool) (f : FunctionTree) (n k : ℕ) (v w : List ℕ) (c : Sections) → IsStep v k w → IsWayThrough sure f n v c → AreQuietSections f n k c × IsWay sure f n w (list_there k c)
+pub step_in_sections : (sure : Bool) (f : FunctionTree) (n k : ℕ) (v w : List ℕ) (c : Sections) → IsStep v k w → IsWayThrough sure f n v c →
+    AreQuietSections f n k c × IsWay sure f n w (list_there k c)
 step_in_sections sure f n k v w c (inl e) q = subst (λ v. IsWayThrough sure f n v c) e q
-step_in_sections sure f n k v w c (inr (e, (z, r))) q = (subst (λ k. AreQuietSections f n k c) (sym z) tt, subst (λ w. IsWay sure f n w (list_there k c)) (sym r) tt)
+step_in_sections sure f n k v w c (inr (e, (z, r))) q = (
+  subst (λ k. AreQuietSections f n k c) (sym z) tt,
+  subst (λ w. IsWay sure f n w (list_there k c)) (sym r) tt,
+)
 
-pub quiet_sections_still : (f h : FunctionTree) → Fewer (counts_of f) (counts_of h) → (n k : ℕ) (c : Sections) → AreQuietSections f n k c → AreQuietSections h n k c
+pub quiet_sections_still : (f h : FunctionTree) → Fewer (counts_of f) (counts_of h) → (n k : ℕ) (c : Sections) → AreQuietSections f n k c →
+    AreQuietSections h n k c
 quiet_sections_still f h l n zero c q = tt
 quiet_sections_still f h l n (suc k) NoSection q = tt
 quiet_sections_still f h l n (suc k) (Section cases default a ends c) (e, q) = (list_still f h l a n e, quiet_sections_still f h l n k c q)
 
 -- a change at a place, or in it, makes a way
-pub found_way : (sure : Bool) (f h : FunctionTree) → Fewer (counts_of f) (counts_of h) → (n g k : ℕ) (a b : Forest) (w : List ℕ) → IsFoundAt f (suc n) (Some (g, k)) a b → IsWayAt sure h (suc n) w (behind k b) → IsWay sure h n (k ∷ w) b
+pub found_way : (sure : Bool) (f h : FunctionTree) → Fewer (counts_of f) (counts_of h) → (n g k : ℕ) (a b : Forest) (w : List ℕ) →
+    IsFoundAt f (suc n) (Some (g, k)) a b → IsWayAt sure h (suc n) w (behind k b) → IsWay sure h n (k ∷ w) b
 found_way sure f h l n g k a b w (q, c, e, i) p = (subst (AreQuiet h (suc n) k) (sym i) (still_quiet f h l (suc n) k a g c e q), p)
 
-pub second_way : (sure : Bool) (f h : FunctionTree) → Fewer (counts_of f) (counts_of h) → (n : ℕ) (a b : Forest) (w : List ℕ) → next_list f n a ≡ None → IsWay sure h n w b → IsWayOf sure h n (1 ∷ w) a b
+pub second_way : (sure : Bool) (f h : FunctionTree) → Fewer (counts_of f) (counts_of h) → (n : ℕ) (a b : Forest) (w : List ℕ) →
+    next_list f n a ≡ None → IsWay sure h n w b → IsWayOf sure h n (1 ∷ w) a b
 second_way sure f h l n a b w e q = (list_still f h l a n e, q)
 
 -- no way says nothing
@@ -145,12 +160,14 @@ when_sure false P e h = cc
 when_sure true P e h = h
 
 -- where an item is like one that allowed no change itself, a way in it is one from it on
-pub goes_in : (sure : Bool) (f h : FunctionTree) (g : ℕ) → Fewer (counts_of f) (counts_of h) → counts_of h g ≡ 0 → (n : ℕ) (w : List ℕ) (x y : Tree) (xs : Forest) → (sure ≡ true → IsAlike g x y)
+pub goes_in : (sure : Bool) (f h : FunctionTree) (g : ℕ) → Fewer (counts_of f) (counts_of h) → counts_of h g ≡ 0 →
+    (n : ℕ) (w : List ℕ) (x y : Tree) (xs : Forest) → (sure ≡ true → IsAlike g x y)
     → next_here f n (Then x xs) ≡ None → IsWayIn sure h n w y → IsWayAt sure h n w (Then y xs)
 goes_in sure f h g l z n [] x y xs s k p = (tt, tt)
 goes_in sure f h g l z n (j ∷ w) x y xs s k p = (if_sure sure (next_here h n (Then y xs) ≡ None) (λ e. (s e).asks f h l z n xs k), p)
 
 -- an item on a sure way was asked before
-pub asked_before : (sure : Bool) (f : FunctionTree) (n : ℕ) (w : List ℕ) (a : Forest) → sure ≡ true → (w ≡ [] → ⊥) → IsWayAt sure f n w a → next_here f n a ≡ None
+pub asked_before : (sure : Bool) (f : FunctionTree) (n : ℕ) (w : List ℕ) (a : Forest) → sure ≡ true → (w ≡ [] → ⊥) → IsWayAt sure f n w a →
+    next_here f n a ≡ None
 asked_before sure f n [] a e k q = absurd (k refl)
 asked_before sure f n (j ∷ w) a e k q = when_sure sure (next_here f n a ≡ None) e q.0

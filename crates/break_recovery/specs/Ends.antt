@@ -27,7 +27,8 @@ WentOn true gone counts f gone_then counts_then h =
     (h ≡ record f { body = h.body })
     × ((n : ℕ) (start : FunctionTree) → Underway n start gone counts (function_tree f)
     → Underway (suc n) start gone_then counts_then (function_tree h) × (suc (length (left gone_then h.slots)) ≡ length (left gone f.slots)))
-WentOn false gone counts f gone_then counts_then h = (Tells counts (function_tree f) → changes_of (function_tree f) ≡ []) × (h ≡ f) × (gone_then ≡ gone) × (counts_then ≡ counts)
+WentOn false gone counts f gone_then counts_then h = (Tells counts (function_tree f) → changes_of (function_tree f) ≡ []) × (h ≡ f) ×
+    (gone_then ≡ gone) × (counts_then ≡ counts)
 
 -- n changes are made with the old numbers, and then none applies
 pub record AreMade (n : ℕ) (f : Function) (gone : List Bool) (h : Function) : Type 0 where

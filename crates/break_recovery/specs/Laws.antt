@@ -9,8 +9,10 @@ use Rattle.break_recovery.specs.Next.{first, or_else, put, next_list, next_item,
 
 pub record SearchLaws : Type 0 where
   pub none : (f : FunctionTree) (n : ℕ) → next_list f n Nil ≡ None
-  pub more : (f : FunctionTree) (n : ℕ) (x : Tree) (xs : Forest) → next_list f n (Then x xs) ≡ or_else (next_at f (suc n) (Then x xs)) (put (Then x) (next_list f n xs))
-  pub in_if : (f : FunctionTree) (n : ℕ) (t : TestTree) (a b : Forest) → next_item f n (If t a b) ≡ or_else (put (λ c. If t c b) (next_list f n a)) (put (If t a) (next_list f n b))
+  pub more : (f : FunctionTree) (n : ℕ) (x : Tree) (xs : Forest) → next_list f n (Then x xs) ≡ or_else (next_at f (suc n) (Then x xs))
+      (put (Then x) (next_list f n xs))
+  pub in_if : (f : FunctionTree) (n : ℕ) (t : TestTree) (a b : Forest) →
+      next_item f n (If t a b) ≡ or_else (put (λ c. If t c b) (next_list f n a)) (put (If t a) (next_list f n b))
   pub in_while : (f : FunctionTree) (n : ℕ) (t : TestTree) (a : Forest) → next_item f n (While t a) ≡ put (While t) (next_list f n a)
   pub in_do : (f : FunctionTree) (n : ℕ) (a : Forest) (t : TestTree) → next_item f n (Do a t) ≡ put (λ c. Do c t) (next_list f n a)
   pub in_for : (f : FunctionTree) (n : ℕ) (b : Forest) (t u : Option ExpressionTree) (a : Forest)

@@ -56,7 +56,8 @@ continued_first g (Then x xs) = Then (continued g x) xs
 
 -- at the loop that a list begins with, whose body stands at this level
 abbrev pub next_here : FunctionTree → ℕ → Forest → Option (ℕ × Forest)
-next_here f n a = or_else (of_slot (λ g. broken_first g a) (break_first (counts_of f) n a)) (of_slot (λ g. continued_first g a) (continue_first (counts_of f) n a))
+next_here f n a = or_else (of_slot (λ g. broken_first g a) (break_first (counts_of f) n a))
+    (of_slot (λ g. continued_first g a) (continue_first (counts_of f) n a))
 
 -- at the first item of a list, or in it; its lists stand at this level
 abbrev pub next_at : FunctionTree → ℕ → Forest → Option (ℕ × Forest)

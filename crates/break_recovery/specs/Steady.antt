@@ -82,7 +82,8 @@ AreSectionsAlike g c d = (h : ℕ) → eqb g h ≡ false → checks_within h d �
 
 -- where the one item allows no change itself, neither does the other, once the slot counts no more
 abbrev pub AsksAlike : ℕ → Tree → Tree → Type 0
-AsksAlike g x y = (f h : FunctionTree) → Fewer (counts_of f) (counts_of h) → counts_of h g ≡ 0 → (n : ℕ) (xs : Forest) → next_here f n (Then x xs) ≡ None → next_here h n (Then y xs) ≡ None
+AsksAlike g x y = (f h : FunctionTree) → Fewer (counts_of f) (counts_of h) → counts_of h g ≡ 0 → (n : ℕ) (xs : Forest) →
+    next_here f n (Then x xs) ≡ None → next_here h n (Then y xs) ≡ None
 
 -- two items are alike but for what they show of this slot
 pub record IsAlike (g : ℕ) (x y : Tree) : Type 0 where

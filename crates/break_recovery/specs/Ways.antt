@@ -46,16 +46,21 @@ IsWayIn sure f n (k ∷ w) (While t a) = AreQuiet f (suc n) k a × (IsAsked sure
 IsWayIn sure f n (k ∷ w) (Do a t) = AreQuiet f (suc n) k a × (IsAsked sure f (suc n) w (behind k a) × IsWayIn sure f (suc n) w (first_item (behind k a)))
 IsWayIn sure f n (k ∷ w) (Block a) = AreQuiet f (suc n) k a × (IsAsked sure f (suc n) w (behind k a) × IsWayIn sure f (suc n) w (first_item (behind k a)))
 IsWayIn sure f n (zero ∷ []) (If t a b) = Unit {0}
-IsWayIn sure f n (zero ∷ k ∷ w) (If t a b) = AreQuiet f (suc n) k a × (IsAsked sure f (suc n) w (behind k a) × IsWayIn sure f (suc n) w (first_item (behind k a)))
+IsWayIn sure f n (zero ∷ k ∷ w) (If t a b) = AreQuiet f (suc n) k a ×
+    (IsAsked sure f (suc n) w (behind k a) × IsWayIn sure f (suc n) w (first_item (behind k a)))
 IsWayIn sure f n (suc j ∷ []) (If t a b) = (next_list f n a ≡ None) × Unit {0}
-IsWayIn sure f n (suc j ∷ k ∷ w) (If t a b) = (next_list f n a ≡ None) × (AreQuiet f (suc n) k b × (IsAsked sure f (suc n) w (behind k b) × IsWayIn sure f (suc n) w (first_item (behind k b))))
+IsWayIn sure f n (suc j ∷ k ∷ w) (If t a b) = (next_list f n a ≡ None) ×
+    (AreQuiet f (suc n) k b × (IsAsked sure f (suc n) w (behind k b) × IsWayIn sure f (suc n) w (first_item (behind k b))))
 IsWayIn sure f n (zero ∷ []) (For a t u b) = Unit {0}
-IsWayIn sure f n (zero ∷ k ∷ w) (For a t u b) = AreQuiet f (suc n) k a × (IsAsked sure f (suc n) w (behind k a) × IsWayIn sure f (suc n) w (first_item (behind k a)))
+IsWayIn sure f n (zero ∷ k ∷ w) (For a t u b) = AreQuiet f (suc n) k a ×
+    (IsAsked sure f (suc n) w (behind k a) × IsWayIn sure f (suc n) w (first_item (behind k a)))
 IsWayIn sure f n (suc j ∷ []) (For a t u b) = (next_list f n a ≡ None) × Unit {0}
-IsWayIn sure f n (suc j ∷ k ∷ w) (For a t u b) = (next_list f n a ≡ None) × (AreQuiet f (suc n) k b × (IsAsked sure f (suc n) w (behind k b) × IsWayIn sure f (suc n) w (first_item (behind k b))))
+IsWayIn sure f n (suc j ∷ k ∷ w) (For a t u b) = (next_list f n a ≡ None) ×
+    (AreQuiet f (suc n) k b × (IsAsked sure f (suc n) w (behind k b) × IsWayIn sure f (suc n) w (first_item (behind k b))))
 IsWayIn sure f n (j ∷ []) (Switch s c) = AreQuietSections f n j c × Unit {0}
 IsWayIn sure f n (j ∷ k ∷ w) (Switch s c) =
-    AreQuietSections f n j c × (AreQuiet f (suc n) k (list_there j c) × (IsAsked sure f (suc n) w (behind k (list_there j c)) × IsWayIn sure f (suc n) w (first_item (behind k (list_there j c)))))
+    AreQuietSections f n j c × (AreQuiet f (suc n) k (list_there j c) ×
+    (IsAsked sure f (suc n) w (behind k (list_there j c)) × IsWayIn sure f (suc n) w (first_item (behind k (list_there j c)))))
 IsWayIn sure f n (k ∷ w) x = Unit {0}
 
 -- of the first item of a list
@@ -81,7 +86,8 @@ IsWayThrough sure f n (k ∷ w) c = AreQuietSections f n k c × IsWay sure f n w
 -- what held of the function f with these counts leads to what holds of h, which has the same but for those that became 0,
 -- where something was found, of which the slot counts no more
 abbrev pub LeadsOn : {A : Type 0} → List ℕ → Option A → (A → ℕ) → (FunctionTree → Type 0) → (A → FunctionTree → Type 0) → Type 0
-LeadsOn {A} counts s slot P Q = (x : A) → s ≡ Some x → (f h : FunctionTree) → Tells counts f → Fewer (counts_of f) (counts_of h) → counts_of h (slot x) ≡ 0 → P f → Q x h
+LeadsOn {A} counts s slot P Q = (x : A) → s ≡ Some x → (f h : FunctionTree) → Tells counts f → Fewer (counts_of f) (counts_of h) →
+    counts_of h (slot x) ≡ 0 → P f → Q x h
 
 -- no change applies before this place, but for one that is in doubt, nor in the item there before the end of the way
 abbrev pub IsAhead : Bool → FunctionTree → ℕ → ℕ → ℕ → List ℕ → Forest → Type 0
@@ -95,4 +101,5 @@ IsBefore (Some d) k = d < k
 -- a way from this place on is one from the other place on, once the declaration is gone from before it
 abbrev pub KeepsWay : ℕ → Option ℕ → ℕ → Type 0
 KeepsWay k gone from =
-    IsBefore gone k → (sure : Bool) (f : FunctionTree) (n : ℕ) (w : List ℕ) (a : Forest) → IsWayAt sure f n w (behind k a) → IsWayAt sure f n w (behind from (removed_at gone a))
+    IsBefore gone k → (sure : Bool) (f : FunctionTree) (n : ℕ) (w : List ℕ) (a : Forest) → IsWayAt sure f n w (behind k a) →
+    IsWayAt sure f n w (behind from (removed_at gone a))

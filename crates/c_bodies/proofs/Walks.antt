@@ -20,7 +20,8 @@ pub or-assoc : (a b c : Bool) → (a || b) || c ≡ a || (b || c)
 or-assoc true b c = refl
 or-assoc false b c = refl
 
-first-case : (o : Option Label) (ls : List Label) → has_case (elim o [ Some l ↦ l ∷ ls | None ↦ ls ]) ≡ has_case (elim o [ Some l ↦ l ∷ [] | None ↦ [] ]) || has_case ls
+first-case : (o : Option Label) (ls : List Label) → has_case (elim o [ Some l ↦ l ∷ ls | None ↦ ls ]) ≡ has_case
+    (elim o [ Some l ↦ l ∷ [] | None ↦ [] ]) || has_case ls
 first-case (Some l) ls = go (is_case l)
   where
     go : (b : Bool) → b || has_case ls ≡ (b || false) || has_case ls
@@ -32,7 +33,8 @@ pub case_at : (word : ℕ → List ℕ) (xs : List Syntax) (i : ℕ) (d : Syntax
     → has_case (labels_of word (drop i xs)) ≡ has_case (labels_of word (get_or xs i d ∷ [])) || has_case (labels_of word (drop (i + 1) xs))
 case_at word xs i d h = rw (add-one, drop-cons xs i d) (first-case (label_of word (get_or xs i d)) (labels_of word (drop (suc i) xs)))
 
-first-first : (o : Option Label) (ls : List Label) → first_of (elim o [ Some l ↦ l ∷ ls | None ↦ ls ]) ≡ or_else (first_of (elim o [ Some l ↦ l ∷ [] | None ↦ [] ])) (first_of ls)
+first-first : (o : Option Label) (ls : List Label) → first_of (elim o [ Some l ↦ l ∷ ls | None ↦ ls ]) ≡ or_else
+    (first_of (elim o [ Some l ↦ l ∷ [] | None ↦ [] ])) (first_of ls)
 first-first (Some l) ls = refl
 first-first None ls = refl
 
@@ -40,51 +42,64 @@ pub first_at : (word : ℕ → List ℕ) (xs : List Syntax) (i : ℕ) (d : Synta
     → first_of (labels_of word (drop i xs)) ≡ or_else (first_of (labels_of word (get_or xs i d ∷ []))) (first_of (labels_of word (drop (i + 1) xs)))
 first_at word xs i d h = rw (add-one, drop-cons xs i d) (first-first (label_of word (get_or xs i d)) (labels_of word (drop (suc i) xs)))
 
-step-items : (ctx : Context) (env : Env) (o : Option Label) (ls : List Label) → labels_items ctx env (elim o [ Some l ↦ l ∷ ls | None ↦ ls ]) ≡ labels_items ctx env (elim o [ Some l ↦ l ∷ [] | None ↦ [] ]) ++ labels_items ctx env ls
+step-items : (ctx : Context) (env : Env) (o : Option Label) (ls : List Label) →
+    labels_items ctx env (elim o [ Some l ↦ l ∷ ls | None ↦ ls ]) ≡ labels_items ctx env (elim o [ Some l ↦ l ∷ [] | None ↦ [] ]) ++ labels_items ctx env ls
 step-items ctx env (Some l) ls = sym (append_assoc (label_items ctx env l) [] (labels_items ctx env ls))
 step-items ctx env None ls = refl
 
 pub items_at : (ctx : Context) (env : Env) (word : ℕ → List ℕ) (xs : List Syntax) (i : ℕ) (d : Syntax) → i < length xs
-    → labels_items ctx env (labels_of word (drop i xs)) ≡ labels_items ctx env (labels_of word (get_or xs i d ∷ [])) ++ labels_items ctx env (labels_of word (drop (i + 1) xs))
+    → labels_items ctx env (labels_of word (drop i xs)) ≡ labels_items ctx env (labels_of word (get_or xs i d ∷ [])) ++
+    labels_items ctx env (labels_of word (drop (i + 1) xs))
 items_at ctx env word xs i d h = rw (add-one, drop-cons xs i d) (step-items ctx env (label_of word (get_or xs i d)) (labels_of word (drop (suc i) xs)))
 
-step-entries : (env : Env) (o : Option Label) (ls : List Label) (found : List Entry) → label_entries env (elim o [ Some l ↦ l ∷ ls | None ↦ ls ]) found ≡ label_entries env ls (label_entries env (elim o [ Some l ↦ l ∷ [] | None ↦ [] ]) found)
+step-entries : (env : Env) (o : Option Label) (ls : List Label) (found : List Entry) →
+    label_entries env (elim o [ Some l ↦ l ∷ ls | None ↦ ls ]) found ≡ label_entries env ls (label_entries env (elim o [ Some l ↦ l ∷ [] | None ↦ [] ]) found)
 step-entries env (Some l) ls found = refl
 step-entries env None ls found = refl
 
 pub entries_at : (env : Env) (word : ℕ → List ℕ) (xs : List Syntax) (i : ℕ) (d : Syntax) (found : List Entry) → i < length xs
-    → label_entries env (labels_of word (drop i xs)) found ≡ label_entries env (labels_of word (drop (i + 1) xs)) (label_entries env (labels_of word (get_or xs i d ∷ [])) found)
+    → label_entries env (labels_of word (drop i xs)) found ≡ label_entries env (labels_of word (drop (i + 1) xs))
+    (label_entries env (labels_of word (get_or xs i d ∷ [])) found)
 entries_at env word xs i d found h = rw (add-one, drop-cons xs i d) (step-entries env (label_of word (get_or xs i d)) (labels_of word (drop (suc i) xs)) found)
 
-step-faults : (env : Env) (switch : Bool) (o : Option Label) (ls : List Label) (vs : Faults) → labels_faults env switch (elim o [ Some l ↦ l ∷ ls | None ↦ ls ]) vs ≡ labels_faults env switch ls (labels_faults env switch (elim o [ Some l ↦ l ∷ [] | None ↦ [] ]) vs)
+step-faults : (env : Env) (switch : Bool) (o : Option Label) (ls : List Label) (vs : Faults) →
+    labels_faults env switch (elim o [ Some l ↦ l ∷ ls | None ↦ ls ]) vs ≡ labels_faults env switch ls
+    (labels_faults env switch (elim o [ Some l ↦ l ∷ [] | None ↦ [] ]) vs)
 step-faults env switch (Some l) ls vs = refl
 step-faults env switch None ls vs = refl
 
 pub label_faults_at : (env : Env) (switch : Bool) (word : ℕ → List ℕ) (xs : List Syntax) (i : ℕ) (d : Syntax) (vs : Faults) → i < length xs
-    → labels_faults env switch (labels_of word (drop i xs)) vs ≡ labels_faults env switch (labels_of word (drop (i + 1) xs)) (labels_faults env switch (labels_of word (get_or xs i d ∷ [])) vs)
-label_faults_at env switch word xs i d vs h = rw (add-one, drop-cons xs i d) (step-faults env switch (label_of word (get_or xs i d)) (labels_of word (drop (suc i) xs)) vs)
+    → labels_faults env switch (labels_of word (drop i xs)) vs ≡ labels_faults env switch (labels_of word (drop (i + 1) xs))
+    (labels_faults env switch (labels_of word (get_or xs i d ∷ [])) vs)
+label_faults_at env switch word xs i d vs h = rw (add-one, drop-cons xs i d)
+    (step-faults env switch (label_of word (get_or xs i d)) (labels_of word (drop (suc i) xs)) vs)
 
-step-heads : (env : Env) (o : Option Label) (ls : List Label) → section_cases env (elim o [ Some l ↦ l ∷ ls | None ↦ ls ]) ≡ section_cases env (elim o [ Some l ↦ l ∷ [] | None ↦ [] ]) ++ section_cases env ls
+step-heads : (env : Env) (o : Option Label) (ls : List Label) → section_cases env (elim o [ Some l ↦ l ∷ ls | None ↦ ls ]) ≡ section_cases env
+    (elim o [ Some l ↦ l ∷ [] | None ↦ [] ]) ++ section_cases env ls
 step-heads env (Some l) ls = sym (append_assoc (label_cases env l) [] (section_cases env ls))
 step-heads env None ls = refl
 
 pub heads_at : (env : Env) (word : ℕ → List ℕ) (xs : List Syntax) (i : ℕ) (d : Syntax) → i < length xs
-    → section_cases env (labels_of word (drop i xs)) ≡ section_cases env (labels_of word (get_or xs i d ∷ [])) ++ section_cases env (labels_of word (drop (i + 1) xs))
+    → section_cases env (labels_of word (drop i xs)) ≡ section_cases env (labels_of word (get_or xs i d ∷ [])) ++
+    section_cases env (labels_of word (drop (i + 1) xs))
 heads_at env word xs i d h = rw (add-one, drop-cons xs i d) (step-heads env (label_of word (get_or xs i d)) (labels_of word (drop (suc i) xs)))
 
-step-marks : (ctx : Context) (o : Option Label) (ls : List Label) → section_marks ctx (elim o [ Some l ↦ l ∷ ls | None ↦ ls ]) ≡ section_marks ctx (elim o [ Some l ↦ l ∷ [] | None ↦ [] ]) ++ section_marks ctx ls
+step-marks : (ctx : Context) (o : Option Label) (ls : List Label) → section_marks ctx (elim o [ Some l ↦ l ∷ ls | None ↦ ls ]) ≡ section_marks ctx
+    (elim o [ Some l ↦ l ∷ [] | None ↦ [] ]) ++ section_marks ctx ls
 step-marks ctx (Some l) ls = sym (append_assoc (label_marks ctx l) [] (section_marks ctx ls))
 step-marks ctx None ls = refl
 
 pub marks_at : (ctx : Context) (word : ℕ → List ℕ) (xs : List Syntax) (i : ℕ) (d : Syntax) → i < length xs
-    → section_marks ctx (labels_of word (drop i xs)) ≡ section_marks ctx (labels_of word (get_or xs i d ∷ [])) ++ section_marks ctx (labels_of word (drop (i + 1) xs))
+    → section_marks ctx (labels_of word (drop i xs)) ≡ section_marks ctx (labels_of word (get_or xs i d ∷ [])) ++
+    section_marks ctx (labels_of word (drop (i + 1) xs))
 marks_at ctx word xs i d h = rw (add-one, drop-cons xs i d) (step-marks ctx (label_of word (get_or xs i d)) (labels_of word (drop (suc i) xs)))
 
 or-false : (b : Bool) → b ≡ (b || false)
 or-false true = refl
 or-false false = refl
 
-step-default : (o : Option Label) (ls : List Label) → has_default (elim o [ Some l ↦ l ∷ ls | None ↦ ls ]) ≡ has_default (elim o [ Some l ↦ l ∷ [] | None ↦ [] ]) || has_default ls
+step-default : (o : Option Label) (ls : List Label) → has_default (elim o [ Some l ↦ l ∷ ls | None ↦ ls ]) ≡ has_default
+    (elim o [ Some l ↦ l ∷ [] | None ↦ [] ]) || has_default ls
 step-default (Some l) ls = ap (λ b. b || has_default ls) (or-false (is_default l))
 step-default None ls = refl
 

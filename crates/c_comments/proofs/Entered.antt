@@ -42,7 +42,8 @@ pub still : (word : ℕ → List ℕ) (place : ℕ → Anchor) (f : Frame) (rest
 still word place f rest t h b p s l u = b s l ∙ p s (omega (arith, h, l)) u
 
 -- the frame of a list in a frame
-pub inner : (word : ℕ → List ℕ) (place : ℕ → Anchor) (f : Frame) (rest : Rest) (t bound : ℕ) → f.from ≤ t → Between (rest_place word f.rest) (rest_place word rest) t bound
+pub inner : (word : ℕ → List ℕ) (place : ℕ → Anchor) (f : Frame) (rest : Rest) (t bound : ℕ) → f.from ≤ t →
+    Between (rest_place word f.rest) (rest_place word rest) t bound
     → Speaks word place f → Speaks word place (record { rest = rest; from = t; to = min bound f.to })
 inner word place f rest t bound h b p s l u = sym (b s l (omega (arith, u))) ∙ p s (omega (arith, h, l)) (omega (arith, u))
 

@@ -34,6 +34,8 @@ tops-3 =
 
 -- in front of the function and in its head; in the head of the switch; in the case label; before the null
 -- statement, the call and `break`; in the default label; at the `}` of the switch; at that of the function; at the end
-places : (place_in tops-3 3 ≡ Before 0) × (place_in tops-3 7 ≡ Before 6) × (place_in tops-3 12 ≡ AtSection 11) × (place_in tops-3 14 ≡ Before 14) × (place_in tops-3 16 ≡ Before 15)
-    × (place_in tops-3 17 ≡ Before 17) × (place_in tops-3 20 ≡ AtSection 19) × (place_in tops-3 22 ≡ AtEnd 10) × (place_in tops-3 23 ≡ AtEnd 5) × (place_in tops-3 24 ≡ Last)
+places : (place_in tops-3 3 ≡ Before 0) × (place_in tops-3 7 ≡ Before 6) × (place_in tops-3 12 ≡ AtSection 11) × (place_in tops-3 14 ≡ Before 14) ×
+    (place_in tops-3 16 ≡ Before 15)
+    × (place_in tops-3 17 ≡ Before 17) × (place_in tops-3 20 ≡ AtSection 19) × (place_in tops-3 22 ≡ AtEnd 10) × (place_in tops-3 23 ≡ AtEnd 5) ×
+    (place_in tops-3 24 ≡ Last)
 places = (refl, refl, refl, refl, refl, refl, refl, refl, refl, refl)

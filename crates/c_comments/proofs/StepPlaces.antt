@@ -30,7 +30,8 @@ pub leads_on : (word : ℕ → List ℕ) (f g : ℕ → Anchor) (t : ℕ) (step 
 leads_on word f g t (S.At a) e h = e t (omega arith) ∙ h
 leads_on word f g t (S.Into rest bound) e h = (h.0, λ s l u. e s l ∙ h.1 s l u)
 
-pub leads_within : (word : ℕ → List ℕ) (f g : ℕ → Anchor) (t bound : ℕ) (step : Step) → t < bound → Between f g t bound → Leads word g t step → Leads word f t (bounded step bound)
+pub leads_within : (word : ℕ → List ℕ) (f g : ℕ → Anchor) (t bound : ℕ) (step : Step) → t < bound → Between f g t bound → Leads word g t step →
+    Leads word f t (bounded step bound)
 leads_within word f g t bound (S.At a) b e h = e t (omega arith) b ∙ h
 leads_within word f g t bound (S.Into rest other) b e h = (omega (arith, h.0, b), λ s l u. e s l (omega (arith, u)) ∙ h.1 s l (omega (arith, u)))
 
@@ -50,18 +51,23 @@ list_here end x xs t s l u = ap (λ b. elim b [ true ↦ item_place x s | false 
 list_past : (end : Anchor) (x : Item) (xs : Items) (t : ℕ) → item_after x ≤ t → Behind (list_place end (Then x xs)) (list_place end xs) t
 list_past end x xs t a s l = ap (λ b. elim b [ true ↦ item_place x s | false ↦ list_place end xs s ]) (le-ltb s (item_after x) (omega (arith, a, l)))
 
-members_here : (begun : Bool) (switch first : ℕ) (x : Item) (xs : Items) (t : ℕ) → Between (members_place begun switch first (Then x xs)) (member_place begun switch x) t (item_after x)
-members_here begun switch first x xs t s l u = ap (λ b. elim b [ true ↦ member_place begun switch x s | false ↦ members_place (begun || begins_section x) switch first xs s ]) (lt-ltb s (item_after x) u)
+members_here : (begun : Bool) (switch first : ℕ) (x : Item) (xs : Items) (t : ℕ) →
+    Between (members_place begun switch first (Then x xs)) (member_place begun switch x) t (item_after x)
+members_here begun switch first x xs t s l u =
+    ap (λ b. elim b [ true ↦ member_place begun switch x s | false ↦ members_place (begun || begins_section x) switch first xs s ]) (lt-ltb s (item_after x) u)
 
 members_past : (begun : Bool) (switch first : ℕ) (x : Item) (xs : Items) (t : ℕ) → item_after x ≤ t
     → Behind (members_place begun switch first (Then x xs)) (members_place (begun || begins_section x) switch first xs) t
-members_past begun switch first x xs t a s l = ap (λ b. elim b [ true ↦ member_place begun switch x s | false ↦ members_place (begun || begins_section x) switch first xs s ]) (le-ltb s (item_after x) (omega (arith, a, l)))
+members_past begun switch first x xs t a s l =
+    ap (λ b. elim b [ true ↦ member_place begun switch x s | false ↦ members_place (begun || begins_section x) switch first xs s ])
+    (le-ltb s (item_after x) (omega (arith, a, l)))
 
 -- a node is an item that ends behind token t
 abbrev ends-behind : (ℕ → List ℕ) → Syntax → ℕ → Bool
 ends-behind word x t = not (is_token (out-Syntax x).rule) && nat_lt t (item_after (item_of word x))
 
-pub ends_item : (word : ℕ → List ℕ) (x : Syntax) (t : ℕ) → ends-behind word x t ≡ true → (is_token (out-Syntax x).rule ≡ false) × (t < item_after (item_of word x))
+pub ends_item : (word : ℕ → List ℕ) (x : Syntax) (t : ℕ) → ends-behind word x t ≡ true →
+    (is_token (out-Syntax x).rule ≡ false) × (t < item_after (item_of word x))
 ends_item word x t h = by (is_token (out-Syntax x).rule) refl
   where
     by : (b : Bool) → is_token (out-Syntax x).rule ≡ b → (is_token (out-Syntax x).rule ≡ false) × (t < item_after (item_of word x))
@@ -72,46 +78,60 @@ item-ends : (word : ℕ → List ℕ) (x : Syntax) (t : ℕ) → is_token (out-S
 item-ends word x t e h = ltb-false t (item_after (item_of word x)) (sym (ap (λ b. not b && nat_lt t (item_after (item_of word x))) e) ∙ h)
 
 -- node i of a list, from which on the list is left
-items_here : (word : ℕ → List ℕ) (end : Anchor) (xs : List Syntax) (i : ℕ) (x : Syntax) (t : ℕ) → i < length xs → x ≡ get_or xs i x → ends-behind word x t ≡ true
+items_here : (word : ℕ → List ℕ) (end : Anchor) (xs : List Syntax) (i : ℕ) (x : Syntax) (t : ℕ) → i < length xs → x ≡ get_or xs i x →
+    ends-behind word x t ≡ true
     → Between (list_place end (items_of word (drop i xs))) (item_place (item_of word x)) t (item_after (item_of word x))
 items_here word end xs i x t h e n s l u =
-    ap (λ ys. list_place end ys s) (items-item word xs i x h (subst (λ y. is_token (out-Syntax y).rule ≡ false) e (ends_item word x t n).0) ∙ ap (λ y. Then (item_of word y) (items_of word (drop (i + 1) xs))) (sym e))
+    ap (λ ys. list_place end ys s) (items-item word xs i x h (subst (λ y. is_token (out-Syntax y).rule ≡ false) e (ends_item word x t n).0) ∙
+    ap (λ y. Then (item_of word y) (items_of word (drop (i + 1) xs))) (sym e))
     ∙ list_here end (item_of word x) (items_of word (drop (i + 1) xs)) t s l u
 
-pub items_step : (word : ℕ → List ℕ) (end : Anchor) (xs : List Syntax) (i : ℕ) (x : Syntax) (t bound : ℕ) (step : Step) → i < length xs → x ≡ get_or xs i x → ends-behind word x t ≡ true
-    → bound ≡ item_after (item_of word x) → Behind (list_place end (items_of word (drop i xs))) (list_place end (items_of word xs)) t → Leads word (item_place (item_of word x)) t step
+pub items_step : (word : ℕ → List ℕ) (end : Anchor) (xs : List Syntax) (i : ℕ) (x : Syntax) (t bound : ℕ) (step : Step) → i < length xs →
+    x ≡ get_or xs i x → ends-behind word x t ≡ true
+    → bound ≡ item_after (item_of word x) → Behind (list_place end (items_of word (drop i xs))) (list_place end (items_of word xs)) t →
+    Leads word (item_place (item_of word x)) t step
     → Leads word (list_place end (items_of word xs)) t (bounded step bound)
 items_step word end xs i x t bound step h e n b p k =
     leads_within word (list_place end (items_of word xs)) (item_place (item_of word x)) t bound step (subst (λ m. t < m) (sym b) (ends_item word x t n).1)
     (λ s l u. sym (p s l) ∙ items_here word end xs i x t h e n s l (subst (λ m. s < m) b u)) k
 
-pub below_node : (xs : List Syntax) (i : ℕ) (x : Syntax) (bound : ℕ) (step : Step) → i < length xs → x ≡ get_or xs i x → IsBelow (weight x) step → IsBelow (weights xs) (bounded step bound)
+pub below_node : (xs : List Syntax) (i : ℕ) (x : Syntax) (bound : ℕ) (step : Step) → i < length xs → x ≡ get_or xs i x → IsBelow (weight x) step →
+    IsBelow (weights xs) (bounded step bound)
 below_node xs i x bound step h e k =
-    below_on (weight x) (weights xs) (bounded step bound) (subst (λ y. weight y ≤ weights xs) (sym e) (weight-at xs i x h)) (below_bounded (weight x) bound step k)
+    below_on (weight x) (weights xs) (bounded step bound) (subst (λ y. weight y ≤ weights xs) (sym e) (weight-at xs i x h))
+    (below_bounded (weight x) bound step k)
 
-pub items_past : (word : ℕ → List ℕ) (end : Anchor) (xs : List Syntax) (i : ℕ) (x : Syntax) (t : ℕ) → i < length xs → x ≡ get_or xs i x → ends-behind word x t ≡ false
+pub items_past : (word : ℕ → List ℕ) (end : Anchor) (xs : List Syntax) (i : ℕ) (x : Syntax) (t : ℕ) → i < length xs → x ≡ get_or xs i x →
+    ends-behind word x t ≡ false
     → Behind (list_place end (items_of word (drop (i + 1) xs))) (list_place end (items_of word (drop i xs))) t
 items_past word end xs i x t h e n s l = by (is_token (out-Syntax (get_or xs i x)).rule) refl
   where
     y : Syntax
     y = get_or xs i x
 
-    by : (b : Bool) → is_token (out-Syntax (get_or xs i x)).rule ≡ b → list_place end (items_of word (drop (i + 1) xs)) s ≡ list_place end (items_of word (drop i xs)) s
+    by : (b : Bool) → is_token (out-Syntax (get_or xs i x)).rule ≡ b →
+        list_place end (items_of word (drop (i + 1) xs)) s ≡ list_place end (items_of word (drop i xs)) s
     by true k = ap (λ ys. list_place end ys s) (sym (items-token word xs i x h k))
     by false k = sym (ap (λ ys. list_place end ys s) (items-item word xs i x h k)
         ∙ list_past end (item_of word y) (items_of word (drop (i + 1) xs)) t (item-ends word y t k (subst (λ z. ends-behind word z t ≡ false) e n)) s l)
 
-switch_here : (word : ℕ → List ℕ) (begun : Bool) (switch first : ℕ) (xs : List Syntax) (i : ℕ) (x : Syntax) (t : ℕ) → i < length xs → x ≡ get_or xs i x → ends-behind word x t ≡ true
+switch_here : (word : ℕ → List ℕ) (begun : Bool) (switch first : ℕ) (xs : List Syntax) (i : ℕ) (x : Syntax) (t : ℕ) → i < length xs →
+    x ≡ get_or xs i x → ends-behind word x t ≡ true
     → Between (members_place begun switch first (items_of word (drop i xs))) (member_place begun switch (item_of word x)) t (item_after (item_of word x))
 switch_here word begun switch first xs i x t h e n s l u =
-    ap (λ ys. members_place begun switch first ys s) (items-item word xs i x h (subst (λ y. is_token (out-Syntax y).rule ≡ false) e (ends_item word x t n).0) ∙ ap (λ y. Then (item_of word y) (items_of word (drop (i + 1) xs))) (sym e))
+    ap (λ ys. members_place begun switch first ys s)
+    (items-item word xs i x h (subst (λ y. is_token (out-Syntax y).rule ≡ false) e (ends_item word x t n).0) ∙
+    ap (λ y. Then (item_of word y) (items_of word (drop (i + 1) xs))) (sym e))
     ∙ members_here begun switch first (item_of word x) (items_of word (drop (i + 1) xs)) t s l u
 
-pub members_step : (word : ℕ → List ℕ) (begun other : Bool) (switch first : ℕ) (xs : List Syntax) (i : ℕ) (x : Syntax) (t bound : ℕ) (step : Step) → i < length xs → x ≡ get_or xs i x → ends-behind word x t ≡ true
-    → bound ≡ item_after (item_of word x) → Behind (members_place begun switch first (items_of word (drop i xs))) (members_place other switch first (items_of word xs)) t
+pub members_step : (word : ℕ → List ℕ) (begun other : Bool) (switch first : ℕ) (xs : List Syntax) (i : ℕ) (x : Syntax) (t bound : ℕ) (step : Step) →
+    i < length xs → x ≡ get_or xs i x → ends-behind word x t ≡ true
+    → bound ≡ item_after (item_of word x) → Behind (members_place begun switch first (items_of word (drop i xs)))
+    (members_place other switch first (items_of word xs)) t
     → Leads word (member_place begun switch (item_of word x)) t step → Leads word (members_place other switch first (items_of word xs)) t (bounded step bound)
 members_step word begun other switch first xs i x t bound step h e n b p k =
-    leads_within word (members_place other switch first (items_of word xs)) (member_place begun switch (item_of word x)) t bound step (subst (λ m. t < m) (sym b) (ends_item word x t n).1)
+    leads_within word (members_place other switch first (items_of word xs)) (member_place begun switch (item_of word x)) t bound step
+    (subst (λ m. t < m) (sym b) (ends_item word x t n).1)
     (λ s l u. sym (p s l) ∙ switch_here word begun switch first xs i x t h e n s l (subst (λ m. s < m) b u)) k
 
 or-false : (b : Bool) → (b || false) ≡ b
@@ -122,9 +142,12 @@ or-false false = refl
 abbrev has-begun : (ℕ → List ℕ) → Bool → Syntax → Bool
 has-begun word begun x = begun || (not (is_token (out-Syntax x).rule) && begins_section (item_of word x))
 
-pub switch_past : (word : ℕ → List ℕ) (begun : Bool) (switch first : ℕ) (xs : List Syntax) (i : ℕ) (x : Syntax) (t : ℕ) → i < length xs → x ≡ get_or xs i x → ends-behind word x t ≡ false
-    → Behind (members_place (has-begun word begun x) switch first (items_of word (drop (i + 1) xs))) (members_place begun switch first (items_of word (drop i xs))) t
-switch_past word begun switch first xs i x t h e n s l = ap (λ z. members_place (has-begun word begun z) switch first rest s) e ∙ by (is_token (out-Syntax y).rule) refl
+pub switch_past : (word : ℕ → List ℕ) (begun : Bool) (switch first : ℕ) (xs : List Syntax) (i : ℕ) (x : Syntax) (t : ℕ) → i < length xs →
+    x ≡ get_or xs i x → ends-behind word x t ≡ false
+    → Behind (members_place (has-begun word begun x) switch first (items_of word (drop (i + 1) xs)))
+    (members_place begun switch first (items_of word (drop i xs))) t
+switch_past word begun switch first xs i x t h e n s l = ap (λ z. members_place (has-begun word begun z) switch first rest s) e ∙ by
+    (is_token (out-Syntax y).rule) refl
   where
     y : Syntax
     y = get_or xs i x
@@ -135,7 +158,8 @@ switch_past word begun switch first xs i x t h e n s l = ap (λ z. members_place
     begun-by : Bool → Bool
     begun-by b = begun || (not b && begins_section (item_of word y))
 
-    by : (b : Bool) → is_token (out-Syntax y).rule ≡ b → members_place (has-begun word begun y) switch first rest s ≡ members_place begun switch first (items_of word (drop i xs)) s
+    by : (b : Bool) → is_token (out-Syntax y).rule ≡ b → members_place (has-begun word begun y) switch first rest s ≡ members_place begun switch first
+        (items_of word (drop i xs)) s
     by true k =
         ap (λ b. members_place b switch first rest s) (ap begun-by k ∙ or-false begun)
         ∙ ap (λ ys. members_place begun switch first ys s) (sym (items-token word xs i x h k))
@@ -152,20 +176,26 @@ tops_here word xs i x t h e s l u =
     ap (λ ys. place_in ys s) (tops-next word xs i x h ∙ ap (λ y. top_of word y ∷ tops_in word (drop (i + 1) xs)) (sym e))
     ∙ ap (λ b. elim b [ true ↦ top_place (top_of word x) s | false ↦ place_in (tops_in word (drop (i + 1) xs)) s ]) (lt-ltb s (top_after (top_of word x)) u)
 
-pub tops_step : (word : ℕ → List ℕ) (xs : List Syntax) (i : ℕ) (x : Syntax) (t bound : ℕ) (step : Step) → i < length xs → x ≡ get_or xs i x → t < bound → bound ≡ top_after (top_of word x)
-    → Behind (place_in (tops_in word (drop i xs))) (place_in (tops_in word xs)) t → Leads word (top_place (top_of word x)) t step → Leads word (place_in (tops_in word xs)) t (bounded step bound)
+pub tops_step : (word : ℕ → List ℕ) (xs : List Syntax) (i : ℕ) (x : Syntax) (t bound : ℕ) (step : Step) → i < length xs → x ≡ get_or xs i x →
+    t < bound → bound ≡ top_after (top_of word x)
+    → Behind (place_in (tops_in word (drop i xs))) (place_in (tops_in word xs)) t → Leads word (top_place (top_of word x)) t step →
+    Leads word (place_in (tops_in word xs)) t (bounded step bound)
 tops_step word xs i x t bound step h e n b p k =
-    leads_within word (place_in (tops_in word xs)) (top_place (top_of word x)) t bound step n (λ s l u. sym (p s l) ∙ tops_here word xs i x t h e s l (subst (λ m. s < m) b u)) k
+    leads_within word (place_in (tops_in word xs)) (top_place (top_of word x)) t bound step n
+    (λ s l u. sym (p s l) ∙ tops_here word xs i x t h e s l (subst (λ m. s < m) b u)) k
 
-pub tops_past : (word : ℕ → List ℕ) (xs : List Syntax) (i : ℕ) (x : Syntax) (t after : ℕ) → i < length xs → x ≡ get_or xs i x → after ≤ t → after ≡ top_after (top_of word x)
+pub tops_past : (word : ℕ → List ℕ) (xs : List Syntax) (i : ℕ) (x : Syntax) (t after : ℕ) → i < length xs → x ≡ get_or xs i x → after ≤ t →
+    after ≡ top_after (top_of word x)
     → Behind (place_in (tops_in word (drop (i + 1) xs))) (place_in (tops_in word (drop i xs))) t
 tops_past word xs i x t after h e a b s l =
     sym (ap (λ ys. place_in ys s) (tops-next word xs i x h ∙ ap (λ y. top_of word y ∷ tops_in word (drop (i + 1) xs)) (sym e))
-    ∙ ap (λ b. elim b [ true ↦ top_place (top_of word x) s | false ↦ place_in (tops_in word (drop (i + 1) xs)) s ]) (le-ltb s (top_after (top_of word x)) (subst (λ m. m ≤ s) b (omega (arith, a, l)))))
+    ∙ ap (λ b. elim b [ true ↦ top_place (top_of word x) s | false ↦ place_in (tops_in word (drop (i + 1) xs)) s ])
+    (le-ltb s (top_after (top_of word x)) (subst (λ m. m ≤ s) b (omega (arith, a, l)))))
 
 -- ---- labels
 
-pub labels_none : (word : ℕ → List ℕ) (section : Option Anchor) (xs : List Syntax) (i t : ℕ) → length xs ≤ i → place_in_labels section (labels_of word (drop i xs)) t ≡ None
+pub labels_none : (word : ℕ → List ℕ) (section : Option Anchor) (xs : List Syntax) (i t : ℕ) → length xs ≤ i →
+    place_in_labels section (labels_of word (drop i xs)) t ≡ None
 labels_none word section xs i t h = ap (λ ys. place_in_labels section (labels_of word ys) t) (drop_all i xs h)
 
 pub labels_alone : (ls : List Label) (t : ℕ) → labels_place ls t ≡ place_in_labels None ls t
@@ -190,7 +220,8 @@ at_labels x ls p s e = ap (λ y. item_place y s) e ∙ ap (λ o. or_behind o (pl
 abbrev outside : Bool → ℕ → List Label → Plain → ℕ → Anchor
 outside b switch ls p s = elim b [ true ↦ Before switch | false ↦ or_behind (labels_place ls s) (plain_place p s) ]
 
-pub at_section : (begun : Bool) (switch : ℕ) (x : Item) (ls : List Label) (p : Plain) (a : Anchor) (first s : ℕ) → x ≡ States ls p → has_case ls ≡ true → a ≡ case_place first ls → first ≡ first_label ls
+pub at_section : (begun : Bool) (switch : ℕ) (x : Item) (ls : List Label) (p : Plain) (a : Anchor) (first s : ℕ) → x ≡ States ls p →
+    has_case ls ≡ true → a ≡ case_place first ls → first ≡ first_label ls
     → member_place begun switch x s ≡ or_behind (place_in_labels (Some a) ls s) (plain_place p s)
 at_section begun switch x ls p a first s e h q f =
     ap (λ y. member_place begun switch y s) e
@@ -198,14 +229,16 @@ at_section begun switch x ls p a first s e h q f =
     ∙ ap (λ o. or_behind o (plain_place p s)) (labels_of_section ls ls s)
     ∙ ap (λ y. or_behind (place_in_labels (Some y) ls s) (plain_place p s)) (sym (q ∙ ap (λ n. case_place n ls) f))
 
-pub at_null : (begun : Bool) (switch : ℕ) (x : Item) (ls : List Label) (p : Plain) (s : ℕ) → x ≡ States ls p → has_case ls ≡ false → (not begun && is_null ls p) ≡ true
+pub at_null : (begun : Bool) (switch : ℕ) (x : Item) (ls : List Label) (p : Plain) (s : ℕ) → x ≡ States ls p → has_case ls ≡ false →
+    (not begun && is_null ls p) ≡ true
     → member_place begun switch x s ≡ Before switch
 at_null begun switch x ls p s e h n =
     ap (λ y. member_place begun switch y s) e
     ∙ ap (λ b. elim b [ true ↦ or_behind (section_place ls ls s) (plain_place p s) | false ↦ outside (not begun && is_null ls p) switch ls p s ]) h
     ∙ ap (λ b. outside b switch ls p s) n
 
-pub at_member : (begun : Bool) (switch : ℕ) (x : Item) (ls : List Label) (p : Plain) (s : ℕ) → x ≡ States ls p → has_case ls ≡ false → (not begun && is_null ls p) ≡ false
+pub at_member : (begun : Bool) (switch : ℕ) (x : Item) (ls : List Label) (p : Plain) (s : ℕ) → x ≡ States ls p → has_case ls ≡ false →
+    (not begun && is_null ls p) ≡ false
     → member_place begun switch x s ≡ or_behind (place_in_labels None ls s) (plain_place p s)
 at_member begun switch x ls p s e h n =
     ap (λ y. member_place begun switch y s) e
@@ -217,28 +250,43 @@ at_member begun switch x ls p s e h n =
 
 -- in front of a list the place is the one that is given
 pub ahead : (before : Anchor) (b : Body) (t : ℕ) → t < body_ahead b → body_place before b t ≡ before
-ahead before (Braces first after xs) t h = ap (λ b. elim b [ true ↦ before | false ↦ elim (nat_lt t after) [ true ↦ list_place (AtEnd first) xs t | false ↦ AtEnd first ] ]) (le-leb t first (omega (arith, h)))
-ahead before (Lone first after x) t h = ap (λ b. elim b [ true ↦ before | false ↦ elim (nat_lt t after) [ true ↦ item_place x t | false ↦ AtEnd first ] ]) (lt-ltb t first h)
+ahead before (Braces first after xs) t h =
+    ap (λ b. elim b [ true ↦ before | false ↦ elim (nat_lt t after) [ true ↦ list_place (AtEnd first) xs t | false ↦ AtEnd first ] ])
+    (le-leb t first (omega (arith, h)))
+ahead before (Lone first after x) t h = ap (λ b. elim b [
+  | true ↦ before
+  | false ↦ elim (nat_lt t after)
+      [ true ↦ item_place x t | false ↦ AtEnd first ]
+]) (lt-ltb t first h)
 
 -- and behind its first token that makes no difference
 pub not_ahead : (before other : Anchor) (b : Body) (t : ℕ) → body_ahead b ≤ t → body_place before b t ≡ body_place other b t
-not_ahead before other (Braces first after xs) t h = in-front before t first after xs (lt-leb t first (omega (arith, h))) ∙ sym (in-front other t first after xs (lt-leb t first (omega (arith, h))))
+not_ahead before other (Braces first after xs) t h = in-front before t first after xs (lt-leb t first (omega (arith, h))) ∙ sym
+    (in-front other t first after xs (lt-leb t first (omega (arith, h))))
   where
-    in-front : (a : Anchor) (t first after : ℕ) (xs : Items) → nat_le t first ≡ false → body_place a (Braces first after xs) t ≡ elim (nat_lt t after) [ true ↦ list_place (AtEnd first) xs t | false ↦ AtEnd first ]
-    in-front a t first after xs e = ap (λ b. elim b [ true ↦ a | false ↦ elim (nat_lt t after) [ true ↦ list_place (AtEnd first) xs t | false ↦ AtEnd first ] ]) e
+    in-front : (a : Anchor) (t first after : ℕ) (xs : Items) → nat_le t first ≡ false →
+        body_place a (Braces first after xs) t ≡ elim (nat_lt t after) [ true ↦ list_place (AtEnd first) xs t | false ↦ AtEnd first ]
+    in-front a t first after xs e = ap (λ b. elim b [
+      | true ↦ a
+      | false ↦ elim (nat_lt t after)
+          [ true ↦ list_place (AtEnd first) xs t | false ↦ AtEnd first ]
+    ]) e
 not_ahead before other (Lone first after x) t h = in-front before t first after x (le-ltb t first h) ∙ sym (in-front other t first after x (le-ltb t first h))
   where
-    in-front : (a : Anchor) (t first after : ℕ) (x : Item) → nat_lt t first ≡ false → body_place a (Lone first after x) t ≡ elim (nat_lt t after) [ true ↦ item_place x t | false ↦ AtEnd first ]
+    in-front : (a : Anchor) (t first after : ℕ) (x : Item) → nat_lt t first ≡ false →
+        body_place a (Lone first after x) t ≡ elim (nat_lt t after) [ true ↦ item_place x t | false ↦ AtEnd first ]
     in-front a t first after x e = ap (λ b. elim b [ true ↦ a | false ↦ elim (nat_lt t after) [ true ↦ item_place x t | false ↦ AtEnd first ] ]) e
 
 -- ---- a statement behind its labels
 
-pub at_statement : (x : Plain) (first after : ℕ) (st : Statement) (t : ℕ) → x ≡ From first after st → first < t → Behind (plain_place x) (statement_place first st) t
+pub at_statement : (x : Plain) (first after : ℕ) (st : Statement) (t : ℕ) → x ≡ From first after st → first < t →
+    Behind (plain_place x) (statement_place first st) t
 at_statement x first after st t e h s l =
     ap (λ y. plain_place y s) e
     ∙ ap (λ b. elim b [ true ↦ Before first | false ↦ statement_place first st s ]) (lt-leb s first (omega (arith, h, l)))
 
-pub at_top : (x : Top) (first after : ℕ) (form : tops.Form) (t : ℕ) → x ≡ tops.From first after form → first < t → Behind (top_place x) (form_place first form) t
+pub at_top : (x : Top) (first after : ℕ) (form : tops.Form) (t : ℕ) → x ≡ tops.From first after form → first < t →
+    Behind (top_place x) (form_place first form) t
 at_top x first after form t e h s l =
     ap (λ y. top_place y s) e
     ∙ ap (λ b. elim b [ true ↦ Before first | false ↦ form_place first form s ]) (lt-leb s first (omega (arith, h, l)))

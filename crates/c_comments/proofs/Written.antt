@@ -23,7 +23,8 @@ one-null : (o : Option Label) (ls : List Label) (any : Bool) (p : Plain) → is_
 one-null (Some l) ls any p h = refl
 one-null None ls any p h = h
 
-pub null_labels : (word : ℕ → List ℕ) (xs : List Syntax) (p : Plain) → is_null (labels_of word xs) p ≡ (not (list_any (λ x. is_some (label_of word x)) xs) && is_null [] p)
+pub null_labels : (word : ℕ → List ℕ) (xs : List Syntax) (p : Plain) →
+    is_null (labels_of word xs) p ≡ (not (list_any (λ x. is_some (label_of word x)) xs) && is_null [] p)
 null_labels word [] p = refl
 null_labels word (x ∷ xs) p = one-null (label_of word x) (labels_of word xs) (list_any (λ x. is_some (label_of word x)) xs) p (null_labels word xs p)
 

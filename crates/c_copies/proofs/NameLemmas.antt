@@ -43,23 +43,28 @@ names_step f ks ls done xs i x h is e inv =
 
 pub node_names-Binary : (op : BinaryOp) (a b : Expression) → node_names (Binary op a b) ≡ expression_names a ++ expression_names b
 node_names-Binary op a b =
-    ap node_names (sym (rolls-Binary op a b)) ∙ fold-roll-Node (List (List ℕ)) (List (List ℕ)) (List (List ℕ)) node_names_step place_names_step expression_names_step (N.Binary op a b)
+    ap node_names (sym (rolls-Binary op a b)) ∙ fold-roll-Node (List (List ℕ)) (List (List ℕ)) (List (List ℕ)) node_names_step place_names_step
+    expression_names_step (N.Binary op a b)
 
 pub node_names-Conditional : (a b c : Expression) → node_names (Conditional a b c) ≡ expression_names a ++ expression_names b ++ expression_names c
 node_names-Conditional a b c =
-    ap node_names (sym (rolls-Conditional a b c)) ∙ fold-roll-Node (List (List ℕ)) (List (List ℕ)) (List (List ℕ)) node_names_step place_names_step expression_names_step (N.Conditional a b c)
+    ap node_names (sym (rolls-Conditional a b c)) ∙ fold-roll-Node (List (List ℕ)) (List (List ℕ)) (List (List ℕ)) node_names_step place_names_step
+    expression_names_step (N.Conditional a b c)
 
 pub node_names-Assign : (p : Place) (a : Expression) → node_names (Assign p a) ≡ place_names p ++ expression_names a
 node_names-Assign p a =
-    ap node_names (sym (rolls-Assign p a)) ∙ fold-roll-Node (List (List ℕ)) (List (List ℕ)) (List (List ℕ)) node_names_step place_names_step expression_names_step (N.Assign p a)
+    ap node_names (sym (rolls-Assign p a)) ∙ fold-roll-Node (List (List ℕ)) (List (List ℕ)) (List (List ℕ)) node_names_step place_names_step
+    expression_names_step (N.Assign p a)
 
 pub node_names-Update : (op : ArithOp) (p : Place) (a : Expression) → node_names (Update op p a) ≡ place_names p ++ expression_names a
 node_names-Update op p a =
-    ap node_names (sym (rolls-Update op p a)) ∙ fold-roll-Node (List (List ℕ)) (List (List ℕ)) (List (List ℕ)) node_names_step place_names_step expression_names_step (N.Update op p a)
+    ap node_names (sym (rolls-Update op p a)) ∙ fold-roll-Node (List (List ℕ)) (List (List ℕ)) (List (List ℕ)) node_names_step place_names_step
+    expression_names_step (N.Update op p a)
 
 pub node_names-Comma : (a b : Expression) → node_names (Comma a b) ≡ expression_names a ++ expression_names b
 node_names-Comma a b =
-    ap node_names (sym (rolls-Comma a b)) ∙ fold-roll-Node (List (List ℕ)) (List (List ℕ)) (List (List ℕ)) node_names_step place_names_step expression_names_step (N.Comma a b)
+    ap node_names (sym (rolls-Comma a b)) ∙ fold-roll-Node (List (List ℕ)) (List (List ℕ)) (List (List ℕ)) node_names_step place_names_step
+    expression_names_step (N.Comma a b)
 
 pub item_names-If : (t : Test) (a b : List Item) → item_names (If t a b) ≡ test_names t ++ items_names a ++ items_names b
 item_names-If t a b = ap item_names (sym (rolls-If t a b)) ∙ fold-roll-Item (List (List ℕ)) (List (List ℕ)) item_names_step section_names_step (O.If t a b)
@@ -70,11 +75,14 @@ item_names-While t a = ap item_names (sym (rolls-While t a)) ∙ fold-roll-Item 
 pub item_names-Do : (a : List Item) (t : Test) → item_names (Do a t) ≡ items_names a ++ test_names t
 item_names-Do a t = ap item_names (sym (rolls-Do a t)) ∙ fold-roll-Item (List (List ℕ)) (List (List ℕ)) item_names_step section_names_step (O.Do a t)
 
-pub item_names-For : (f : List Item) (t u : Option Expression) (a : List Item) → item_names (For f t u a) ≡ items_names f ++ option_names t ++ option_names u ++ items_names a
-item_names-For f t u a = ap item_names (sym (rolls-For f t u a)) ∙ fold-roll-Item (List (List ℕ)) (List (List ℕ)) item_names_step section_names_step (O.For f t u a)
+pub item_names-For : (f : List Item) (t u : Option Expression) (a : List Item) →
+    item_names (For f t u a) ≡ items_names f ++ option_names t ++ option_names u ++ items_names a
+item_names-For f t u a = ap item_names (sym (rolls-For f t u a)) ∙ fold-roll-Item (List (List ℕ)) (List (List ℕ)) item_names_step section_names_step
+    (O.For f t u a)
 
 pub item_names-Switch : (s : Selector) (cs : List Section) → item_names (Switch s cs) ≡ selector_names s ++ sections_names cs
-item_names-Switch s cs = ap item_names (sym (rolls-Switch s cs)) ∙ fold-roll-Item (List (List ℕ)) (List (List ℕ)) item_names_step section_names_step (O.Switch s cs)
+item_names-Switch s cs = ap item_names (sym (rolls-Switch s cs)) ∙ fold-roll-Item (List (List ℕ)) (List (List ℕ)) item_names_step section_names_step
+    (O.Switch s cs)
 
 pub section_names-is : (c : Section) → section_names c ≡ expressions_names (out-Section c).cases ++ items_names (out-Section c).list
 section_names-is c = fold_out-Section (List (List ℕ)) (List (List ℕ)) item_names_step section_names_step c

@@ -35,7 +35,8 @@ at_place P (x ∷ xs) zero d a h = a.0
 at_place P (x ∷ xs) (suc m) d a h = at_place P xs m d a.1 (omega (arith, h))
 
 -- a name above the one at a place is above those before it
-below_through : (n : List ℕ) (xs : List (List ℕ)) (m : ℕ) (d : List ℕ) → IsStrictlySortedBy name_cmp xs → m < length xs → name_cmp n (get_or xs m d) ≡ Greater → AreBelow n (take (suc m) xs)
+below_through : (n : List ℕ) (xs : List (List ℕ)) (m : ℕ) (d : List ℕ) → IsStrictlySortedBy name_cmp xs → m < length xs →
+    name_cmp n (get_or xs m d) ≡ Greater → AreBelow n (take (suc m) xs)
 unfolding IsStrictlySortedBy
 below_through n [] m d s h g = absurd (omega (arith, h))
 below_through n (x ∷ xs) zero d s h g = (g, tt)
@@ -43,11 +44,13 @@ below_through n (x ∷ xs) (suc m) d s h g =
     let less : name_cmp x (get_or xs m d) ≡ Less = at_place (λ y. name_cmp x y ≡ Less) xs m d s.0 (omega (arith, h)) in
     (back n x (nat_list_cmp_total.trans x (get_or xs m d) n less (turned n (get_or xs m d) g)), below_through n xs m d s.1 (omega (arith, h)) g)
 
-pub below_it : (n : List ℕ) (xs : List (List ℕ)) (m : ℕ) (d : List ℕ) → IsStrictlySortedBy name_cmp xs → m < length xs → name_cmp n (get_or xs m d) ≡ Greater → AreBelow n (take (m + 1) xs)
+pub below_it : (n : List ℕ) (xs : List (List ℕ)) (m : ℕ) (d : List ℕ) → IsStrictlySortedBy name_cmp xs → m < length xs →
+    name_cmp n (get_or xs m d) ≡ Greater → AreBelow n (take (m + 1) xs)
 below_it n xs m d s h g = subst (λ k. AreBelow n (take k xs)) (sym (add-one m)) (below_through n xs m d s h g)
 
 -- a name below the one at a place is below those behind it
-pub above_it : (n : List ℕ) (xs : List (List ℕ)) (m : ℕ) (d : List ℕ) → IsStrictlySortedBy name_cmp xs → m < length xs → name_cmp n (get_or xs m d) ≡ Less → AreAbove n (drop m xs)
+pub above_it : (n : List ℕ) (xs : List (List ℕ)) (m : ℕ) (d : List ℕ) → IsStrictlySortedBy name_cmp xs → m < length xs →
+    name_cmp n (get_or xs m d) ≡ Less → AreAbove n (drop m xs)
 unfolding IsStrictlySortedBy
 above_it n [] m d s h g = absurd (omega (arith, h))
 above_it n (x ∷ xs) zero d s h g = (g, below_more n x xs g s.0)
@@ -71,7 +74,8 @@ has_name-gap n (x ∷ xs) (suc i) h b a = ap (λ z. z || has_name xs n) (unlike 
 
 -- ---- at its place
 
-pub with_name-at : (n : List ℕ) (xs : List (List ℕ)) (m : ℕ) (d : List ℕ) → IsStrictlySortedBy name_cmp xs → m < length xs → name_cmp n (get_or xs m d) ≡ Equal → with_name xs n ≡ xs
+pub with_name-at : (n : List ℕ) (xs : List (List ℕ)) (m : ℕ) (d : List ℕ) → IsStrictlySortedBy name_cmp xs → m < length xs →
+    name_cmp n (get_or xs m d) ≡ Equal → with_name xs n ≡ xs
 unfolding IsStrictlySortedBy
 with_name-at n [] m d s h e = absurd (omega (arith, h))
 with_name-at n (x ∷ xs) zero d s h e = with_by Equal x xs n e

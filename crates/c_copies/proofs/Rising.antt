@@ -25,7 +25,8 @@ all_with_name : (P : List ℕ → Type 0) (ks : List (List ℕ)) (n : List ℕ) 
 all_with_name P [] n a p = (p, tt)
 all_with_name P (x ∷ xs) n a p = all_at P (name_cmp n x) x xs n a p (all_with_name P xs n a.1 p)
 
-pub below_more : (n x : List ℕ) (xs : List (List ℕ)) → name_cmp n x ≡ Less → AllByRecursion (λ y. name_cmp x y ≡ Less) xs → AllByRecursion (λ y. name_cmp n y ≡ Less) xs
+pub below_more : (n x : List ℕ) (xs : List (List ℕ)) → name_cmp n x ≡ Less → AllByRecursion (λ y. name_cmp x y ≡ Less) xs →
+    AllByRecursion (λ y. name_cmp n y ≡ Less) xs
 below_more n x [] h b = tt
 below_more n x (y ∷ ys) h b = (nat_list_cmp_total.trans n x y h b.0, below_more n x ys h b.1)
 

@@ -16,7 +16,8 @@ module _ {Z : Type 0} where
   insert_at : (o : Ordering) (k x : String Z) (xs : List (String Z))
       → map string_bytes (insert_key string_cmp xs k) ≡ with_name (map string_bytes xs) (string_bytes k)
       → map string_bytes (match_ordering o (k ∷ x ∷ xs) (x ∷ xs) (x ∷ insert_key string_cmp xs k))
-      ≡ match_ordering o (string_bytes k ∷ string_bytes x ∷ map string_bytes xs) (string_bytes x ∷ map string_bytes xs) (string_bytes x ∷ with_name (map string_bytes xs) (string_bytes k))
+      ≡ match_ordering o (string_bytes k ∷ string_bytes x ∷ map string_bytes xs) (string_bytes x ∷ map string_bytes xs)
+      (string_bytes x ∷ with_name (map string_bytes xs) (string_bytes k))
   insert_at Less k x xs e = refl
   insert_at Equal k x xs e = refl
   insert_at Greater k x xs e = ap (λ l. string_bytes x ∷ l) e
@@ -27,6 +28,7 @@ module _ {Z : Type 0} where
   map-insert_key (x ∷ xs) k = insert_at (string_cmp k x) k x xs (map-insert_key xs k)
 
   -- a name looked up in a set of strings
-  pub list_any-has_name : (n : List ℕ) (ks : List (String Z)) → list_any (is_at (λ k. slice_cmp nat_cmp n (string_bytes k))) ks ≡ has_name (map string_bytes ks) n
+  pub list_any-has_name : (n : List ℕ) (ks : List (String Z)) → list_any (is_at (λ k. slice_cmp nat_cmp n (string_bytes k))) ks ≡ has_name
+      (map string_bytes ks) n
   list_any-has_name n [] = refl
   list_any-has_name n (k ∷ ks) = λ i. is_eq-slice_cmp n (string_bytes k) i || list_any-has_name n ks i

@@ -44,13 +44,15 @@ below_first x xs a b e f =
     with_by Greater a (x ∷ xs) b above ∙ ap (λ z. a ∷ z) (with_by Equal x xs b f) ∙ sym (with_by Less x xs a e)
 
 -- one below the first, and one above it
-below_above : (x : List ℕ) (xs : List (List ℕ)) (a b : List ℕ) → name_cmp a x ≡ Less → name_cmp b x ≡ Greater → with_name (a ∷ x ∷ xs) b ≡ with_name (x ∷ with_name xs b) a
+below_above : (x : List ℕ) (xs : List (List ℕ)) (a b : List ℕ) → name_cmp a x ≡ Less → name_cmp b x ≡ Greater →
+    with_name (a ∷ x ∷ xs) b ≡ with_name (x ∷ with_name xs b) a
 below_above x xs a b e f =
     let less : name_cmp a b ≡ Less = nat_list_cmp_total.trans a x b e (turned b x Greater f) in
     with_by Greater a (x ∷ xs) b (turned a b Less less) ∙ ap (λ z. a ∷ z) (with_by Greater x xs b f) ∙ sym (with_by Less x (with_name xs b) a e)
 
 -- one that is the first, and one above it
-first_above : (x : List ℕ) (xs : List (List ℕ)) (a b : List ℕ) → name_cmp a x ≡ Equal → name_cmp b x ≡ Greater → with_name (x ∷ xs) b ≡ with_name (x ∷ with_name xs b) a
+first_above : (x : List ℕ) (xs : List (List ℕ)) (a b : List ℕ) → name_cmp a x ≡ Equal → name_cmp b x ≡ Greater →
+    with_name (x ∷ xs) b ≡ with_name (x ∷ with_name xs b) a
 first_above x xs a b e f = with_by Greater x xs b f ∙ sym (with_by Equal x (with_name xs b) a e)
 
 commute_at : (o q : Ordering) (x : List ℕ) (xs : List (List ℕ)) (a b : List ℕ) → name_cmp a x ≡ o → name_cmp b x ≡ q
@@ -161,7 +163,8 @@ last_at : (b : Bool) (y z : List ℕ) → b ≡ false → cond b y z ≡ z
 last_at true y z h = cc
 last_at false y z h = refl
 
-further : (used : List (List ℕ)) (base : List ℕ) (n j k : ℕ) → j ≤ k → has_name used (first_free used base n j) ≡ false → first_free used base n k ≡ first_free used base n j
+further : (used : List (List ℕ)) (base : List ℕ) (n j k : ℕ) → j ≤ k → has_name used (first_free used base n j) ≡ false →
+    first_free used base n k ≡ first_free used base n j
 further used base n zero zero h u = refl
 further used base n zero (suc k) h u = last_at (has_name used (numbered base n)) (first_free used base (n + 1) k) (numbered base n) u
 further used base n (suc j) zero h u = absurd (omega (arith, h))
@@ -169,7 +172,8 @@ further used base n (suc j) (suc k) h u =
     further_at (has_name used (numbered base n)) used base n (first_free used base (n + 1) j) (first_free used base (n + 1) k) refl
     (λ v. further used base (n + 1) j k (omega (arith, h)) v) u
 
-pub found_same : (used : List (List ℕ)) (base : List ℕ) (k : ℕ) → length used ≤ k → 2 + length used < 2 ^ 64 → first_free used base 2 k ≡ first_free used base 2 (length used)
+pub found_same : (used : List (List ℕ)) (base : List ℕ) (k : ℕ) → length used ≤ k → 2 + length used < 2 ^ 64 →
+    first_free used base 2 k ≡ first_free used base 2 (length used)
 found_same used base k h fits =
     let all : length used ≤ length used = omega arith in
     further used base 2 (length used) k h (first_free_unused used base 2 (length used) all fits)

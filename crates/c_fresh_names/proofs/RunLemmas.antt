@@ -36,7 +36,8 @@ pub all_in_file : (file own : List (List ℕ)) (base : List ℕ) (m n : ℕ) →
 all_in_file file own base m n h i a b = in_file file own (numbered base i) (h i a b)
 
 -- the search goes on behind a stretch
-skip : (used : List (List ℕ)) (base done : List ℕ) (e m d : ℕ) → m + d ≤ e → AreUsedFrom used base m (m + d) → first_free used base m (e - m) ≡ done → first_free used base (m + d) (e - (m + d)) ≡ done
+skip : (used : List (List ℕ)) (base done : List ℕ) (e m d : ℕ) → m + d ≤ e → AreUsedFrom used base m (m + d) → first_free used base m (e - m) ≡ done →
+    first_free used base (m + d) (e - (m + d)) ≡ done
 skip used base done e m zero le h w = let q : m ≡ m + zero = omega arith in subst (λ k. first_free used base k (e - k) ≡ done) q w
 skip used base done e m (suc d) le h w =
     let lt : m + d < e = omega (arith, le) in
@@ -45,7 +46,8 @@ skip used base done e m (suc d) le h w =
     let q : m + d + 1 ≡ m + suc d = omega arith in
     subst (λ k. first_free used base k (e - k) ≡ done) q more
 
-pub passed : (used : List (List ℕ)) (base done : List ℕ) (e m n : ℕ) → m ≤ n → n ≤ e → AreUsedFrom used base m n → first_free used base m (e - m) ≡ done → first_free used base n (e - n) ≡ done
+pub passed : (used : List (List ℕ)) (base done : List ℕ) (e m n : ℕ) → m ≤ n → n ≤ e → AreUsedFrom used base m n →
+    first_free used base m (e - m) ≡ done → first_free used base n (e - n) ≡ done
 passed used base done e m n a b h w =
     let q : m + (n - m) ≡ n = omega (arith, a) in
     subst (λ k. first_free used base k (e - k) ≡ done) q (skip used base done e m (n - m) (omega (arith, a, b)) (subst (AreUsedFrom used base m) (sym q) h) w)

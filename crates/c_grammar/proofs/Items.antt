@@ -57,55 +57,74 @@ other_by p.Target first after ps = Evaluate (At first (form_by p.Target ps))
 other_by p.Argument first after ps = Evaluate (At first (form_by p.Argument ps))
 other_by _ first after ps = Unread
 
-initialiser-content : (word : ℕ → List ℕ) (rule : Production) (first after : ℕ) (ps : List Part) → initialiser_in (content word rule first after ps) ≡ initialiser_by rule ps
+initialiser-content : (word : ℕ → List ℕ) (rule : Production) (first after : ℕ) (ps : List Part) →
+    initialiser_in (content word rule first after ps) ≡ initialiser_by rule ps
 initialiser-content word p.Initialiser first after ps = refl
 initialiser-content word _ first after ps = refl
 
-declarator-content : (word : ℕ → List ℕ) (rule : Production) (first after : ℕ) (ps : List Part) → declarator_in (content word rule first after ps) ≡ declarator_by rule ps
+declarator-content : (word : ℕ → List ℕ) (rule : Production) (first after : ℕ) (ps : List Part) →
+    declarator_in (content word rule first after ps) ≡ declarator_by rule ps
 declarator-content word p.Declarator first after ps = refl
 declarator-content word _ first after ps = refl
 
-declaration-content : (word : ℕ → List ℕ) (rule : Production) (first after : ℕ) (ps : List Part) → declaration_in (content word rule first after ps) ≡ declaration_by rule ps
+declaration-content : (word : ℕ → List ℕ) (rule : Production) (first after : ℕ) (ps : List Part) →
+    declaration_in (content word rule first after ps) ≡ declaration_by rule ps
 declaration-content word p.Local first after ps = refl
 declaration-content word _ first after ps = refl
 
-label-content : (word : ℕ → List ℕ) (rule : Production) (first after : ℕ) (ps : List Part) → label_in (content word rule first after ps) ≡ label_by word rule first after ps
+label-content : (word : ℕ → List ℕ) (rule : Production) (first after : ℕ) (ps : List Part) →
+    label_in (content word rule first after ps) ≡ label_by word rule first after ps
 label-content word p.Label first after ps = refl
 label-content word _ first after ps = refl
 
-item-layer : (word : ℕ → List ℕ) (rule : Production) (first after : ℕ) (ps : List Part) → item_in (part_layer word (record { rule = rule; first = first; after = after; parts = ps })) ≡ item_by rule first after ps
+item-layer : (word : ℕ → List ℕ) (rule : Production) (first after : ℕ) (ps : List Part) →
+    item_in (part_layer word (record { rule = rule; first = first; after = after; parts = ps })) ≡ item_by rule first after ps
 item-layer word p.Statement first after ps = refl
 item-layer word p.Local first after ps = refl
 item-layer word _ first after ps = refl
 
-plain-layer : (word : ℕ → List ℕ) (rule : Production) (first after : ℕ) (ps : List Part) → statement_in (part_layer word (record { rule = rule; first = first; after = after; parts = ps })) ≡ From first after (statement_by word rule ps)
+plain-layer : (word : ℕ → List ℕ) (rule : Production) (first after : ℕ) (ps : List Part) →
+    statement_in (part_layer word (record { rule = rule; first = first; after = after; parts = ps })) ≡ From first after (statement_by word rule ps)
 plain-layer word p.Plain first after ps = refl
 plain-layer word _ first after ps = refl
 
-other-layer : (word : ℕ → List ℕ) (rule : Production) (first after : ℕ) (ps : List Part) → other_statement (part_layer word (record { rule = rule; first = first; after = after; parts = ps })) ≡ other_by rule first after ps
+other-layer : (word : ℕ → List ℕ) (rule : Production) (first after : ℕ) (ps : List Part) →
+    other_statement (part_layer word (record { rule = rule; first = first; after = after; parts = ps })) ≡ other_by rule first after ps
 other-layer word p.Block first after ps = refl
 other-layer word _ first after ps = refl
 
-pub open_initialiser : (word : ℕ → List ℕ) (x : Syntax) → initialiser_in (part_of word x).content ≡ initialiser_by (out-Syntax x).rule (map (part_of word) (out-Syntax x).parts)
-open_initialiser word x = ap (λ (q : Part). initialiser_in q.content) (open_part word x) ∙ initialiser-content word (out-Syntax x).rule (out-Syntax x).first (out-Syntax x).after (map (part_of word) (out-Syntax x).parts)
+pub open_initialiser : (word : ℕ → List ℕ) (x : Syntax) → initialiser_in (part_of word x).content ≡ initialiser_by (out-Syntax x).rule
+    (map (part_of word) (out-Syntax x).parts)
+open_initialiser word x = ap (λ (q : Part). initialiser_in q.content) (open_part word x) ∙
+    initialiser-content word (out-Syntax x).rule (out-Syntax x).first (out-Syntax x).after (map (part_of word) (out-Syntax x).parts)
 
 pub open_declarator : (word : ℕ → List ℕ) (x : Syntax) → declarator_of word x ≡ declarator_by (out-Syntax x).rule (map (part_of word) (out-Syntax x).parts)
-open_declarator word x = ap (λ (q : Part). declarator_in q.content) (open_part word x) ∙ declarator-content word (out-Syntax x).rule (out-Syntax x).first (out-Syntax x).after (map (part_of word) (out-Syntax x).parts)
+open_declarator word x = ap (λ (q : Part). declarator_in q.content) (open_part word x) ∙
+    declarator-content word (out-Syntax x).rule (out-Syntax x).first (out-Syntax x).after (map (part_of word) (out-Syntax x).parts)
 
 pub open_declaration : (word : ℕ → List ℕ) (x : Syntax) → declaration_of word x ≡ declaration_by (out-Syntax x).rule (map (part_of word) (out-Syntax x).parts)
-open_declaration word x = ap (λ (q : Part). declaration_in q.content) (open_part word x) ∙ declaration-content word (out-Syntax x).rule (out-Syntax x).first (out-Syntax x).after (map (part_of word) (out-Syntax x).parts)
+open_declaration word x = ap (λ (q : Part). declaration_in q.content) (open_part word x) ∙
+    declaration-content word (out-Syntax x).rule (out-Syntax x).first (out-Syntax x).after (map (part_of word) (out-Syntax x).parts)
 
-pub open_label : (word : ℕ → List ℕ) (x : Syntax) → label_of word x ≡ label_by word (out-Syntax x).rule (out-Syntax x).first (out-Syntax x).after (map (part_of word) (out-Syntax x).parts)
-open_label word x = ap (λ (q : Part). label_in q.content) (open_part word x) ∙ label-content word (out-Syntax x).rule (out-Syntax x).first (out-Syntax x).after (map (part_of word) (out-Syntax x).parts)
+pub open_label : (word : ℕ → List ℕ) (x : Syntax) → label_of word x ≡ label_by word (out-Syntax x).rule (out-Syntax x).first (out-Syntax x).after
+    (map (part_of word) (out-Syntax x).parts)
+open_label word x = ap (λ (q : Part). label_in q.content) (open_part word x) ∙
+    label-content word (out-Syntax x).rule (out-Syntax x).first (out-Syntax x).after (map (part_of word) (out-Syntax x).parts)
 
-pub open_item : (word : ℕ → List ℕ) (x : Syntax) → item_of word x ≡ item_by (out-Syntax x).rule (out-Syntax x).first (out-Syntax x).after (map (part_of word) (out-Syntax x).parts)
-open_item word x = ap item_in (open_part word x) ∙ item-layer word (out-Syntax x).rule (out-Syntax x).first (out-Syntax x).after (map (part_of word) (out-Syntax x).parts)
+pub open_item : (word : ℕ → List ℕ) (x : Syntax) → item_of word x ≡ item_by (out-Syntax x).rule (out-Syntax x).first (out-Syntax x).after
+    (map (part_of word) (out-Syntax x).parts)
+open_item word x = ap item_in (open_part word x) ∙ item-layer word (out-Syntax x).rule (out-Syntax x).first (out-Syntax x).after
+    (map (part_of word) (out-Syntax x).parts)
 
-pub open_plain : (word : ℕ → List ℕ) (x : Syntax) → plain_of word x ≡ From (out-Syntax x).first (out-Syntax x).after (statement_by word (out-Syntax x).rule (map (part_of word) (out-Syntax x).parts))
-open_plain word x = ap statement_in (open_part word x) ∙ plain-layer word (out-Syntax x).rule (out-Syntax x).first (out-Syntax x).after (map (part_of word) (out-Syntax x).parts)
+pub open_plain : (word : ℕ → List ℕ) (x : Syntax) → plain_of word x ≡ From (out-Syntax x).first (out-Syntax x).after
+    (statement_by word (out-Syntax x).rule (map (part_of word) (out-Syntax x).parts))
+open_plain word x = ap statement_in (open_part word x) ∙ plain-layer word (out-Syntax x).rule (out-Syntax x).first (out-Syntax x).after
+    (map (part_of word) (out-Syntax x).parts)
 
-pub open_other : (word : ℕ → List ℕ) (x : Syntax) → other_statement (part_of word x) ≡ other_by (out-Syntax x).rule (out-Syntax x).first (out-Syntax x).after (map (part_of word) (out-Syntax x).parts)
-open_other word x = ap other_statement (open_part word x) ∙ other-layer word (out-Syntax x).rule (out-Syntax x).first (out-Syntax x).after (map (part_of word) (out-Syntax x).parts)
+pub open_other : (word : ℕ → List ℕ) (x : Syntax) → other_statement (part_of word x) ≡ other_by (out-Syntax x).rule (out-Syntax x).first
+    (out-Syntax x).after (map (part_of word) (out-Syntax x).parts)
+open_other word x = ap other_statement (open_part word x) ∙ other-layer word (out-Syntax x).rule (out-Syntax x).first (out-Syntax x).after
+    (map (part_of word) (out-Syntax x).parts)
 
 -- ---- parts that aren't there, and those behind a number of parts
 
@@ -114,7 +133,8 @@ at-none [] i h = refl
 at-none (q ∷ qs) zero h = absurd (omega arith)
 at-none (q ∷ qs) (suc i) h = at-none qs i (omega arith)
 
-pub local-map : (word : ℕ → List ℕ) (xs : List Syntax) (i : ℕ) (d : Syntax) → i < length xs → is_local (at (map (part_of word) xs) i).rule ≡ is_local (out-Syntax (get_or xs i d)).rule
+pub local-map : (word : ℕ → List ℕ) (xs : List Syntax) (i : ℕ) (d : Syntax) → i < length xs →
+    is_local (at (map (part_of word) xs) i).rule ≡ is_local (out-Syntax (get_or xs i d)).rule
 local-map word xs i d h = ap (λ (q : Part). is_local q.rule) (at-map word xs i d h) ∙ ap is_local (part-rule word (get_or xs i d))
 
 pub first-none : (word : ℕ → List ℕ) (xs : List Syntax) (i : ℕ) → length xs ≤ i → first_at (map (part_of word) xs) i ≡ 0
@@ -126,7 +146,8 @@ token-none word xs i h = ap (λ (q : Part). is_token q.rule) (at-none (map (part
 pub rest-whole : (n : ℕ) (xs : List Syntax) → take (length xs - n) (drop n xs) ≡ drop n xs
 rest-whole n xs = take-whole (length xs - n) (drop n xs) (rw length-drop (omega arith))
 
-pub local-behind : (word : ℕ → List ℕ) (xs : List Syntax) (d : Syntax) → 0 < length xs → is_local (out-Syntax (get_or xs 0 d)).rule ≡ true → behind_start (map (part_of word) xs) ≡ map (part_of word) (take (length xs - 1) (drop 1 xs))
+pub local-behind : (word : ℕ → List ℕ) (xs : List Syntax) (d : Syntax) → 0 < length xs → is_local (out-Syntax (get_or xs 0 d)).rule ≡ true →
+    behind_start (map (part_of word) xs) ≡ map (part_of word) (take (length xs - 1) (drop 1 xs))
 local-behind word xs d h e = rw (local-map word xs 0 d h, e, rest-whole 1 xs, drop-map (part_of word) 1 xs) refl
 
 pub no-statement : (word : ℕ → List ℕ) (xs : List Syntax) → length xs ≡ 0 → plain_statement word (map (part_of word) xs) ≡ Unread
@@ -138,14 +159,16 @@ pub keyword-statement : (word : ℕ → List ℕ) (xs : List Syntax) (d : Syntax
 keyword-statement word [] d h t = absurd (omega arith)
 keyword-statement word (x ∷ xs) d h t =
     let ps : List Part = map (part_of word) (x ∷ xs) in
-    ap (λ (b : Bool). cond b (keyword_statement (keyword_class (word (first_at ps 0))) ps) (other_statement (part_of word x))) (ap is_token (part-rule word x) ∙ t)
+    ap (λ (b : Bool). cond b (keyword_statement (keyword_class (word (first_at ps 0))) ps) (other_statement (part_of word x)))
+    (ap is_token (part-rule word x) ∙ t)
 
 pub other-statement : (word : ℕ → List ℕ) (xs : List Syntax) (d : Syntax) → 0 < length xs → is_token (out-Syntax (get_or xs 0 d)).rule ≡ false
     → plain_statement word (map (part_of word) xs) ≡ other_statement (part_of word (get_or xs 0 d))
 other-statement word [] d h t = absurd (omega arith)
 other-statement word (x ∷ xs) d h t =
     let ps : List Part = map (part_of word) (x ∷ xs) in
-    ap (λ (b : Bool). cond b (keyword_statement (keyword_class (word (first_at ps 0))) ps) (other_statement (part_of word x))) (ap is_token (part-rule word x) ∙ t)
+    ap (λ (b : Bool). cond b (keyword_statement (keyword_class (word (first_at ps 0))) ps) (other_statement (part_of word x)))
+    (ap is_token (part-rule word x) ∙ t)
 
 -- ---- labels
 
@@ -163,7 +186,9 @@ without (Some l) rest h = cc
 
 pub any_label : (word : ℕ → List ℕ) (xs : List Syntax) → list_any (λ x. is_some (label_of word x)) xs ≡ false → labels_of word xs ≡ []
 any_label word [] h = refl
-any_label word (x ∷ xs) h = without (label_of word x) (labels_of word xs) (or-left (is_some (label_of word x)) (list_any (λ y. is_some (label_of word y)) xs) h) ∙ any_label word xs (or-right (is_some (label_of word x)) (list_any (λ y. is_some (label_of word y)) xs) h)
+any_label word (x ∷ xs) h = without (label_of word x) (labels_of word xs)
+    (or-left (is_some (label_of word x)) (list_any (λ y. is_some (label_of word y)) xs) h) ∙
+    any_label word xs (or-right (is_some (label_of word x)) (list_any (λ y. is_some (label_of word y)) xs) h)
 
 -- ---- the list of a construct
 
@@ -186,7 +211,8 @@ lone-labelled word (x ∷ xs) p first after h =
 pub labelled-body : (word : ℕ → List ℕ) (x : Syntax) (ls : List Syntax) (p : Syntax) → item_of word x ≡ States (labels_of word ls) (plain_of word p)
     → list_any (λ y. is_some (label_of word y)) ls ≡ true → body_of word x ≡ Lone (out-Syntax x).first (out-Syntax x).after (item_of word x)
 labelled-body word x ls p e h =
-    body-is word x ∙ ap (list_of_item (out-Syntax x).first (out-Syntax x).after) e ∙ lone-labelled word ls (plain_of word p) (out-Syntax x).first (out-Syntax x).after h
+    body-is word x ∙ ap (list_of_item (out-Syntax x).first (out-Syntax x).after) e ∙
+    lone-labelled word ls (plain_of word p) (out-Syntax x).first (out-Syntax x).after h
     ∙ sym (ap (Lone (out-Syntax x).first (out-Syntax x).after) e)
 
 lone-statement : (word : ℕ → List ℕ) (s : StatementLayer) (first after a b : ℕ) → ((f g : ℕ) (xs : Bor (List Syntax)) → s ≡ S.Block f g xs → ⊥)
@@ -195,11 +221,13 @@ lone-statement word (S.Block f g xs) first after a b h = absurd (h f g xs refl)
 lone-statement word _ first after a b h = refl
 
 -- and so is one that is no block
-pub plain-body : (word : ℕ → List ℕ) (x : Syntax) (ls : List Syntax) (p : Syntax) (s : StatementLayer) → item_of word x ≡ States (labels_of word ls) (plain_of word p)
+pub plain-body : (word : ℕ → List ℕ) (x : Syntax) (ls : List Syntax) (p : Syntax) (s : StatementLayer) →
+    item_of word x ≡ States (labels_of word ls) (plain_of word p)
     → list_any (λ y. is_some (label_of word y)) ls ≡ false → plain_of word p ≡ From (out-Syntax p).first (out-Syntax p).after (statement_form word s)
     → ((f g : ℕ) (xs : Bor (List Syntax)) → s ≡ S.Block f g xs → ⊥) → body_of word x ≡ Lone (out-Syntax x).first (out-Syntax x).after (item_of word x)
 plain-body word x ls p s e h f n =
-    let whole : item_of word x ≡ States [] (From (out-Syntax p).first (out-Syntax p).after (statement_form word s)) = e ∙ (λ i. States (any_label word ls h i) (f i)) in
+    let whole : item_of word x ≡ States [] (From (out-Syntax p).first (out-Syntax p).after (statement_form word s)) =
+    e ∙ (λ i. States (any_label word ls h i) (f i)) in
     body-is word x ∙ ap (list_of_item (out-Syntax x).first (out-Syntax x).after) whole
     ∙ lone-statement word s (out-Syntax x).first (out-Syntax x).after (out-Syntax p).first (out-Syntax p).after n
     ∙ sym (ap (Lone (out-Syntax x).first (out-Syntax x).after) whole)

@@ -16,7 +16,8 @@ use Rattle.c_grammar.specs.Weights.{weight, weights}
 use Rattle.c_grammar.specs.Views.{AreSmaller}
 
 -- what a syntax writes, by its production and what its parts write
-pub open_part : (word : ℕ → List ℕ) (x : Syntax) → part_of word x ≡ part_layer word (record { rule = (out-Syntax x).rule; first = (out-Syntax x).first; after = (out-Syntax x).after; parts = map (part_of word) (out-Syntax x).parts })
+pub open_part : (word : ℕ → List ℕ) (x : Syntax) → part_of word x ≡ part_layer word
+    (record { rule = (out-Syntax x).rule; first = (out-Syntax x).first; after = (out-Syntax x).after; parts = map (part_of word) (out-Syntax x).parts })
 unfolding part_of
 open_part word x = fold_out-Syntax Part (part_layer word) x
 
@@ -41,12 +42,15 @@ form-content word _ first after ps = refl
 
 -- the form of an expression, by its production and the parts of its node
 pub open_form : (word : ℕ → List ℕ) (x : Syntax) → form_in (part_of word x).content ≡ form_by (out-Syntax x).rule (map (part_of word) (out-Syntax x).parts)
-open_form word x = ap (λ (q : Part). form_in q.content) (open_part word x) ∙ form-content word (out-Syntax x).rule (out-Syntax x).first (out-Syntax x).after (map (part_of word) (out-Syntax x).parts)
+open_form word x = ap (λ (q : Part). form_in q.content) (open_part word x) ∙
+    form-content word (out-Syntax x).rule (out-Syntax x).first (out-Syntax x).after (map (part_of word) (out-Syntax x).parts)
 
-pub first-map : (word : ℕ → List ℕ) (xs : List Syntax) (i : ℕ) (d : Syntax) → i < length xs → first_at (map (part_of word) xs) i ≡ (out-Syntax (get_or xs i d)).first
+pub first-map : (word : ℕ → List ℕ) (xs : List Syntax) (i : ℕ) (d : Syntax) → i < length xs →
+    first_at (map (part_of word) xs) i ≡ (out-Syntax (get_or xs i d)).first
 first-map word xs i d h = ap (λ (q : Part). q.first) (at-map word xs i d h) ∙ part-first word (get_or xs i d)
 
-pub token-map : (word : ℕ → List ℕ) (xs : List Syntax) (i : ℕ) (d : Syntax) → i < length xs → token_at (map (part_of word) xs) i ≡ is_token (out-Syntax (get_or xs i d)).rule
+pub token-map : (word : ℕ → List ℕ) (xs : List Syntax) (i : ℕ) (d : Syntax) → i < length xs →
+    token_at (map (part_of word) xs) i ≡ is_token (out-Syntax (get_or xs i d)).rule
 token-map word xs i d h = ap (λ (q : Part). is_token q.rule) (at-map word xs i d h) ∙ ap is_token (part-rule word (get_or xs i d))
 
 -- the first tokens of parts
@@ -80,7 +84,8 @@ weight-at (x ∷ xs) (suc i) d h = let e : weight (get_or xs i d) ≤ weights xs
 pub weights-take : (n : ℕ) (xs : List Syntax) → weights (take n xs) ≤ weights xs
 weights-take zero xs = omega arith
 weights-take (suc n) [] = omega arith
-weights-take (suc n) (x ∷ xs) = let e : weights (take n xs) ≤ weights xs = weights-take n xs in rw (weights-cons x (take n xs), weights-cons x xs) (omega (arith, e))
+weights-take (suc n) (x ∷ xs) = let e : weights (take n xs) ≤ weights xs = weights-take n xs in
+    rw (weights-cons x (take n xs), weights-cons x xs) (omega (arith, e))
 
 pub weights-drop : (n : ℕ) (xs : List Syntax) → weights (drop n xs) ≤ weights xs
 weights-drop zero xs = omega arith
@@ -121,13 +126,15 @@ pub ruleset firsts = (part-first, part-rule)
 
 -- ---- the words of a type
 
-pub words_in : (word : ℕ → List ℕ) (x : Syntax) → (part_of word x).firsts ≡ words_of_type (out-Syntax x).rule (map (λ y. (out-Syntax y).first) (out-Syntax x).parts)
+pub words_in : (word : ℕ → List ℕ) (x : Syntax) → (part_of word x).firsts ≡ words_of_type (out-Syntax x).rule
+    (map (λ y. (out-Syntax y).first) (out-Syntax x).parts)
 words_in word x = ap (λ (q : Part). q.firsts) (open_part word x) ∙ ap (words_of_type (out-Syntax x).rule) (firsts-map word (out-Syntax x).parts)
 
 pub no_words : (rule : Production) (words : List ℕ) → (rule ≡ p.NumberType → ⊥) → words_of_type rule words ≡ []
 no_words p.NumberType words h = absurd (h refl)
 no_words _ words h = refl
 
-pub has_words : (word : ℕ → List ℕ) (xs : List Syntax) (w : List ℕ) → has_word word (map (λ x. (out-Syntax x).first) xs) w ≡ list_any (λ x. bytes_eq (word (out-Syntax x).first) w) xs
+pub has_words : (word : ℕ → List ℕ) (xs : List Syntax) (w : List ℕ) → has_word word (map (λ x. (out-Syntax x).first) xs) w ≡ list_any
+    (λ x. bytes_eq (word (out-Syntax x).first) w) xs
 has_words word [] w = refl
 has_words word (x ∷ xs) w = λ i. bytes_eq (word (out-Syntax x).first) w || has_words word xs w i

@@ -139,11 +139,14 @@ abbrev mutual
   plain_events level (Simple o) q = Outside ∷ optional_events o q
   plain_events level (If e s) q = statement_events (level_within level s) s (opened_by level s (Outside ∷ expression_events e (Outside ∷ Outside ∷ q)))
   plain_events level (IfElse e s t) q =
-      statement_events (level_within level t) t (opened_by level t (Outside ∷ statement_events (level_within level s) s (opened_by level s (Outside ∷ expression_events e (Outside ∷ Outside ∷ q)))))
+      statement_events (level_within level t) t
+      (opened_by level t (Outside ∷ statement_events (level_within level s) s (opened_by level s (Outside ∷ expression_events e (Outside ∷ Outside ∷ q)))))
   plain_events level (While e s) q = statement_events (level_within level s) s (opened_by level s (Outside ∷ expression_events e (Outside ∷ Outside ∷ q)))
-  plain_events level (DoWhile s e) q = Outside ∷ Outside ∷ expression_events e (Outside ∷ Outside ∷ statement_events (level_within level s) s (opened_by level s (Outside ∷ q)))
+  plain_events level (DoWhile s e) q = Outside ∷ Outside ∷ expression_events e
+      (Outside ∷ Outside ∷ statement_events (level_within level s) s (opened_by level s (Outside ∷ q)))
   plain_events level (For x t u s) q =
-      statement_events (level_within level s) s (opened_by level s (Outside ∷ optional_events u (Outside ∷ optional_events t (for_start_events x (Outside ∷ Outside ∷ q)))))
+      statement_events (level_within level s) s
+      (opened_by level s (Outside ∷ optional_events u (Outside ∷ optional_events t (for_start_events x (Outside ∷ Outside ∷ q)))))
   plain_events level (Switch e s) q = statement_events (level_within level s) s (opened_by level s (Outside ∷ expression_events e (Outside ∷ Outside ∷ q)))
   plain_events level Goto q = Outside ∷ Outside ∷ Outside ∷ q
   plain_events level Break q = Outside ∷ Outside ∷ q

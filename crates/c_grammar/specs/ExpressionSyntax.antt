@@ -85,14 +85,16 @@ abbrev mutual
   expression_parts at (More a e) = assignment_node at a ∷ leaf (assignment_end at a) ∷ expression_parts (assignment_end at a + 1) e
 
   pub assignment_node : ℕ → Assignment → Syntax
-  assignment_node at (To t m a) = let x = target_end at t in node p.Assignment at (assignment_end (x + 1) a) (target_node at t ∷ leaf x ∷ assignment_node (x + 1) a ∷ [])
+  assignment_node at (To t m a) = let x = target_end at t in node p.Assignment at (assignment_end (x + 1) a)
+      (target_node at t ∷ leaf x ∷ assignment_node (x + 1) a ∷ [])
   assignment_node at (Value d) = node p.Assignment at (conditional_end at d) (conditional_node at d ∷ [])
 
   pub conditional_node : ℕ → Conditional → Syntax
   conditional_node at (Choose b e d) =
       let x = binary_end at b in
       let y = expression_end (x + 1) e in
-      node p.Conditional at (conditional_end (y + 1) d) (binary_node at b ∷ leaf x ∷ node p.Expression (x + 1) (expression_end (x + 1) e) (expression_parts (x + 1) e) ∷ leaf y ∷ conditional_node (y + 1) d ∷ [])
+      node p.Conditional at (conditional_end (y + 1) d) (binary_node at b ∷ leaf x ∷ node p.Expression (x + 1) (expression_end (x + 1) e)
+      (expression_parts (x + 1) e) ∷ leaf y ∷ conditional_node (y + 1) d ∷ [])
   conditional_node at (Only b) = node p.Conditional at (binary_end at b) (binary_node at b ∷ [])
 
   pub binary_node : ℕ → Binary → Syntax
@@ -102,8 +104,10 @@ abbrev mutual
   pub unary_parts : ℕ → Unary → List Syntax
   unary_parts at (Prefixed m u) = leaf at ∷ node p.Unary (at + 1) (unary_end (at + 1) u) (unary_parts (at + 1) u) ∷ []
   unary_parts at (StepTo t) = leaf at ∷ target_node (at + 1) t ∷ []
-  unary_parts at (CastTo n u) = let x = type_end (at + 1) n in leaf at ∷ type_node (at + 1) n ∷ leaf x ∷ node p.Unary (x + 1) (unary_end (x + 1) u) (unary_parts (x + 1) u) ∷ []
-  unary_parts at (CastVoid u) = leaf at ∷ leaf (at + 1) ∷ leaf (at + 1 + 1) ∷ node p.Unary (at + 1 + 1 + 1) (unary_end (at + 1 + 1 + 1) u) (unary_parts (at + 1 + 1 + 1) u) ∷ []
+  unary_parts at (CastTo n u) = let x = type_end (at + 1) n in leaf at ∷ type_node (at + 1) n ∷ leaf x ∷ node p.Unary (x + 1) (unary_end (x + 1) u)
+      (unary_parts (x + 1) u) ∷ []
+  unary_parts at (CastVoid u) = leaf at ∷ leaf (at + 1) ∷ leaf (at + 1 + 1) ∷ node p.Unary (at + 1 + 1 + 1) (unary_end (at + 1 + 1 + 1) u)
+      (unary_parts (at + 1 + 1 + 1) u) ∷ []
   unary_parts at (Place t) = node p.Postfix at (target_end at t) (target_node at t ∷ []) ∷ []
   unary_parts at (StepAfter t) = node p.Postfix at (target_end at t + 1) (target_node at t ∷ leaf (target_end at t) ∷ []) ∷ []
   unary_parts at CallNone = node p.Postfix at (at + 1 + 1 + 1) (leaf at ∷ leaf (at + 1) ∷ leaf (at + 1 + 1) ∷ []) ∷ []
@@ -112,11 +116,13 @@ abbrev mutual
       node p.Postfix at (x + 1) (leaf at ∷ leaf (at + 1) ∷ arguments_parts (at + 1 + 1) xs ++ leaf x ∷ []) ∷ []
   unary_parts at Number = node p.Postfix at (at + 1) (leaf at ∷ []) ∷ []
   unary_parts at Character = node p.Postfix at (at + 1) (leaf at ∷ []) ∷ []
-  unary_parts at (Within e) = let x = expression_end (at + 1) e in node p.Postfix at (x + 1) (leaf at ∷ node p.Expression (at + 1) (expression_end (at + 1) e) (expression_parts (at + 1) e) ∷ leaf x ∷ []) ∷ []
+  unary_parts at (Within e) = let x = expression_end (at + 1) e in node p.Postfix at (x + 1)
+      (leaf at ∷ node p.Expression (at + 1) (expression_end (at + 1) e) (expression_parts (at + 1) e) ∷ leaf x ∷ []) ∷ []
 
   pub target_node : ℕ → Target → Syntax
   target_node at Variable = node p.Target at (at + 1) (leaf at ∷ [])
-  target_node at (Cell e) = let x = expression_end (at + 1 + 1) e in node p.Target at (x + 1) (leaf at ∷ leaf (at + 1) ∷ node p.Expression (at + 1 + 1) (expression_end (at + 1 + 1) e) (expression_parts (at + 1 + 1) e) ∷ leaf x ∷ [])
+  target_node at (Cell e) = let x = expression_end (at + 1 + 1) e in node p.Target at (x + 1)
+      (leaf at ∷ leaf (at + 1) ∷ node p.Expression (at + 1 + 1) (expression_end (at + 1 + 1) e) (expression_parts (at + 1 + 1) e) ∷ leaf x ∷ [])
   target_node at (Round t) = let x = target_end (at + 1) t in node p.Target at (x + 1) (leaf at ∷ target_node (at + 1) t ∷ leaf x ∷ [])
 
   pub arguments_parts : ℕ → Arguments → List Syntax

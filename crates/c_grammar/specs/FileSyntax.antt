@@ -101,7 +101,8 @@ function_node at (Defined static n xs b) =
     let w = word_end at static in
     let x = result_end w n in
     let y = parameters_end (x + 1 + 1) xs in
-    node p.Function at (body_end (y + 1) b) (word_parts at static ++ result_node w n ∷ leaf x ∷ leaf (x + 1) ∷ parameters_node (x + 1 + 1) xs ∷ leaf y ∷ body_node (y + 1) b ∷ [])
+    node p.Function at (body_end (y + 1) b) (word_parts at static ++ result_node w n ∷ leaf x ∷ leaf (x + 1) ∷ parameters_node (x + 1 + 1) xs ∷ leaf
+    y ∷ body_node (y + 1) b ∷ [])
 
 abbrev pub top_node : ℕ → Top → Syntax
 top_node at Line = leaf at

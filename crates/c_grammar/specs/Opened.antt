@@ -19,7 +19,10 @@ abbrev pub StandsAt : ℕ → ℕ → Syntax → Type 0
 StandsAt first after x = ((out-Syntax x).first ≡ first) × ((out-Syntax x).after ≡ after)
 
 pub node_stands : (rule : Production) (first after : ℕ) (parts : List Syntax) → StandsAt first after (node rule first after parts)
-node_stands rule first after parts = (ap (λ (s : Syntax-F Syntax). s.first) (out_node rule first after parts), ap (λ (s : Syntax-F Syntax). s.after) (out_node rule first after parts))
+node_stands rule first after parts = (
+  ap (λ (s : Syntax-F Syntax). s.first) (out_node rule first after parts),
+  ap (λ (s : Syntax-F Syntax). s.after) (out_node rule first after parts),
+)
 
 abbrev pub is_of : Production → Syntax → Type 0
 is_of rule x = (out-Syntax x).rule ≡ rule
@@ -27,7 +30,8 @@ is_of rule x = (out-Syntax x).rule ≡ rule
 pub node_is_of : (rule : Production) (first after : ℕ) (parts : List Syntax) → is_of rule (node rule first after parts)
 node_is_of rule first after parts = ap (λ (s : Syntax-F Syntax). s.rule) (out_node rule first after parts)
 
-pub innermost_stands : (base : Production) (is_name : Bool) (first after : ℕ) (parts : List Syntax) → StandsAt first after (innermost base is_name first after parts)
+pub innermost_stands : (base : Production) (is_name : Bool) (first after : ℕ) (parts : List Syntax) →
+    StandsAt first after (innermost base is_name first after parts)
 innermost_stands p.Target true first after [] = node_stands p.Target first after (leaf first ∷ [])
 innermost_stands p.Target true first after (x ∷ xs) = node_stands p.Target first after (x ∷ xs)
 innermost_stands base is_name first after parts = node_stands base first after parts
@@ -103,7 +107,8 @@ raised_stands p.Expression base first after x h = expression_stands base first a
 raised_stands p.Argument base first after x h = argument_stands base first after x h
 raised_stands _ base first after x h = h
 
-pub raised_is_of : (top base : Production) (first after : ℕ) (x : Syntax) → (is_level top ≡ true) ⊎ (top ≡ base) → is_of base x → is_of top (raised top base first after x)
+pub raised_is_of : (top base : Production) (first after : ℕ) (x : Syntax) → (is_level top ≡ true) ⊎ (top ≡ base) → is_of base x →
+    is_of top (raised top base first after x)
 raised_is_of p.Postfix base first after x c h = postfix_is_of base first after x h
 raised_is_of p.Unary base first after x c h = unary_is_of base first after x h
 raised_is_of p.Binary base first after x c h = binary_is_of base first after x h
@@ -115,14 +120,19 @@ raised_is_of p.Target base first after x (inr e) h = h ∙ sym e
 raised_is_of _ base first after x (inl e) h = let y : false ≡ true = e in absurd cc
 raised_is_of _ base first after x (inr e) h = h ∙ sym e
 
-pub shown_stands : (top base : Production) (is_name : Bool) (first after : ℕ) (parts : List Syntax) → StandsAt first after (shown top base is_name first after parts)
-shown_stands top base is_name first after parts = raised_stands top base first after (innermost base is_name first after parts) (innermost_stands base is_name first after parts)
+pub shown_stands : (top base : Production) (is_name : Bool) (first after : ℕ) (parts : List Syntax) →
+    StandsAt first after (shown top base is_name first after parts)
+shown_stands top base is_name first after parts = raised_stands top base first after (innermost base is_name first after parts)
+    (innermost_stands base is_name first after parts)
 
-pub shown_is_of : (top base : Production) (is_name : Bool) (first after : ℕ) (parts : List Syntax) → (is_level top ≡ true) ⊎ (top ≡ base) → is_of top (shown top base is_name first after parts)
-shown_is_of top base is_name first after parts c = raised_is_of top base first after (innermost base is_name first after parts) c (innermost_is_of base is_name first after parts)
+pub shown_is_of : (top base : Production) (is_name : Bool) (first after : ℕ) (parts : List Syntax) → (is_level top ≡ true) ⊎ (top ≡ base) →
+    is_of top (shown top base is_name first after parts)
+shown_is_of top base is_name first after parts c = raised_is_of top base first after (innermost base is_name first after parts) c
+    (innermost_is_of base is_name first after parts)
 
 -- a level around a part is the level above it
-pub in_level : (rule top base : Production) (first after : ℕ) (x : Syntax) → is_below rule top ≡ true → (base ≡ rule → ⊥) → raised rule base first after x ≡ node rule first after (raised top base first after x ∷ [])
+pub in_level : (rule top base : Production) (first after : ℕ) (x : Syntax) → is_below rule top ≡ true → (base ≡ rule → ⊥) →
+    raised rule base first after x ≡ node rule first after (raised top base first after x ∷ [])
 in_level p.Postfix p.Target p.Postfix first after x h n = absurd (n refl)
 in_level p.Postfix p.Target base first after x h n = refl
 in_level p.Postfix p.Token p.Postfix first after x h n = absurd (n refl)
@@ -141,7 +151,8 @@ in_level p.Argument p.Assignment p.Argument first after x h n = absurd (n refl)
 in_level p.Argument p.Assignment base first after x h n = refl
 in_level _ _ base first after x h n = let y : false ≡ true = h in absurd cc
 
-pub parts_of_rule : (rule : Production) (is_name : Bool) (first after : ℕ) (parts : List Syntax) → keeps_parts rule ≡ true → (out-Syntax (shown rule rule is_name first after parts)).parts ≡ parts
+pub parts_of_rule : (rule : Production) (is_name : Bool) (first after : ℕ) (parts : List Syntax) → keeps_parts rule ≡ true →
+    (out-Syntax (shown rule rule is_name first after parts)).parts ≡ parts
 parts_of_rule p.Postfix is_name first after parts h = let y : false ≡ true = h in absurd cc
 parts_of_rule p.Unary is_name first after parts h = let y : false ≡ true = h in absurd cc
 parts_of_rule p.Binary is_name first after parts h = let y : false ≡ true = h in absurd cc
@@ -162,6 +173,8 @@ level_apart p.Expression e h = let y : false ≡ true = h in absurd cc
 level_apart p.Argument e h = let y : false ≡ true = h in absurd cc
 level_apart _ e h = let y : false ≡ true = e in absurd cc
 
-pub kept_parts : (top base : Production) (is_name : Bool) (first after : ℕ) (parts : List Syntax) → (is_level top ≡ true) ⊎ (top ≡ base) → keeps_parts top ≡ true → (out-Syntax (shown top base is_name first after parts)).parts ≡ parts
+pub kept_parts : (top base : Production) (is_name : Bool) (first after : ℕ) (parts : List Syntax) → (is_level top ≡ true) ⊎ (top ≡ base) →
+    keeps_parts top ≡ true → (out-Syntax (shown top base is_name first after parts)).parts ≡ parts
 kept_parts top base is_name first after parts (inl e) h = absurd (level_apart top e h)
-kept_parts top base is_name first after parts (inr e) h = subst (λ (b : Production). (out-Syntax (shown top b is_name first after parts)).parts ≡ parts) e (parts_of_rule top is_name first after parts h)
+kept_parts top base is_name first after parts (inr e) h =
+    subst (λ (b : Production). (out-Syntax (shown top b is_name first after parts)).parts ≡ parts) e (parts_of_rule top is_name first after parts h)

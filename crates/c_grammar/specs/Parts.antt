@@ -362,7 +362,14 @@ block_in q = elim q.content [ OfBlock xs ↦ Some (Braces q.first q.after xs) | 
 -- ( number-type | "void" ) name "(" params ")" ( ";" | block ), behind `static`
 abbrev pub function_of : Bool → List Part → Function
 function_of static ps =
-    record { static = static; words = result_words (at ps 0); name = first_at ps 1; parameters = parameters_in (at ps 3).content; body = block_in (at ps 5); counted = greatest ps }
+    record {
+      static = static;
+      words = result_words (at ps 0);
+      name = first_at ps 1;
+      parameters = parameters_in (at ps 3).content;
+      body = block_in (at ps 5);
+      counted = greatest ps;
+    }
 
 abbrev pub function : List Part → tops.Form
 function ps =

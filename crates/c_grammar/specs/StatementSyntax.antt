@@ -105,7 +105,8 @@ size_parts at (Sized d) = leaf at ∷ conditional_node (at + 1) d ∷ leaf (cond
 
 abbrev pub initialiser_parts : ℕ → Initialiser → List Syntax
 initialiser_parts at (OneValue a) = assignment_node at a ∷ []
-initialiser_parts at (ValueList a xs trailing) = leaf at ∷ assignment_node (at + 1) a ∷ rest_parts assignment_end assignment_node (assignment_end (at + 1) a) xs trailing
+initialiser_parts at (ValueList a xs trailing) = leaf at ∷ assignment_node (at + 1) a ∷ rest_parts assignment_end assignment_node
+    (assignment_end (at + 1) a) xs trailing
 
 abbrev pub initialiser_node : ℕ → Initialiser → Syntax
 initialiser_node at i = node p.Initialiser at (initialiser_end at i) (initialiser_parts at i)
@@ -124,7 +125,8 @@ local_node at (Locals constant n d ds) =
     let x = word_end at constant in
     let y = type_end x n in
     let z = more_end declarator_end (declarator_end y d) ds in
-    node p.Local at (z + 1) (word_parts at constant ++ type_node x n ∷ declarator_node y d ∷ more_parts declarator_end declarator_node (declarator_end y d) ds ++ leaf z ∷ [])
+    node p.Local at (z + 1) (word_parts at constant ++ type_node x n ∷ declarator_node y d ∷ more_parts declarator_end declarator_node
+    (declarator_end y d) ds ++ leaf z ∷ [])
 
 abbrev pub label_parts : ℕ → Label → List Syntax
 label_parts at NameLabel = leaf at ∷ leaf (at + 1) ∷ []
@@ -154,22 +156,28 @@ abbrev mutual
   pub plain_parts : ℕ → Plain → List Syntax
   plain_parts at (Compound b) = block_node at b ∷ []
   plain_parts at (Simple o) = optional_parts at o ++ leaf (optional_end at o) ∷ []
-  plain_parts at (If e s) = let x = expression_end (at + 1 + 1) e in leaf at ∷ leaf (at + 1) ∷ expression_node (at + 1 + 1) e ∷ leaf x ∷ node p.Statement (x + 1) (statement_end (x + 1) s) (statement_parts (x + 1) s) ∷ []
+  plain_parts at (If e s) = let x = expression_end (at + 1 + 1) e in leaf at ∷ leaf (at + 1) ∷ expression_node (at + 1 + 1) e ∷ leaf x ∷ node
+      p.Statement (x + 1) (statement_end (x + 1) s) (statement_parts (x + 1) s) ∷ []
   plain_parts at (IfElse e s t) =
       let x = expression_end (at + 1 + 1) e in
       let y = statement_end (x + 1) s in
-      leaf at ∷ leaf (at + 1) ∷ expression_node (at + 1 + 1) e ∷ leaf x ∷ node p.Statement (x + 1) (statement_end (x + 1) s) (statement_parts (x + 1) s) ∷ leaf y ∷ node p.Statement (y + 1) (statement_end (y + 1) t) (statement_parts (y + 1) t) ∷ []
-  plain_parts at (While e s) = let x = expression_end (at + 1 + 1) e in leaf at ∷ leaf (at + 1) ∷ expression_node (at + 1 + 1) e ∷ leaf x ∷ node p.Statement (x + 1) (statement_end (x + 1) s) (statement_parts (x + 1) s) ∷ []
+      leaf at ∷ leaf (at + 1) ∷ expression_node (at + 1 + 1) e ∷ leaf x ∷ node p.Statement (x + 1) (statement_end (x + 1) s)
+      (statement_parts (x + 1) s) ∷ leaf y ∷ node p.Statement (y + 1) (statement_end (y + 1) t) (statement_parts (y + 1) t) ∷ []
+  plain_parts at (While e s) = let x = expression_end (at + 1 + 1) e in
+      leaf at ∷ leaf (at + 1) ∷ expression_node (at + 1 + 1) e ∷ leaf x ∷ node p.Statement (x + 1) (statement_end (x + 1) s) (statement_parts (x + 1) s) ∷ []
   plain_parts at (DoWhile s e) =
       let x = statement_end (at + 1) s in
       let y = expression_end (x + 1 + 1) e in
-      leaf at ∷ node p.Statement (at + 1) (statement_end (at + 1) s) (statement_parts (at + 1) s) ∷ leaf x ∷ leaf (x + 1) ∷ expression_node (x + 1 + 1) e ∷ leaf y ∷ leaf (y + 1) ∷ []
+      leaf at ∷ node p.Statement (at + 1) (statement_end (at + 1) s) (statement_parts (at + 1) s) ∷ leaf x ∷ leaf (x + 1) ∷ expression_node
+      (x + 1 + 1) e ∷ leaf y ∷ leaf (y + 1) ∷ []
   plain_parts at (For f t u s) =
       let x = for_start_end (at + 1 + 1) f in
       let y = optional_end x t in
       let z = optional_end (y + 1) u in
-      leaf at ∷ leaf (at + 1) ∷ for_start_parts (at + 1 + 1) f ++ optional_parts x t ++ leaf y ∷ optional_parts (y + 1) u ++ leaf z ∷ node p.Statement (z + 1) (statement_end (z + 1) s) (statement_parts (z + 1) s) ∷ []
-  plain_parts at (Switch e s) = let x = expression_end (at + 1 + 1) e in leaf at ∷ leaf (at + 1) ∷ expression_node (at + 1 + 1) e ∷ leaf x ∷ node p.Statement (x + 1) (statement_end (x + 1) s) (statement_parts (x + 1) s) ∷ []
+      leaf at ∷ leaf (at + 1) ∷ for_start_parts (at + 1 + 1) f ++ optional_parts x t ++ leaf y ∷ optional_parts (y + 1) u ++
+      leaf z ∷ node p.Statement (z + 1) (statement_end (z + 1) s) (statement_parts (z + 1) s) ∷ []
+  plain_parts at (Switch e s) = let x = expression_end (at + 1 + 1) e in
+      leaf at ∷ leaf (at + 1) ∷ expression_node (at + 1 + 1) e ∷ leaf x ∷ node p.Statement (x + 1) (statement_end (x + 1) s) (statement_parts (x + 1) s) ∷ []
   plain_parts at Goto = leaf at ∷ leaf (at + 1) ∷ leaf (at + 1 + 1) ∷ []
   plain_parts at Break = leaf at ∷ leaf (at + 1) ∷ []
   plain_parts at Continue = leaf at ∷ leaf (at + 1) ∷ []

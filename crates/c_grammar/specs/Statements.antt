@@ -105,7 +105,8 @@ abbrev pub declarator_tokens : Declarator → List Class → List Class
 declarator_tokens (Declared size value) r = c.Name ∷ size_tokens size (value_tokens value r)
 
 abbrev pub local_tokens : Local → List Class → List Class
-local_tokens (Locals constant n d ds) r = word_tokens c.Const constant (type_tokens n (declarator_tokens d (more_tokens declarator_tokens ds (c.Semicolon ∷ r))))
+local_tokens (Locals constant n d ds) r = word_tokens c.Const constant
+    (type_tokens n (declarator_tokens d (more_tokens declarator_tokens ds (c.Semicolon ∷ r))))
 
 abbrev pub label_tokens : Label → List Class → List Class
 label_tokens NameLabel r = c.Name ∷ c.Colon ∷ r

@@ -29,7 +29,13 @@ enumerator_form word e = record { name = e.name; value = option_map (λ x. term_
 
 abbrev pub parameter_form : (ℕ → List ℕ) → ParameterLayer → Parameter
 parameter_form word x =
-    record { first = x.first; constant = x.constant; words = elim x.kind [ Some k ↦ words_in word k.now | None ↦ [] ]; name = x.name; size = size_form word x.size }
+    record {
+      first = x.first;
+      constant = x.constant;
+      words = elim x.kind [ Some k ↦ words_in word k.now | None ↦ [] ];
+      name = x.name;
+      size = size_form word x.size;
+    }
 
 abbrev pub function_form : (ℕ → List ℕ) → FunctionLayer → Function
 function_form word f =

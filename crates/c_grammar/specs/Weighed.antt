@@ -16,7 +16,8 @@ unfolding weight
 open_weight x = fold_out-Syntax ℕ (λ s. total s.parts + 1) x
 
 pub weight_node : (rule : Production) (first after : ℕ) (parts : List Syntax) → weight (node rule first after parts) ≡ weights parts + 1
-weight_node rule first after parts = open_weight (node rule first after parts) ∙ ap (λ (s : Syntax-F Syntax). weights s.parts + 1) (out-roll-Syntax (record { rule = rule; first = first; after = after; parts = parts }))
+weight_node rule first after parts = open_weight (node rule first after parts) ∙
+    ap (λ (s : Syntax-F Syntax). weights s.parts + 1) (out-roll-Syntax (record { rule = rule; first = first; after = after; parts = parts }))
 
 pub most_of_parts : (xs : List Syntax) → most (λ k. weight k + 1) xs ≤ weights xs + 1
 most_of_parts [] = omega arith
@@ -26,7 +27,8 @@ most_of_parts (x ∷ xs) = omega (arith, most_of_parts xs)
 pub weight_around : (rule : Production) (first after : ℕ) (x : Syntax) → weight x ≤ weight (node rule first after (x ∷ []))
 weight_around rule first after x = omega (arith, weight_node rule first after (x ∷ []))
 
-pub weight_innermost : (base : Production) (is_name : Bool) (first after : ℕ) (parts : List Syntax) → weights parts + 1 ≤ weight (innermost base is_name first after parts)
+pub weight_innermost : (base : Production) (is_name : Bool) (first after : ℕ) (parts : List Syntax) →
+    weights parts + 1 ≤ weight (innermost base is_name first after parts)
 weight_innermost p.Target true first after [] = omega (arith, weight_node p.Target first after (leaf first ∷ []))
 weight_innermost p.Target true first after (x ∷ xs) = omega (arith, weight_node p.Target first after (x ∷ xs))
 weight_innermost base is_name first after parts = omega (arith, weight_node base first after parts)
@@ -45,19 +47,38 @@ weight_in_binary base first after x = omega (arith, weight_in_unary base first a
 
 pub weight_in_conditional : (base : Production) (first after : ℕ) (x : Syntax) → weight x ≤ weight (in_conditional base first after x)
 weight_in_conditional p.Conditional first after x = omega arith
-weight_in_conditional base first after x = omega (arith, weight_in_binary base first after x, weight_around p.Conditional first after (in_binary base first after x))
+weight_in_conditional base first after x = omega (
+  arith,
+  weight_in_binary base first after x,
+  weight_around p.Conditional first after
+      (in_binary base first after x),
+)
 
 pub weight_in_assignment : (base : Production) (first after : ℕ) (x : Syntax) → weight x ≤ weight (in_assignment base first after x)
 weight_in_assignment p.Assignment first after x = omega arith
-weight_in_assignment base first after x = omega (arith, weight_in_conditional base first after x, weight_around p.Assignment first after (in_conditional base first after x))
+weight_in_assignment base first after x = omega (
+  arith,
+  weight_in_conditional base first after x,
+  weight_around p.Assignment first after
+      (in_conditional base first after x),
+)
 
 pub weight_in_expression : (base : Production) (first after : ℕ) (x : Syntax) → weight x ≤ weight (in_expression base first after x)
 weight_in_expression p.Expression first after x = omega arith
-weight_in_expression base first after x = omega (arith, weight_in_assignment base first after x, weight_around p.Expression first after (in_assignment base first after x))
+weight_in_expression base first after x = omega (
+  arith,
+  weight_in_assignment base first after x,
+  weight_around p.Expression first after
+      (in_assignment base first after x),
+)
 
 pub weight_in_argument : (base : Production) (first after : ℕ) (x : Syntax) → weight x ≤ weight (in_argument base first after x)
 weight_in_argument p.Argument first after x = omega arith
-weight_in_argument base first after x = omega (arith, weight_in_assignment base first after x, weight_around p.Argument first after (in_assignment base first after x))
+weight_in_argument base first after x = omega (
+  arith,
+  weight_in_assignment base first after x,
+  weight_around p.Argument first after (in_assignment base first after x),
+)
 
 pub weight_raised : (top base : Production) (first after : ℕ) (x : Syntax) → weight x ≤ weight (raised top base first after x)
 weight_raised p.Postfix base first after x = weight_in_postfix base first after x
@@ -69,6 +90,12 @@ weight_raised p.Expression base first after x = weight_in_expression base first 
 weight_raised p.Argument base first after x = weight_in_argument base first after x
 weight_raised _ base first after x = omega arith
 
-pub parts_weigh : (top base : Production) (is_name : Bool) (first after : ℕ) (parts : List Syntax) → most (λ k. weight k + 1) parts ≤ weight (shown top base is_name first after parts)
+pub parts_weigh : (top base : Production) (is_name : Bool) (first after : ℕ) (parts : List Syntax) →
+    most (λ k. weight k + 1) parts ≤ weight (shown top base is_name first after parts)
 parts_weigh top base is_name first after parts =
-    omega (arith, most_of_parts parts, weight_innermost base is_name first after parts, weight_raised top base first after (innermost base is_name first after parts))
+    omega (
+      arith,
+      most_of_parts parts,
+      weight_innermost base is_name first after parts,
+      weight_raised top base first after (innermost base is_name first after parts),
+    )

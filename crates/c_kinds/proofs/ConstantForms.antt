@@ -11,7 +11,8 @@ use Rattle.c_tree.specs.ExpressionTrees.{expression_tree, node_tree}
 use Rattle.c_tree.proofs.ExpressionLaws.{expression-parts, node-Number, node-Character, node-EnumName, node-Text, node-Array, node-Read, node-Unary, node-Cast, node-Binary, node-Conditional, node-Assign, node-Update, node-Count, node-Comma, node-Call}
 use Rattle.c_kinds.specs.Constants.{is_constant, is_constant_node}
 
-constant_at : (e : Expression) (n : Node) → (out-Expression e).node ≡ n → is_constant (expression_tree e) ≡ is_constant_node (out-Expression e).kind (node_tree n)
+constant_at : (e : Expression) (n : Node) → (out-Expression e).node ≡ n →
+    is_constant (expression_tree e) ≡ is_constant_node (out-Expression e).kind (node_tree n)
 constant_at e n h = ap is_constant (expression-parts e) ∙ ap (λ n. is_constant_node (out-Expression e).kind (node_tree n)) h
 
 pub constant-Number : (e : Expression) (v : ℤ) → (out-Expression e).node ≡ Number v → is_constant (expression_tree e) ≡ true
@@ -23,10 +24,12 @@ constant-Character e b h = constant_at e (Character b) h ∙ ap (is_constant_nod
 pub constant-EnumName : (e : Expression) (m : List ℕ) (v : ℤ) → (out-Expression e).node ≡ EnumName m v → is_constant (expression_tree e) ≡ true
 constant-EnumName e m v h = constant_at e (EnumName m v) h ∙ ap (is_constant_node (out-Expression e).kind) (node-EnumName m v)
 
-pub constant-Unary : (e : Expression) (op : UnaryOp) (a : Expression) → (out-Expression e).node ≡ Unary op a → is_constant (expression_tree e) ≡ is_constant (expression_tree a)
+pub constant-Unary : (e : Expression) (op : UnaryOp) (a : Expression) → (out-Expression e).node ≡ Unary op a →
+    is_constant (expression_tree e) ≡ is_constant (expression_tree a)
 constant-Unary e op a h = constant_at e (Unary op a) h ∙ ap (is_constant_node (out-Expression e).kind) (node-Unary op a)
 
-pub constant-Cast : (e a : Expression) → (out-Expression e).node ≡ Cast a → is_constant (expression_tree e) ≡ is_some (out-Expression e).kind && is_constant (expression_tree a)
+pub constant-Cast : (e a : Expression) → (out-Expression e).node ≡ Cast a →
+    is_constant (expression_tree e) ≡ is_some (out-Expression e).kind && is_constant (expression_tree a)
 constant-Cast e a h = constant_at e (Cast a) h ∙ ap (is_constant_node (out-Expression e).kind) (node-Cast a)
 
 pub constant-Binary : (e : Expression) (op : BinaryOp) (a b : Expression) → (out-Expression e).node ≡ Binary op a b
@@ -49,15 +52,22 @@ not_constant e h1 h2 h3 h4 h5 h6 h7 = put (out-Node (out-Expression e).node) (sy
   put (Open.Number v) i = absurd (h1 v (i ∙ rolls-Number v))
   put (Open.Character b) i = absurd (h2 b (i ∙ rolls-Character b))
   put (Open.EnumName m v) i = absurd (h3 m v (i ∙ rolls-EnumName m v))
-  put (Open.Text bs) i = constant_at e (roll-Node (Open.Text bs)) i ∙ ap (is_constant_node (out-Expression e).kind) (ap node_tree (rolls-Text bs) ∙ node-Text bs)
-  put (Open.Array h) i = constant_at e (roll-Node (Open.Array h)) i ∙ ap (is_constant_node (out-Expression e).kind) (ap node_tree (rolls-Array h) ∙ node-Array h)
+  put (Open.Text bs) i = constant_at e (roll-Node (Open.Text bs)) i ∙ ap (is_constant_node (out-Expression e).kind)
+      (ap node_tree (rolls-Text bs) ∙ node-Text bs)
+  put (Open.Array h) i = constant_at e (roll-Node (Open.Array h)) i ∙ ap (is_constant_node (out-Expression e).kind)
+      (ap node_tree (rolls-Array h) ∙ node-Array h)
   put (Open.Read p) i = constant_at e (roll-Node (Open.Read p)) i ∙ ap (is_constant_node (out-Expression e).kind) (ap node_tree (rolls-Read p) ∙ node-Read p)
   put (Open.Unary op a) i = absurd (h4 op a (i ∙ rolls-Unary op a))
   put (Open.Cast a) i = absurd (h5 a (i ∙ rolls-Cast a))
   put (Open.Binary op a b) i = absurd (h6 op a b (i ∙ rolls-Binary op a b))
   put (Open.Conditional a b c) i = absurd (h7 a b c (i ∙ rolls-Conditional a b c))
-  put (Open.Assign p a) i = constant_at e (roll-Node (Open.Assign p a)) i ∙ ap (is_constant_node (out-Expression e).kind) (ap node_tree (rolls-Assign p a) ∙ node-Assign p a)
-  put (Open.Update op p a) i = constant_at e (roll-Node (Open.Update op p a)) i ∙ ap (is_constant_node (out-Expression e).kind) (ap node_tree (rolls-Update op p a) ∙ node-Update op p a)
-  put (Open.Count p up after) i = constant_at e (roll-Node (Open.Count p up after)) i ∙ ap (is_constant_node (out-Expression e).kind) (ap node_tree (rolls-Count p up after) ∙ node-Count p up after)
-  put (Open.Comma a b) i = constant_at e (roll-Node (Open.Comma a b)) i ∙ ap (is_constant_node (out-Expression e).kind) (ap node_tree (rolls-Comma a b) ∙ node-Comma a b)
-  put (Open.Call f xs) i = constant_at e (roll-Node (Open.Call f xs)) i ∙ ap (is_constant_node (out-Expression e).kind) (ap node_tree (rolls-Call f xs) ∙ node-Call f xs)
+  put (Open.Assign p a) i = constant_at e (roll-Node (Open.Assign p a)) i ∙
+      ap (is_constant_node (out-Expression e).kind) (ap node_tree (rolls-Assign p a) ∙ node-Assign p a)
+  put (Open.Update op p a) i = constant_at e (roll-Node (Open.Update op p a)) i ∙
+      ap (is_constant_node (out-Expression e).kind) (ap node_tree (rolls-Update op p a) ∙ node-Update op p a)
+  put (Open.Count p up after) i = constant_at e (roll-Node (Open.Count p up after)) i ∙
+      ap (is_constant_node (out-Expression e).kind) (ap node_tree (rolls-Count p up after) ∙ node-Count p up after)
+  put (Open.Comma a b) i = constant_at e (roll-Node (Open.Comma a b)) i ∙
+      ap (is_constant_node (out-Expression e).kind) (ap node_tree (rolls-Comma a b) ∙ node-Comma a b)
+  put (Open.Call f xs) i = constant_at e (roll-Node (Open.Call f xs)) i ∙
+      ap (is_constant_node (out-Expression e).kind) (ap node_tree (rolls-Call f xs) ∙ node-Call f xs)

@@ -22,12 +22,15 @@ by_bool false f g = g refl
 
 -- ---- one scope
 
-found_at : {X : Type 0} (q m : List ℕ) (b : X) (e : List ℕ × X) (es : Names X) (o : Ordering) → is_eq o ≡ bytes_eq m e.0 → found q (with_entry m b es) ≡ cond (bytes_eq q m) (Some b) (found q es)
-    → found q (match_ordering o ((m, b) ∷ e ∷ es) ((e.0, b) ∷ es) (e ∷ with_entry m b es)) ≡ cond (bytes_eq q m) (Some b) (cond (bytes_eq q e.0) (Some e.1) (found q es))
+found_at : {X : Type 0} (q m : List ℕ) (b : X) (e : List ℕ × X) (es : Names X) (o : Ordering) → is_eq o ≡ bytes_eq m e.0 →
+    found q (with_entry m b es) ≡ cond (bytes_eq q m) (Some b) (found q es)
+    → found q (match_ordering o ((m, b) ∷ e ∷ es) ((e.0, b) ∷ es) (e ∷ with_entry m b es)) ≡ cond (bytes_eq q m) (Some b)
+    (cond (bytes_eq q e.0) (Some e.1) (found q es))
 found_at q m b e es Less i h = refl
 found_at q m b e es Equal i h =
     let s = same_names m e.0 (sym i) in
-    subst (λ k. cond (bytes_eq q k) (Some b) (found q es) ≡ cond (bytes_eq q m) (Some b) (cond (bytes_eq q k) (Some e.1) (found q es))) s (either (bytes_eq q m) b e.1 (found q es))
+    subst (λ k. cond (bytes_eq q k) (Some b) (found q es) ≡ cond (bytes_eq q m) (Some b) (cond (bytes_eq q k) (Some e.1) (found q es))) s
+    (either (bytes_eq q m) b e.1 (found q es))
   where
     either : {X : Type 0} (t : Bool) (b c : X) (o : Option X) → cond t (Some b) o ≡ cond t (Some b) (cond t (Some c) o)
     either true b c o = refl
@@ -47,5 +50,6 @@ found_entry q m b [] = refl
 found_entry q m b (e ∷ es) = found_at q m b e es (name_cmp m e.0) (is_eq-slice_cmp m e.0) (found_entry q m b es)
 
 -- a new name
-pub found_new : {X : Type 0} (q m : List ℕ) (b : X) (s : Names X) → is_some (found m s) ≡ false → found q (cond (is_some (found m s)) s (with_entry m b s)) ≡ cond (bytes_eq q m) (Some b) (found q s)
+pub found_new : {X : Type 0} (q m : List ℕ) (b : X) (s : Names X) → is_some (found m s) ≡ false →
+    found q (cond (is_some (found m s)) s (with_entry m b s)) ≡ cond (bytes_eq q m) (Some b) (found q s)
 found_new q m b s h = subst (λ t. found q (cond t s (with_entry m b s)) ≡ cond (bytes_eq q m) (Some b) (found q s)) (sym h) (found_entry q m b s)

@@ -52,7 +52,8 @@ bound_by_none (s ∷ l) = bound_by_more 0 s l (omega arith) ∙ bound_by_none l
 bound_by_first : (n : ℕ) (l : List Step) (x : Step) → bound_by (suc n) (l ++ x ∷ []) ≡ cond (n == 0) (bound_in x) (bound_by n l)
 bound_by_first zero [] x = refl
 bound_by_first (suc n) [] x = ap (λ t. cond t (bound_in x) None) (grind (arith, nat_tests))
-bound_by_first n (s ∷ l) x = ap (λ m. cond (suc n == suc m) (bound_in s) (bound_by (suc n) (l ++ x ∷ []))) (length_more l) ∙ ap (λ o. cond (suc n == suc (suc (length l))) (bound_in s) o) (bound_by_first n l x) ∙ by n
+bound_by_first n (s ∷ l) x = ap (λ m. cond (suc n == suc m) (bound_in s) (bound_by (suc n) (l ++ x ∷ []))) (length_more l) ∙
+    ap (λ o. cond (suc n == suc (suc (length l))) (bound_in s) o) (bound_by_first n l x) ∙ by n
   where
     length_more : (l : List Step) → length (l ++ x ∷ []) ≡ suc (length l)
     length_more l = grind (arith, length-append)
@@ -60,7 +61,8 @@ bound_by_first n (s ∷ l) x = ap (λ m. cond (suc n == suc m) (bound_in s) (bou
     same : (n m : ℕ) → (suc n == suc m) ≡ (n == m)
     same n m = grind (arith, nat_tests)
 
-    by : (n : ℕ) → cond (suc n == suc (suc (length l))) (bound_in s) (cond (n == 0) (bound_in x) (bound_by n l)) ≡ cond (n == 0) (bound_in x) (cond (n == suc (length l)) (bound_in s) (bound_by n l))
+    by : (n : ℕ) → cond (suc n == suc (suc (length l))) (bound_in s) (cond (n == 0) (bound_in x) (bound_by n l)) ≡ cond (n == 0) (bound_in x)
+        (cond (n == suc (length l)) (bound_in s) (bound_by n l))
     by zero = ap (λ t. cond t (bound_in s) (bound_in x)) (other 1 (suc (length l)) (omega arith))
     by (suc n) =
         ap (λ t. cond (suc (suc n) == suc (suc (length l))) (bound_in s) (cond t (bound_in x) (bound_by (suc n) l))) (not_zero n)
@@ -74,7 +76,8 @@ bound_in_some (Some s) = bound_in s
 bound_by_next : (i : ℕ) (xs : List Step) → bound_by (suc i) (reverse xs) ≡ bound_in_some (slice_get xs i)
 bound_by_next i [] = refl
 bound_by_next zero (x ∷ xs) = ap (bound_by 1) (reverse-append (x ∷ []) xs) ∙ bound_by_first 0 (reverse xs) x
-bound_by_next (suc i) (x ∷ xs) = ap (bound_by (suc (suc i))) (reverse-append (x ∷ []) xs) ∙ bound_by_first (suc i) (reverse xs) x ∙ ap (λ t. cond t (bound_in x) (bound_by (suc i) (reverse xs))) (not_zero i) ∙ bound_by_next i xs
+bound_by_next (suc i) (x ∷ xs) = ap (bound_by (suc (suc i))) (reverse-append (x ∷ []) xs) ∙ bound_by_first (suc i) (reverse xs) x ∙
+    ap (λ t. cond t (bound_in x) (bound_by (suc i) (reverse xs))) (not_zero i) ∙ bound_by_next i xs
 
 -- the step with a number, in text order
 pub bound_by_place : (n : ℕ) (xs : List Step) → bound_by n (reverse xs) ≡ cond (n == 0) None (bound_in_some (slice_get xs (n - 1)))
@@ -87,7 +90,8 @@ bound_by_place (suc n) xs =
 abbrev pub bound_last : List ℕ → List Step → Option Binding
 bound_last q l = bound_by (last_bound q l) l
 
-bound_last_more : (q name : List ℕ) (before : ℕ) (b : Binding) (l : List Step) → bound_last q (Bind name before b ∷ l) ≡ cond (bytes_eq q name) (Some b) (bound_last q l)
+bound_last_more : (q name : List ℕ) (before : ℕ) (b : Binding) (l : List Step) →
+    bound_last q (Bind name before b ∷ l) ≡ cond (bytes_eq q name) (Some b) (bound_last q l)
 bound_last_more q name before b l = at (bytes_eq q name)
   where
     at : (t : Bool) → bound_by (cond t (suc (length l)) (last_bound q l)) (Bind name before b ∷ l) ≡ cond t (Some b) (bound_last q l)
@@ -107,11 +111,13 @@ has_scope (Bind name before b ∷ l) h = at (scopes_after l) (has_scope l h)
 
 -- ---- the nearest scope
 
-fresh_bound : (q m : List ℕ) (b : Binding) (ss : List Scope) → 0 < length ss → is_some (bound m ss) ≡ false → bound q (bind m b ss) ≡ cond (bytes_eq q m) (Some b) (bound q ss)
+fresh_bound : (q m : List ℕ) (b : Binding) (ss : List Scope) → 0 < length ss → is_some (bound m ss) ≡ false →
+    bound q (bind m b ss) ≡ cond (bytes_eq q m) (Some b) (bound q ss)
 fresh_bound q m b [] p h = absurd (omega arith)
 fresh_bound q m b (s ∷ ss) p h = found_new q m b s h
 
-fresh_look_up : (q m : List ℕ) (b : Binding) (ss : List Scope) → 0 < length ss → is_some (bound m ss) ≡ false → look_up (bind m b ss) q ≡ cond (bytes_eq q m) (Some b) (look_up ss q)
+fresh_look_up : (q m : List ℕ) (b : Binding) (ss : List Scope) → 0 < length ss → is_some (bound m ss) ≡ false →
+    look_up (bind m b ss) q ≡ cond (bytes_eq q m) (Some b) (look_up ss q)
 fresh_look_up q m b [] p h = absurd (omega arith)
 fresh_look_up q m b (s ∷ ss) p h = ap (λ o. or_else o (look_up ss q)) (found_new q m b s h) ∙ at (bytes_eq q m)
   where
@@ -136,12 +142,14 @@ near_some q l h = ap (λ t. cond t (bound_last q l) None) (past (last_entered l)
     past n m h = grind (arith, nat_tests)
 
 near_more : (q m : List ℕ) (before : ℕ) (b : Binding) (l : List Step) → bound_near q (Bind m before b ∷ l) ≡ cond (bytes_eq q m) (Some b) (bound_near q l)
-near_more q m before b l = ap (λ o. cond (nat_lt (last_entered l) (last_bound q (Bind m before b ∷ l))) o None) (bound_last_more q m before b l) ∙ at (bytes_eq q m)
+near_more q m before b l = ap (λ o. cond (nat_lt (last_entered l) (last_bound q (Bind m before b ∷ l))) o None) (bound_last_more q m before b l) ∙
+    at (bytes_eq q m)
   where
     past : (n m : ℕ) → n ≤ m → nat_lt n (suc m) ≡ true
     past n m h = grind (arith, nat_tests)
 
-    at : (t : Bool) → cond (nat_lt (last_entered l) (cond t (suc (length l)) (last_bound q l))) (cond t (Some b) (bound_last q l)) None ≡ cond t (Some b) (bound_near q l)
+    at : (t : Bool) → cond (nat_lt (last_entered l) (cond t (suc (length l)) (last_bound q l))) (cond t (Some b) (bound_last q l)) None ≡ cond t
+        (Some b) (bound_near q l)
     at true = ap (λ u. cond u (Some b) None) (past (last_entered l) (length l) (entered_within l))
     at false = refl
 
@@ -173,7 +181,8 @@ bound_some q [] h = absurd (omega arith)
 bound_some q (Enter outer ∷ l) h = ap is_some (bound_by_more (last_bound q l) (Enter outer) l (bound_within q l)) ∙ bound_some q l h
 bound_some q (Bind m before b ∷ l) h = ap is_some (bound_last_more q m before b l) ∙ at (bytes_eq q m) h (bound_some q l)
   where
-    at : (t : Bool) → 0 < cond t (suc (length l)) (last_bound q l) → (0 < last_bound q l → is_some (bound_last q l) ≡ true) → is_some (cond t (Some b) (bound_last q l)) ≡ true
+    at : (t : Bool) → 0 < cond t (suc (length l)) (last_bound q l) → (0 < last_bound q l → is_some (bound_last q l) ≡ true) →
+        is_some (cond t (Some b) (bound_last q l)) ≡ true
     at true p f = refl
     at false p f = f p
 
@@ -204,7 +213,8 @@ same_test k q = is_eq-slice_cmp k q ∙ by_bool (bytes_eq k q)
 -- ---- the table
 
 -- a step that binds a name
-pub added : (name : List ℕ) (before n : ℕ) (b : Binding) (l : List Step) (old new : BTreeMap (List ℕ) ℕ) → n ≡ suc (length l) → HasLast old l → Updates name_cmp old new name (Some n) → HasLast new (Bind name before b ∷ l)
+pub added : (name : List ℕ) (before n : ℕ) (b : Binding) (l : List Step) (old new : BTreeMap (List ℕ) ℕ) → n ≡ suc (length l) → HasLast old l →
+    Updates name_cmp old new name (Some n) → HasLast new (Bind name before b ∷ l)
 added name before n b l old new e h u = λ q.
     ap (λ o. unwrap_or o 0) (u.0 q ∙ ap (λ t. cond t (Some n) (get name_cmp old q)) (same_test name q)) ∙ at q (bytes_eq q name)
   where
@@ -213,11 +223,13 @@ added name before n b l old new e h u = λ q.
     at q false = h q
 
 -- a step that bound a name is taken back
-pub taken : (name : List ℕ) (before : ℕ) (b : Binding) (l : List Step) (old new : BTreeMap (List ℕ) ℕ) → before ≡ last_bound name l → HasLast old (Bind name before b ∷ l) → Updates name_cmp old new name (Some before) → HasLast new l
+pub taken : (name : List ℕ) (before : ℕ) (b : Binding) (l : List Step) (old new : BTreeMap (List ℕ) ℕ) → before ≡ last_bound name l →
+    HasLast old (Bind name before b ∷ l) → Updates name_cmp old new name (Some before) → HasLast new l
 taken name before b l old new e h u = λ q.
     ap (λ o. unwrap_or o 0) (u.0 q ∙ ap (λ t. cond t (Some before) (get name_cmp old q)) (same_test name q)) ∙ at q (bytes_eq q name) refl (h q)
   where
-    at : (q : List ℕ) (t : Bool) → bytes_eq q name ≡ t → count_at (get name_cmp old) q ≡ cond t (suc (length l)) (last_bound q l) → unwrap_or (cond t (Some before) (get name_cmp old q)) 0 ≡ last_bound q l
+    at : (q : List ℕ) (t : Bool) → bytes_eq q name ≡ t → count_at (get name_cmp old) q ≡ cond t (suc (length l)) (last_bound q l) →
+        unwrap_or (cond t (Some before) (get name_cmp old q)) 0 ≡ last_bound q l
     at q true s k = e ∙ ap (λ m. last_bound m l) (sym (same_names q name s))
     at q false s k = k
 
@@ -229,8 +241,10 @@ some_number None n e = absurd (omega (arith, e))
 some_number (Some x) n e = refl
 
 -- a name that a step bound has a number
-pub has_number : (name : List ℕ) (before : ℕ) (b : Binding) (l : List Step) (table : BTreeMap (List ℕ) ℕ) → HasLast table (Bind name before b ∷ l) → IsSome (get name_cmp table name)
-has_number name before b l table h = some_number (get name_cmp table name) (length l) (h name ∙ ap (λ t. cond t (suc (length l)) (last_bound name l)) (itself name))
+pub has_number : (name : List ℕ) (before : ℕ) (b : Binding) (l : List Step) (table : BTreeMap (List ℕ) ℕ) → HasLast table (Bind name before b ∷ l) →
+    IsSome (get name_cmp table name)
+has_number name before b l table h = some_number (get name_cmp table name) (length l)
+    (h name ∙ ap (λ t. cond t (suc (length l)) (last_bound name l)) (itself name))
 
 drop_bind : (name : List ℕ) (b : Binding) (ss : List Scope) → drop 1 (bind name b ss) ≡ drop 1 ss
 drop_bind name b [] = refl
@@ -244,7 +258,8 @@ IsScopes xs entered table = IsLog (reverse xs) × (entered ≡ last_entered (rev
 turned : (xs ys : List Step) (s : Step) → ys ≡ xs ++ s ∷ [] → reverse ys ≡ s ∷ reverse xs
 turned xs ys s e = ap reverse e ∙ reverse-append xs (s ∷ [])
 
-pub kept_whole : (name : List ℕ) (b : Binding) (xs : List Step) (entered before : ℕ) (table : BTreeMap (List ℕ) ℕ) → IsScopes xs entered table → before ≡ count_at (get name_cmp table) name → entered < before → bind name b (scopes_after (reverse xs)) ≡ scopes_after (reverse xs)
+pub kept_whole : (name : List ℕ) (b : Binding) (xs : List Step) (entered before : ℕ) (table : BTreeMap (List ℕ) ℕ) → IsScopes xs entered table →
+    before ≡ count_at (get name_cmp table) name → entered < before → bind name b (scopes_after (reverse xs)) ≡ scopes_after (reverse xs)
 kept_whole name b xs entered before table h e p =
     let at : count_at (get name_cmp table) name ≡ last_bound name (reverse xs) = h.2 name in
     let from : entered ≡ last_entered (reverse xs) = h.1 in
@@ -253,7 +268,8 @@ kept_whole name b xs entered before table h e p =
 pub unchanged : (l : List Step) (old new : BTreeMap (List ℕ) ℕ) → new.entries ≡ old.entries → HasLast old l → HasLast new l
 unchanged l old new e h = λ q. ap (λ es. unwrap_or (lookup (is_at (name_cmp q)) es) 0) e ∙ h q
 
-pub popped : (r : Option Step) (xs ys zs : List Step) (s : Step) → ys ≡ xs ++ s ∷ [] → MatchOption r ((ys ≡ []) × (zs ≡ [])) (λ last. ys ≡ zs ++ last ∷ []) → reverse zs ≡ reverse xs
+pub popped : (r : Option Step) (xs ys zs : List Step) (s : Step) → ys ≡ xs ++ s ∷ [] →
+    MatchOption r ((ys ≡ []) × (zs ≡ [])) (λ last. ys ≡ zs ++ last ∷ []) → reverse zs ≡ reverse xs
 popped None xs ys zs s e h = ap reverse h.1 ∙ sym (ap (λ l. drop 1 (reverse l)) h.0) ∙ ap (drop 1) (turned xs ys s e)
 popped (Some last) xs ys zs s e h = ap (drop 1) (sym (turned zs ys last h) ∙ turned xs ys s e)
 
@@ -261,8 +277,11 @@ pub bound_more : (name k m : List ℕ) (before n entered : ℕ) (b : Binding) (x
     → k ≡ name → m ≡ name → ys ≡ xs ++ Bind k before b ∷ [] → n ≡ length ys → before ≡ count_at (get name_cmp old) name → before ≤ entered → (entered ≡ 0 → ⊥)
     → IsScopes xs entered old → Updates name_cmp old new m (Some n) → IsScopes ys entered new
 bound_more name k m before n entered b xs ys old new e f g len at near some h u =
-    subst (λ l. IsLog l × (entered ≡ last_entered l) × HasLast new l) (sym (turned xs ys (Bind k before b) g))
-    ((last, omega (arith, near, from), omega (arith, some, from), h.0), from, added k before n b (reverse xs) old new count h.2 (subst (λ q. Updates name_cmp old new q (Some n)) (f ∙ sym e) u))
+    subst (λ l. IsLog l × (entered ≡ last_entered l) × HasLast new l) (sym (turned xs ys (Bind k before b) g)) (
+      (last, omega (arith, near, from), omega (arith, some, from), h.0),
+      from,
+      added k before n b (reverse xs) old new count h.2 (subst (λ q. Updates name_cmp old new q (Some n)) (f ∙ sym e) u),
+    )
   where
     from : entered ≡ last_entered (reverse xs)
     from = h.1
@@ -273,18 +292,24 @@ bound_more name k m before n entered b xs ys old new e f g len at near some h u 
     count : n ≡ suc (length (reverse xs))
     count = len ∙ sym (length-reverse ys) ∙ ap length (turned xs ys (Bind k before b) g)
 
-stepped : (xs ys : List Step) (s : Step) (name : List ℕ) (before : ℕ) (b : Binding) → xs ≡ ys ++ s ∷ [] → s ≡ Bind name before b → reverse xs ≡ Bind name before b ∷ reverse ys
+stepped : (xs ys : List Step) (s : Step) (name : List ℕ) (before : ℕ) (b : Binding) → xs ≡ ys ++ s ∷ [] → s ≡ Bind name before b →
+    reverse xs ≡ Bind name before b ∷ reverse ys
 stepped xs ys s name before b e f = turned ys xs s e ∙ ap (λ t. t ∷ reverse ys) f
 
-pub has_number_in : (xs ys : List Step) (s : Step) (name : List ℕ) (before : ℕ) (b : Binding) (table : BTreeMap (List ℕ) ℕ) → xs ≡ ys ++ s ∷ [] → s ≡ Bind name before b → HasLast table (reverse xs) → IsSome (get name_cmp table name)
+pub has_number_in : (xs ys : List Step) (s : Step) (name : List ℕ) (before : ℕ) (b : Binding) (table : BTreeMap (List ℕ) ℕ) → xs ≡ ys ++ s ∷ [] →
+    s ≡ Bind name before b → HasLast table (reverse xs) → IsSome (get name_cmp table name)
 has_number_in xs ys s name before b table e f h = has_number name before b (reverse ys) table (subst (HasLast table) (stepped xs ys s name before b e f) h)
 
-pub taken_back : (xs ys zs : List Step) (s : Step) (name : List ℕ) (before : ℕ) (b : Binding) (old new : BTreeMap (List ℕ) ℕ) → xs ≡ ys ++ s ∷ [] → s ≡ Bind name before b
+pub taken_back : (xs ys zs : List Step) (s : Step) (name : List ℕ) (before : ℕ) (b : Binding) (old new : BTreeMap (List ℕ) ℕ) → xs ≡ ys ++ s ∷ [] →
+    s ≡ Bind name before b
     → (drop 1 (scopes_after (reverse xs)) ≡ drop 1 (scopes_after (reverse zs))) × IsLog (reverse xs) × HasLast old (reverse xs)
     → Updates name_cmp old new name (Some before)
     → (drop 1 (scopes_after (reverse ys)) ≡ drop 1 (scopes_after (reverse zs))) × IsLog (reverse ys) × HasLast new (reverse ys)
-taken_back xs ys zs s name before b old new e f h u =
-    (sym (drop_bind name b (scopes_after (reverse ys))) ∙ ap (λ l. drop 1 (scopes_after l)) (sym at) ∙ h.0, log.3, taken name before b (reverse ys) old new log.0 (subst (HasLast old) at h.2) u)
+taken_back xs ys zs s name before b old new e f h u = (
+  sym (drop_bind name b (scopes_after (reverse ys))) ∙ ap (λ l. drop 1 (scopes_after l)) (sym at) ∙ h.0,
+  log.3,
+  taken name before b (reverse ys) old new log.0 (subst (HasLast old) at h.2) u,
+)
   where
     at : reverse xs ≡ Bind name before b ∷ reverse ys
     at = stepped xs ys s name before b e f

@@ -6,8 +6,10 @@ use Rattle.c_grammar.specs.Terms.{Then}
 use Rattle.c_grammar.proofs.Layers.{part-rule, weight-at}
 
 terms-cons : (word : ℕ → List ℕ) (x : Syntax) (xs : List Syntax)
-    → terms_in (map (part_of word) (x ∷ xs)) ≡ cond (is_token (out-Syntax x).rule) (terms_in (map (part_of word) xs)) (Then (term_of word x) (terms_in (map (part_of word) xs)))
-terms-cons word x xs = ap (λ r. cond (is_token r) (terms_in (map (part_of word) xs)) (Then (term_of word x) (terms_in (map (part_of word) xs)))) (part-rule word x)
+    → terms_in (map (part_of word) (x ∷ xs)) ≡ cond (is_token (out-Syntax x).rule) (terms_in (map (part_of word) xs))
+    (Then (term_of word x) (terms_in (map (part_of word) xs)))
+terms-cons word x xs = ap (λ r. cond (is_token r) (terms_in (map (part_of word) xs)) (Then (term_of word x) (terms_in (map (part_of word) xs))))
+    (part-rule word x)
 
 -- a token is no operand
 pub terms-token : (word : ℕ → List ℕ) (xs : List Syntax) (i : ℕ) (d : Syntax) → i < length xs → is_token (out-Syntax (get_or xs i d)).rule ≡ true

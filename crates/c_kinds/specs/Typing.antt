@@ -34,7 +34,11 @@ abbrev mutual
   form_typed env (Variable at) = named at (env.word at) (meaning env at)
   form_typed env (Cell at i) = reading (cell_target (variable_of (env.word at) (meaning env at)) (value_of (typed env i)))
   form_typed env (Prefix m a) =
-      elim (step_of (mark_of (env.word m))) [ Some up ↦ counting up false (writable (target_of env a)) | None ↦ unary (unary_op (mark_of (env.word m))) (value_of (typed env a)) ]
+      elim (step_of (mark_of (env.word m))) [
+        | Some up ↦ counting up false (writable (target_of env a))
+        | None ↦ unary
+            (unary_op (mark_of (env.word m))) (value_of (typed env a))
+      ]
   form_typed env (Suffix m a) = counting (counts_up (mark_of (env.word m))) true (writable (target_of env a))
   form_typed env (CastTo words a) = cast (kind_of env.word words) (value_of (typed env a))
   form_typed env (CastVoid a) = cast_void (dropped (typed env a))

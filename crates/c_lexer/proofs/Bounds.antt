@@ -36,7 +36,8 @@ line_length w = let h = bare_length w in let m = length-append w [] in omega ari
 -- what a piece gives lies in it
 
 token_one : (kind : TokenKind) (at end total : ℕ) → at < end → end ≤ total → All (λ (x : Token). (x.start < x.end) × (x.end ≤ total)) (token kind at end ∷ [])
-token_one kind at end total h m = All-cons (λ (x : Token). (x.start < x.end) × (x.end ≤ total)) (token kind at end) [] (h, m) (All-nil (λ (x : Token). (x.start < x.end) × (x.end ≤ total)))
+token_one kind at end total h m = All-cons (λ (x : Token). (x.start < x.end) × (x.end ≤ total)) (token kind at end) [] (h, m)
+    (All-nil (λ (x : Token). (x.start < x.end) × (x.end ≤ total)))
 
 token_none : (total : ℕ) → All (λ (x : Token). (x.start < x.end) × (x.end ≤ total)) []
 token_none total = All-nil (λ (x : Token). (x.start < x.end) × (x.end ≤ total))
@@ -44,7 +45,8 @@ token_none total = All-nil (λ (x : Token). (x.start < x.end) × (x.end ≤ tota
 further : (at n : ℕ) → 1 ≤ n → at < at + n
 further at n h = omega arith
 
-tokens_inside : (first : Bool) (p : Piece) (at total : ℕ) → Fits first p → behind p at ≤ total → All (λ (x : Token). (x.start < x.end) × (x.end ≤ total)) (token_of p at)
+tokens_inside : (first : Bool) (p : Piece) (at total : ℕ) → Fits first p → behind p at ≤ total →
+    All (λ (x : Token). (x.start < x.end) × (x.end ≤ total)) (token_of p at)
 tokens_inside first (Space b) at total f h = token_none total
 tokens_inside first (Word w) at total f h = token_one (word_kind w) at (behind (Word w) at) total (further at _ (has_byte first (Word w) f)) h
 tokens_inside first (Number w) at total f h = token_one k.Number at (behind (Number w) at) total (further at _ (has_byte first (Number w) f)) h
@@ -56,9 +58,11 @@ tokens_inside first (Line w) at total f h = token_none total
 tokens_inside first (Block w) at total f h = token_none total
 
 comment_one : (at end total : ℕ) → at < end → end ≤ total → All (λ (x : Span). (x.start < x.end) × (x.end ≤ total)) (span at end ∷ [])
-comment_one at end total h m = All-cons (λ (x : Span). (x.start < x.end) × (x.end ≤ total)) (span at end) [] (h, m) (All-nil (λ (x : Span). (x.start < x.end) × (x.end ≤ total)))
+comment_one at end total h m = All-cons (λ (x : Span). (x.start < x.end) × (x.end ≤ total)) (span at end) [] (h, m)
+    (All-nil (λ (x : Span). (x.start < x.end) × (x.end ≤ total)))
 
-comments_inside : (first : Bool) (p : Piece) (at total : ℕ) → Fits first p → behind p at ≤ total → All (λ (x : Span). (x.start < x.end) × (x.end ≤ total)) (comment_of p at)
+comments_inside : (first : Bool) (p : Piece) (at total : ℕ) → Fits first p → behind p at ≤ total →
+    All (λ (x : Span). (x.start < x.end) × (x.end ≤ total)) (comment_of p at)
 comments_inside first (Line w) at total f h = let l = line_length w in comment_one at (at + 1 + 1 + length (bare w)) total (omega arith) (omega arith)
 comments_inside first (Block w) at total f h = comment_one at (behind (Block w) at) total (further at _ (has_byte first (Block w) f)) h
 comments_inside first _ at total f h = All-nil (λ (x : Span). (x.start < x.end) × (x.end ≤ total))
@@ -68,11 +72,13 @@ split_length p r = ap length (spelled_split p r) ∙ length-append (spelled p []
 
 all_inside : {X : Type 0} (start end : X → ℕ) (f : Piece → ℕ → List X)
     → ((first : Bool) (p : Piece) (at total : ℕ) → Fits first p → behind p at ≤ total → All (λ (x : X). (start x < end x) × (end x ≤ total)) (f p at))
-    → (first : Bool) (ps : List Piece) (at total : ℕ) → Good first ps [] → at + length (text ps []) ≤ total → All (λ (x : X). (start x < end x) × (end x ≤ total)) (all_of f ps at)
+    → (first : Bool) (ps : List Piece) (at total : ℕ) → Good first ps [] → at + length (text ps []) ≤ total →
+    All (λ (x : X). (start x < end x) × (end x ≤ total)) (all_of f ps at)
 all_inside {X} start end f inside first [] at total g h = All-nil (λ (x : X). (start x < end x) × (end x ≤ total))
 all_inside {X} start end f inside first (p ∷ ps) at total g h =
     let e = split_length p (text ps []) in
-    All-append (λ (x : X). (start x < end x) × (end x ≤ total)) (f p at) (all_of f ps (behind p at)) (inside first p at total g.0 (omega arith)) (all_inside start end f inside (first_behind first p) ps (behind p at) total g.2 (omega arith))
+    All-append (λ (x : X). (start x < end x) × (end x ≤ total)) (f p at) (all_of f ps (behind p at)) (inside first p at total g.0 (omega arith))
+    (all_inside start end f inside (first_behind first p) ps (behind p at) total g.2 (omega arith))
 
 same_length : (t u : List ℕ) → t ≡ u → 0 + length u ≤ length t
 same_length t u e = let h = ap length e in omega arith
@@ -80,17 +86,21 @@ same_length t u e = let h = ap length e in omega arith
 tokens_within : (t : List ℕ) (found : Scanned) → IsReading scanned_of t (Ok found) → All (λ (x : Token). IsWithin t x.start x.end) found.tokens
 tokens_within t found (ps, s, e) =
     All-same (λ (x : Token). IsWithin t x.start x.end) found.tokens (all_of token_of ps 0) (ap (λ (x : Scanned). x.tokens) e ∙ tokens_are ps)
-    (all_inside (λ (x : Token). x.start) (λ (x : Token). x.end) token_of tokens_inside true ps 0 (length t) (spells_walked ps t s) (same_length t (text ps []) s.spells))
+    (all_inside (λ (x : Token). x.start) (λ (x : Token). x.end) token_of tokens_inside true ps 0 (length t) (spells_walked ps t s)
+    (same_length t (text ps []) s.spells))
 
 comments_within : (t : List ℕ) (found : Scanned) → IsReading scanned_of t (Ok found) → All (λ (x : Span). IsWithin t x.start x.end) found.comments
 comments_within t found (ps, s, e) =
     All-same (λ (x : Span). IsWithin t x.start x.end) found.comments (all_of comment_of ps 0) (ap (λ (x : Scanned). x.comments) e ∙ comments_are ps)
-    (all_inside (λ (x : Span). x.start) (λ (x : Span). x.end) comment_of comments_inside true ps 0 (length t) (spells_walked ps t s) (same_length t (text ps []) s.spells))
+    (all_inside (λ (x : Span). x.start) (λ (x : Span). x.end) comment_of comments_inside true ps 0 (length t) (spells_walked ps t s)
+    (same_length t (text ps []) s.spells))
 
-pub tokens_bound : (t : List ℕ) (r : Result Scanned ReadStop) → Gives (λ (x : Scanned). x) r (scanning t) → IfOk r (λ found. All (λ (x : Token). IsWithin t x.start x.end) found.tokens)
+pub tokens_bound : (t : List ℕ) (r : Result Scanned ReadStop) → Gives (λ (x : Scanned). x) r (scanning t) →
+    IfOk r (λ found. All (λ (x : Token). IsWithin t x.start x.end) found.tokens)
 tokens_bound t (Ok found) h = tokens_within t found (subst (λ (x : Result Scanned Refusal). IsReading scanned_of t x) h (scan_reading t))
 tokens_bound t (Err stop) h = tt
 
-pub comments_bound : (t : List ℕ) (r : Result Scanned ReadStop) → Gives (λ (x : Scanned). x) r (scanning t) → IfOk r (λ found. All (λ (x : Span). IsWithin t x.start x.end) found.comments)
+pub comments_bound : (t : List ℕ) (r : Result Scanned ReadStop) → Gives (λ (x : Scanned). x) r (scanning t) →
+    IfOk r (λ found. All (λ (x : Span). IsWithin t x.start x.end) found.comments)
 comments_bound t (Ok found) h = comments_within t found (subst (λ (x : Result Scanned Refusal). IsReading scanned_of t x) h (scan_reading t))
 comments_bound t (Err stop) h = tt

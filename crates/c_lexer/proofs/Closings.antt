@@ -64,7 +64,8 @@ or_none false = refl
 no_return : (a : Bool) (b : ℕ) (c : Bool) → (b == 13) ≡ false → (a || (b == 13 && c)) ≡ a
 no_return a b c h = ap (λ (x : Bool). a || (x && c)) h ∙ or_none a
 
-continued_space : (b : ℕ) (w : List ℕ) → (b == 42) ≡ false → (b == 10) ≡ false → (b == 13) ≡ false → is_space b ≡ true → closes_from Continued (b ∷ w) ≡ closes_from Continued w
+continued_space : (b : ℕ) (w : List ℕ) → (b == 42) ≡ false → (b == 10) ≡ false → (b == 13) ≡ false → is_space b ≡ true →
+    closes_from Continued (b ∷ w) ≡ closes_from Continued w
 continued_space b w h e k f = let y = no_return (slash_follows true w) b (slash_follows false w) k in rw (e, f, y, h)
 
 continued_other : (b : ℕ) (w : List ℕ) → (b == 42) ≡ false → (b == 10) ≡ false → is_space b ≡ false → closes_from Continued (b ∷ w) ≡ closes_from Open w
@@ -73,7 +74,8 @@ continued_other b w h e f = rw (e, f, h)
 continued : (b : ℕ) (w : List ℕ) → (b == 42) ≡ false → closes_from Continued (b ∷ w) ≡ closes_from (continued_step b) w
 continued b w h = go (b == 10) refl (b == 13) refl (is_space b) refl
   where
-    go : (c : Bool) → (b == 10) ≡ c → (d : Bool) → (b == 13) ≡ d → (x : Bool) → is_space b ≡ x → closes_from Continued (b ∷ w) ≡ closes_from (cond c Joined (cond d Returned (cond x Continued Open))) w
+    go : (c : Bool) → (b == 10) ≡ c → (d : Bool) → (b == 13) ≡ d → (x : Bool) → is_space b ≡ x →
+        closes_from Continued (b ∷ w) ≡ closes_from (cond c Joined (cond d Returned (cond x Continued Open))) w
     go true e d k x f = rw (e, h)
     go false e true k x f = subst (λ (i : ℕ). closes_from Continued (i ∷ w) ≡ closes_from Returned w) (sym (eqb-true b 13 k)) refl
     go false e false k true f = continued_space b w h e k f
@@ -119,9 +121,12 @@ nothing_more (b ∷ w) h = absurd cc
 pub last_slash : (c : Closing) (b : ℕ) (w : List ℕ) → goes_on c b ≡ false → closes_from c (b ∷ w) ≡ true → (c ≡ Starred) × (b ≡ 47) × (w ≡ [])
 last_slash Open b w g h = absurd cc
 last_slash Continued b w g h = absurd cc
-last_slash Starred b w g h = let x = eqb-true b 47 (not_false (b == 47) g) in (refl, x, nothing_more w (subst (λ (i : ℕ). closes_from Starred (i ∷ w) ≡ true) x h))
-last_slash Returned b w g h = let x = eqb-true b 47 (not_false (b == 47) g) in absurd (let y : false ≡ true = subst (λ (i : ℕ). closes_from Returned (i ∷ w) ≡ true) x h in cc)
-last_slash Joined b w g h = let x = eqb-true b 47 (not_false (b == 47) g) in absurd (let y : false ≡ true = subst (λ (i : ℕ). closes_from Joined (i ∷ w) ≡ true) x h in cc)
+last_slash Starred b w g h = let x = eqb-true b 47 (not_false (b == 47) g) in
+    (refl, x, nothing_more w (subst (λ (i : ℕ). closes_from Starred (i ∷ w) ≡ true) x h))
+last_slash Returned b w g h = let x = eqb-true b 47 (not_false (b == 47) g) in
+    absurd (let y : false ≡ true = subst (λ (i : ℕ). closes_from Returned (i ∷ w) ≡ true) x h in cc)
+last_slash Joined b w g h = let x = eqb-true b 47 (not_false (b == 47) g) in
+    absurd (let y : false ≡ true = subst (λ (i : ℕ). closes_from Joined (i ∷ w) ≡ true) x h in cc)
 
 pub comment_on : (s : ℕ) (c : Closing) (b at : ℕ) → goes_on c b ≡ true → in_comment s c b at ≡ Go (InComment s (closing_step c b)) ended.Nothing
 comment_on s Open b at g = refl

@@ -40,11 +40,13 @@ by_line_end b r e k =
     subst (λ i. SlashFollows (i ∷ r)) (sym (eqb-true b 92 e))
     (subst (λ v. SlashFollows (92 ∷ v)) (sym k.bytes) (line_end_next k.white k.byte k.behind k.all k.ends k.slash))
 
-slash_at : (b : ℕ) (r : List ℕ) → (slash_follows true r ≡ true → InLineEnd r) → ((b == 47) ≡ true) ⊎ ((b == 92 && slash_follows true r) ≡ true) → SlashFollows (b ∷ r)
+slash_at : (b : ℕ) (r : List ℕ) → (slash_follows true r ≡ true → InLineEnd r) → ((b == 47) ≡ true) ⊎ ((b == 92 && slash_follows true r) ≡ true) →
+    SlashFollows (b ∷ r)
 slash_at b r f (inl e) = subst (λ i. SlashFollows (i ∷ r)) (sym (eqb-true b 47 e)) (slash_next r)
 slash_at b r f (inr e) = let q = both_true (b == 92) (slash_follows true r) e in by_line_end b r q.0 (f q.1)
 
-in_line_end : (b : ℕ) (r : List ℕ) → is_newline b ≡ false → is_space b ≡ true → (slash_follows false r ≡ true → SlashFollows r) → (slash_follows true r ≡ true → InLineEnd r)
+in_line_end : (b : ℕ) (r : List ℕ) → is_newline b ≡ false → is_space b ≡ true → (slash_follows false r ≡ true → SlashFollows r) →
+    (slash_follows true r ≡ true → InLineEnd r)
     → (slash_follows true r ≡ true) ⊎ ((b == 13 && slash_follows false r) ≡ true) → InLineEnd (b ∷ r)
 in_line_end b r n s f g (inl k) = white_more b r n s (g k)
 in_line_end b r n s f g (inr k) = let q = both_true (b == 13) (slash_follows false r) k in at_end b r (or_right (is_newline b) (is_return b) q.0) (f q.1)
@@ -69,9 +71,11 @@ end_on : (b : ℕ) (r : List ℕ) (c : Bool) → (c || is_return b) ≡ true →
     → cond c (slash_follows false r) (is_space b && (slash_follows true r || (b == 13 && slash_follows false r))) ≡ true
 end_on b r true e s = s
 end_on b r false e s =
-    subst (λ (i : ℕ). (is_space i && (slash_follows true r || (i == 13 && slash_follows false r))) ≡ true) (sym (eqb-true b 13 e)) (rw s (or_true (slash_follows true r)))
+    subst (λ (i : ℕ). (is_space i && (slash_follows true r || (i == 13 && slash_follows false r))) ≡ true) (sym (eqb-true b 13 e))
+    (rw s (or_true (slash_follows true r)))
 
-through : (white : List ℕ) (b : ℕ) (r : List ℕ) → list_all is_white white ≡ true → (is_newline b || is_return b) ≡ true → slash_follows false r ≡ true → slash_follows true (white ++ b ∷ r) ≡ true
+through : (white : List ℕ) (b : ℕ) (r : List ℕ) → list_all is_white white ≡ true → (is_newline b || is_return b) ≡ true →
+    slash_follows false r ≡ true → slash_follows true (white ++ b ∷ r) ≡ true
 through [] b r a e s = end_on b r (is_newline b) e s
 through (x ∷ white) b r a e s =
     let q = all_of_more is_white x white a in
@@ -116,7 +120,8 @@ ends_here b w x e =
     let all : b ∷ w ≡ 42 ∷ 47 ∷ [] = ap (λ (i : ℕ). i ∷ w) x ∙ ap (λ (v : List ℕ). 42 ∷ v) e in
     record { inside = []; ended = all; first = λ before after g s. only before after (sym all ∙ g) }
 
-first_on : (b : ℕ) (w : List ℕ) → (b == 42 && slash_follows false w) ≡ false → Closes w → (before after : List ℕ) → b ∷ w ≡ before ++ 42 ∷ after → SlashFollows after → after ≡ 47 ∷ []
+first_on : (b : ℕ) (w : List ℕ) → (b == 42 && slash_follows false w) ≡ false → Closes w → (before after : List ℕ) → b ∷ w ≡ before ++ 42 ∷ after →
+    SlashFollows after → after ≡ 47 ∷ []
 first_on b w e k [] after g s =
     let x : b ≡ 42 = cc in
     let z : w ≡ after = cc in
@@ -127,7 +132,8 @@ first_on b w e k (x ∷ before) after g s = k.first before after (let y : w ≡ 
 ends_later : (b : ℕ) (w : List ℕ) → (b == 42 && slash_follows false w) ≡ false → Closes w → Closes (b ∷ w)
 ends_later b w e k = record { inside = b ∷ k.inside; ended = ap (λ (v : List ℕ). b ∷ v) k.ended; first = first_on b w e k }
 
-closed_at : (b : ℕ) (w : List ℕ) (c : Bool) → (b == 42 && slash_follows false w) ≡ c → (closes w ≡ true → Closes w) → cond c (is_single w) (closes w) ≡ true → Closes (b ∷ w)
+closed_at : (b : ℕ) (w : List ℕ) (c : Bool) → (b == 42 && slash_follows false w) ≡ c → (closes w ≡ true → Closes w) →
+    cond c (is_single w) (closes w) ≡ true → Closes (b ∷ w)
 closed_at b w true e f h = let q = both_true (b == 42) (slash_follows false w) e in ends_here b w (eqb-true b 42 q.0) (single_slash w h q.1)
 closed_at b w false e f h = ends_later b w e (f h)
 
@@ -143,9 +149,14 @@ behind_first b w e [] g f =
     let z : w ≡ 47 ∷ [] = cc in
     absurd (let y : true ≡ false = sym (ap (λ (i : ℕ). i == 42 && slash_follows false w) x ∙ ap (slash_follows false) z) ∙ e in cc)
 behind_first b w e (x ∷ inside) g f =
-    record { inside = inside; ended = (let y : w ≡ inside ++ 42 ∷ 47 ∷ [] = cc in y); first = λ before after h s. f (b ∷ before) after (ap (λ (v : List ℕ). b ∷ v) h) s }
+    record {
+      inside = inside;
+      ended = (let y : w ≡ inside ++ 42 ∷ 47 ∷ [] = cc in y);
+      first = λ before after h s. f (b ∷ before) after (ap (λ (v : List ℕ). b ∷ v) h) s;
+    }
 
-closes_at : (b : ℕ) (w : List ℕ) (c : Bool) → (b == 42 && slash_follows false w) ≡ c → Closes (b ∷ w) → (c ≡ false → closes w ≡ true) → cond c (is_single w) (closes w) ≡ true
+closes_at : (b : ℕ) (w : List ℕ) (c : Bool) → (b == 42 && slash_follows false w) ≡ c → Closes (b ∷ w) → (c ≡ false → closes w ≡ true) →
+    cond c (is_single w) (closes w) ≡ true
 closes_at b w true e k f =
     let q = both_true (b == 42) (slash_follows false w) e in
     ap is_single (k.first [] w (ap (λ (i : ℕ). i ∷ w) (eqb-true b 42 q.0)) (slash_there w q.1))

@@ -45,7 +45,8 @@ pub text_more : (ps : List Piece) (p : Piece) (r : List ℕ) → text (ps ++ p �
 text_more [] p r = refl
 text_more (q ∷ ps) p r = ap (spelled q) (text_more ps p r)
 
-pub good_more : (first : Bool) (ps : List Piece) (p : Piece) (r : List ℕ) → Good first ps (spelled p r) → Fits (first_behind_all first ps) p → Longest p r → Good first (ps ++ p ∷ []) r
+pub good_more : (first : Bool) (ps : List Piece) (p : Piece) (r : List ℕ) → Good first ps (spelled p r) → Fits (first_behind_all first ps) p →
+    Longest p r → Good first (ps ++ p ∷ []) r
 good_more first [] p r g f l = (f, l, tt)
 good_more first (q ∷ ps) p r g f l =
     (g.0, subst (λ (t : List ℕ). Longest q t) (sym (text_more ps p r)) g.1, good_more (first_behind first q) ps p r g.2 f l)
@@ -77,7 +78,8 @@ HasRead Backslash w = w ≡ 92 ∷ []
 HasRead (OneOctal a) w = (w ≡ 92 ∷ a ∷ []) × (is_octal_digit a ≡ true)
 HasRead (TwoOctal a b) w = (w ≡ 92 ∷ a ∷ b ∷ []) × (is_octal_digit a ≡ true) × (is_octal_digit b ≡ true)
 HasRead HexadecimalStart w = w ≡ 92 ∷ 120 ∷ []
-HasRead (InHexadecimal v) w = (a : ℕ) × (ds : List ℕ) × (w ≡ 92 ∷ 120 ∷ a ∷ ds) × (list_all is_hexadecimal_digit (a ∷ ds) ≡ true) × (value_from 16 0 (a ∷ ds) ≡ v) × (nat_le v 255 ≡ true)
+HasRead (InHexadecimal v) w = (a : ℕ) × (ds : List ℕ) × (w ≡ 92 ∷ 120 ∷ a ∷ ds) × (list_all is_hexadecimal_digit (a ∷ ds) ≡ true) ×
+    (value_from 16 0 (a ∷ ds) ≡ v) × (nat_le v 255 ≡ true)
 
 -- these bytes are this escape, in front of what may follow so
 pub record IsEscape (c : Character) (w : List ℕ) (Follows : List ℕ → Type 0) : Type 0 where
@@ -124,7 +126,8 @@ digit_small b h = grind (arith, nat_tests)
 
 pub escape_progresses : (e : Escape) (w : List ℕ) → HasRead e w → (b : ℕ) → Progresses (escape_step e b) b w
 escape_progresses Backslash w h b =
-    choose (is_simple_escape b) _ _ b w (λ s. (Simple b, record { bytes = bytes_of (Simple b) (92 ∷ b ∷ []) _ (along w (92 ∷ []) b h) (λ r. refl); is = λ plain. s; digits = λ r f. tt }))
+    choose (is_simple_escape b) _ _ b w (λ s.
+    (Simple b, record { bytes = bytes_of (Simple b) (92 ∷ b ∷ []) _ (along w (92 ∷ []) b h) (λ r. refl); is = λ plain. s; digits = λ r f. tt }))
     (λ s. choose (is_octal_digit b) _ _ b w (λ o. (along w (92 ∷ []) b h, o))
     (λ o. choose (b == 120) _ _ b w (λ x. along w (92 ∷ []) b h ∙ ap (λ (i : ℕ). 92 ∷ i ∷ []) (eqb-true b 120 x)) (λ x. tt)))
 escape_progresses (OneOctal a) w h b =
@@ -133,15 +136,38 @@ escape_progresses (OneOctal a) w h b =
 escape_progresses (TwoOctal a d) w h b =
     choose (is_octal_digit b) _ _ b w
     (λ o. choose (nat_le (three_digits a d b) 255) _ _ b w
-    (λ v. (ThreeDigits a d b, record { bytes = bytes_of (ThreeDigits a d b) (92 ∷ a ∷ d ∷ b ∷ []) _ (along w (92 ∷ a ∷ d ∷ []) b h.0) (λ r. refl); is = λ plain. (h.1, h.2, o, v); digits = λ r f. tt })) (λ v. tt))
+    (λ v. (
+      ThreeDigits a d b,
+      record {
+        bytes = bytes_of (ThreeDigits a d b) (92 ∷ a ∷ d ∷ b ∷ []) _ (along w (92 ∷ a ∷ d ∷ []) b h.0) (λ r. refl);
+        is = λ plain. (h.1, h.2, o, v);
+        digits = λ r f. tt;
+      },
+    )) (λ v. tt))
     (λ o. (TwoDigits a d, record { bytes = bytes_of (TwoDigits a d) (92 ∷ a ∷ d ∷ []) w h.0 (λ r. refl); is = λ plain. (h.1, h.2); digits = not_octal b o }))
 escape_progresses HexadecimalStart w h b =
-    choose (is_hexadecimal_digit b) _ _ b w (λ x. (b, [], along w (92 ∷ 120 ∷ []) b h, all_more is_hexadecimal_digit [] b refl x, zero-add (digit_value b), digit_small b x)) (λ x. tt)
+    choose (is_hexadecimal_digit b) _ _ b w
+    (λ x. (b, [], along w (92 ∷ 120 ∷ []) b h, all_more is_hexadecimal_digit [] b refl x, zero-add (digit_value b), digit_small b x)) (λ x. tt)
 escape_progresses (InHexadecimal v) w (a, ds, e, all, value, low) b =
     choose (is_hexadecimal_digit b) _ _ b w
     (λ x. choose (nat_le (v * 16 + digit_value b) 255) _ _ b w
-    (λ y. (a, ds ++ b ∷ [], along w (92 ∷ 120 ∷ a ∷ ds) b e, all_more is_hexadecimal_digit (a ∷ ds) b all x, value_snoc (a ∷ ds) 0 b ∙ ap (λ (n : ℕ). n * 16 + digit_value b) value, y)) (λ y. tt))
-    (λ x. (Hexadecimal a ds, record { bytes = bytes_of (Hexadecimal a ds) (92 ∷ 120 ∷ a ∷ ds) w e (λ r. refl); is = λ plain. (all, ap (λ (n : ℕ). nat_le n 255) (sym (value_is 16 (a ∷ ds)) ∙ value) ∙ low); digits = not_hexadecimal b x }))
+    (λ y. (
+      a,
+      ds ++ b ∷ [],
+      along w (92 ∷ 120 ∷ a ∷ ds) b e,
+      all_more is_hexadecimal_digit (a ∷ ds) b all x,
+      value_snoc (a ∷ ds) 0 b ∙
+          ap (λ (n : ℕ). n * 16 + digit_value b) value,
+      y,
+    )) (λ y. tt))
+    (λ x. (
+      Hexadecimal a ds,
+      record {
+        bytes = bytes_of (Hexadecimal a ds) (92 ∷ 120 ∷ a ∷ ds) w e (λ r. refl);
+        is = λ plain. (all, ap (λ (n : ℕ). nat_le n 255) (sym (value_is 16 (a ∷ ds)) ∙ value) ∙ low);
+        digits = not_hexadecimal b x;
+      },
+    ))
 
 -- ---- characters at the end
 
@@ -149,7 +175,8 @@ pub written_more : (cs : List Character) (c : Character) (r : List ℕ) → writ
 written_more [] c r = refl
 written_more (d ∷ cs) c r = ap (written d) (written_more cs c r)
 
-pub characters_more : (cs : List Character) (c : Character) (r : List ℕ) → AreCharacters is_text_byte cs (written c r) → IsCharacter is_text_byte c → TakesDigits c r → AreCharacters is_text_byte (cs ++ c ∷ []) r
+pub characters_more : (cs : List Character) (c : Character) (r : List ℕ) → AreCharacters is_text_byte cs (written c r) → IsCharacter is_text_byte c →
+    TakesDigits c r → AreCharacters is_text_byte (cs ++ c ∷ []) r
 characters_more [] c r h i d = (i, d, tt)
 characters_more (x ∷ cs) c r h i d =
     (h.0, subst (λ (t : List ℕ). TakesDigits x t) (sym (written_more cs c r)) h.1, characters_more cs c r h.2 i d)
@@ -163,15 +190,19 @@ Part s at ps w P = ((r : List ℕ) → P.bytes r ≡ text ps (w ++ r)) × ((r : 
 abbrev pub Ready : State → ℕ → Front → Type 0
 Ready (Between first) at P = (ps : List Piece) × Part at at ps [] P × (first_behind_all P.first ps ≡ first)
 Ready (InWord s) at P = (ps : List Piece) × (b : ℕ) × (w : List ℕ) × Part s at ps (b ∷ w) P × (is_letter b ≡ true) × (list_all is_word_byte w ≡ true)
-Ready (InNumber s power) at P = (ps : List Piece) × (b : ℕ) × (w : List ℕ) × Part s at ps (b ∷ w) P × (is_digit b ≡ true) × (continues_from false w ≡ true) × (power_from false w ≡ power)
+Ready (InNumber s power) at P = (ps : List Piece) × (b : ℕ) × (w : List ℕ) × Part s at ps (b ∷ w) P × (is_digit b ≡ true) ×
+    (continues_from false w ≡ true) × (power_from false w ≡ power)
 Ready (InMark s m) at P = (ps : List Piece) × Part s at ps (mark_text m) P
 Ready (Dots s) at P = (ps : List Piece) × Part s at ps (46 ∷ 46 ∷ []) P
 Ready (CharOpened s) at P = (ps : List Piece) × Part s at ps (39 ∷ []) P
 Ready (CharEscape s e) at P = (ps : List Piece) × (w : List ℕ) × Part s at ps (39 ∷ w) P × HasRead e w
-Ready (CharHeld s) at P = (ps : List Piece) × (c : Character) × (w : List ℕ) × Part s at ps (39 ∷ w) P × ((r : List ℕ) → written c r ≡ w ++ r) × IsCharacter is_character_byte c
-Ready (InText s) at P = (ps : List Piece) × (cs : List Character) × (v : List ℕ) × Part s at ps (34 ∷ v) P × ((r : List ℕ) → written_all cs r ≡ v ++ r) × ((r : List ℕ) → AreCharacters is_text_byte cs r)
+Ready (CharHeld s) at P = (ps : List Piece) × (c : Character) × (w : List ℕ) × Part s at ps (39 ∷ w) P × ((r : List ℕ) → written c r ≡ w ++ r) ×
+    IsCharacter is_character_byte c
+Ready (InText s) at P = (ps : List Piece) × (cs : List Character) × (v : List ℕ) × Part s at ps (34 ∷ v) P ×
+    ((r : List ℕ) → written_all cs r ≡ v ++ r) × ((r : List ℕ) → AreCharacters is_text_byte cs r)
 Ready (TextEscape s e) at P =
-    (ps : List Piece) × (cs : List Character) × (v : List ℕ) × (w : List ℕ) × Part s at ps (34 ∷ v ++ w) P × ((r : List ℕ) → written_all cs r ≡ v ++ r) × ((r : List ℕ) → AreCharacters is_text_byte cs (w ++ r)) × HasRead e w
+    (ps : List Piece) × (cs : List Character) × (v : List ℕ) × (w : List ℕ) × Part s at ps (34 ∷ v ++ w) P ×
+    ((r : List ℕ) → written_all cs r ≡ v ++ r) × ((r : List ℕ) → AreCharacters is_text_byte cs (w ++ r)) × HasRead e w
 Ready (InDirective s end) at P = (ps : List Piece) × (w : List ℕ) × Part s at ps (35 ∷ w) P × (first_behind_all P.first ps ≡ true) × (has_no_newline w ≡ true)
 Ready (InComment s c) at P = (ps : List Piece) × (w : List ℕ) × Part s at ps (47 ∷ 42 ∷ w) P × ((v : List ℕ) → closes (w ++ v) ≡ closes_from c v)
 Ready (InLine s end) at P = (ps : List Piece) × (w : List ℕ) × Part s at ps (47 ∷ 47 ∷ w) P × (has_no_newline w ≡ true)
@@ -208,8 +239,12 @@ branch false x y at P h k = k refl
 
 -- one more byte of the same
 pub grown : (s at : ℕ) (ps : List Piece) (w : List ℕ) (b : ℕ) (P : Front) → Part s at ps w P → Part s (at + 1) ps (w ++ b ∷ []) (onward P b)
-grown s at ps w b P i =
-    ((λ r. i.0 (b ∷ r) ∙ ap (text ps) (sym (snoc w b r))), (λ r. subst (λ (x : List ℕ). Good P.first ps x) (sym (snoc w b r)) (i.1 (b ∷ r))), i.2, past_snoc w s b ∙ ap (λ (n : ℕ). n + 1) i.3)
+grown s at ps w b P i = (
+  (λ r. i.0 (b ∷ r) ∙ ap (text ps) (sym (snoc w b r))),
+  (λ r. subst (λ (x : List ℕ). Good P.first ps x) (sym (snoc w b r)) (i.1 (b ∷ r))),
+  i.2,
+  past_snoc w s b ∙ ap (λ (n : ℕ). n + 1) i.3,
+)
 
 -- the same bytes, otherwise written
 pub part_along : (s at : ℕ) (ps : List Piece) (v w : List ℕ) (P : Front) → v ≡ w → Part s at ps v P → Part s at ps w P
@@ -218,20 +253,25 @@ part_along s at ps v w P e i = subst (λ (x : List ℕ). Part s at ps x P) e i
 no_further : (m n s : ℕ) → m ≡ s → n ≡ 0 → m + n ≡ s
 no_further m n s h k = omega arith
 
-pub stuck_before : (s at : ℕ) (ps : List Piece) (x : ℕ) (w : List ℕ) (P : Front) (reason : ℕ) → Part s at ps (x ∷ w) P → (r : List ℕ) → IsFaulty (first_behind_all P.first ps) x (w ++ r) reason → StuckAt P.base P.first reason s (P.bytes r)
+pub stuck_before : (s at : ℕ) (ps : List Piece) (x : ℕ) (w : List ℕ) (P : Front) (reason : ℕ) → Part s at ps (x ∷ w) P → (r : List ℕ) →
+    IsFaulty (first_behind_all P.first ps) x (w ++ r) reason → StuckAt P.base P.first reason s (P.bytes r)
 stuck_before s at ps x w P reason i r h =
     record { pieces = ps; byte = x; rest = w ++ r; spells = i.0 r; good = i.1 r; place_is = no_further _ _ s i.2 h.1; reason_is = h.0; none = inl h.1 }
 
-pub stuck_part : (s at : ℕ) (ps : List Piece) (x : ℕ) (w : List ℕ) (P : Front) (reason : ℕ) → Part s at ps (x ∷ w) P → ((r : List ℕ) → IsFaulty (first_behind_all P.first ps) x (w ++ r) reason) → (r : List ℕ) → StuckAt P.base P.first reason s (P.bytes r)
+pub stuck_part : (s at : ℕ) (ps : List Piece) (x : ℕ) (w : List ℕ) (P : Front) (reason : ℕ) → Part s at ps (x ∷ w) P →
+    ((r : List ℕ) → IsFaulty (first_behind_all P.first ps) x (w ++ r) reason) → (r : List ℕ) → StuckAt P.base P.first reason s (P.bytes r)
 stuck_part s at ps x w P reason i h r = stuck_before s at ps x w P reason i r (h r)
 
 -- the bytes of a part are a slice of the text
-pub part_slice : (t : List ℕ) (s at : ℕ) (ps : List Piece) (w : List ℕ) (P : Front) (r : List ℕ) → Part s at ps w P → Stands t P.base (P.bytes r) → slice_range t s at ≡ w
+pub part_slice : (t : List ℕ) (s at : ℕ) (ps : List Piece) (w : List ℕ) (P : Front) (r : List ℕ) → Part s at ps w P → Stands t P.base (P.bytes r) →
+    slice_range t s at ≡ w
 part_slice t s at ps w P r i e =
     let here : Stands t s (w ++ r) = subst (λ (n : ℕ). Stands t n (w ++ r)) i.2 (stands_text t ps P.base (w ++ r) (stands_along t P.base _ _ (i.0 r) e)) in
     ap (slice_range t s) (sym i.3) ∙ slice_is t s w r here
 
-pub part_slice_behind : (t : List ℕ) (s at : ℕ) (ps : List Piece) (x : ℕ) (w : List ℕ) (P : Front) (r : List ℕ) → Part s at ps (x ∷ w) P → Stands t P.base (P.bytes r) → slice_range t (s + 1) at ≡ w
+pub part_slice_behind : (t : List ℕ) (s at : ℕ) (ps : List Piece) (x : ℕ) (w : List ℕ) (P : Front) (r : List ℕ) → Part s at ps (x ∷ w) P →
+    Stands t P.base (P.bytes r) → slice_range t (s + 1) at ≡ w
 part_slice_behind t s at ps x w P r i e =
-    let here : Stands t s (x ∷ w ++ r) = subst (λ (n : ℕ). Stands t n (x ∷ w ++ r)) i.2 (stands_text t ps P.base (x ∷ w ++ r) (stands_along t P.base _ _ (i.0 r) e)) in
+    let here : Stands t s (x ∷ w ++ r) = subst (λ (n : ℕ). Stands t n (x ∷ w ++ r)) i.2
+    (stands_text t ps P.base (x ∷ w ++ r) (stands_along t P.base _ _ (i.0 r) e)) in
     ap (slice_range t (s + 1)) (sym i.3) ∙ slice_is t (s + 1) w r (stands_past t s (x ∷ []) (w ++ r) here)

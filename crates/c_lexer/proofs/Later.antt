@@ -88,7 +88,8 @@ char_moves s Over b at h = char_held_moves s b at h
 char_moves s Wrong b at h = self s
 
 in_text_moves : (s b at : ℕ) → s ≤ at → Moves (in_text s b at) s (at + 1)
-in_text_moves s b at h = move (b == 34) _ _ s (at + 1) (beyond s at h) (move (b == 92) _ _ s (at + 1) (same s at h) (move (b == 10) _ _ s (at + 1) (self s) (same s at h)))
+in_text_moves s b at h = move (b == 34) _ _ s (at + 1) (beyond s at h)
+    (move (b == 92) _ _ s (at + 1) (same s at h) (move (b == 10) _ _ s (at + 1) (self s) (same s at h)))
 
 text_moves : (s : ℕ) (p : Progress) (b at : ℕ) → s ≤ at → Moves (text_escape s p b at) s (at + 1)
 text_moves s (More e) b at h = same s at h
@@ -115,16 +116,20 @@ step_moves : (t : List ℕ) (s : State) (b at : ℕ) → floor s at ≤ at → M
 step_moves t (Between first) b at h = begin_moves first _ b at at h
 step_moves t (InWord s) b at h = move (is_word_byte b) _ _ s (at + 1) (same s at h) (begin_moves false _ b s at h)
 step_moves t (InNumber s power) b at h =
-    move (is_run_byte power b) _ _ s (at + 1) (same s at h) (move (is_some (integer_of (slice_range t s at))) _ _ s (at + 1) (begin_moves false _ b s at h) (self s))
+    move (is_run_byte power b) _ _ s (at + 1) (same s at h) (move (is_some (integer_of (slice_range t s at))) _ _ s (at + 1)
+    (begin_moves false _ b s at h) (self s))
 step_moves t (InMark s m) b at h =
-    move (is_slash m && b == 42) _ _ s (at + 1) (same s at h) (move (is_slash m && b == 47) _ _ s (at + 1) (same s at h) (move (is_dot m && b == 46) _ _ s (at + 1) (same s at h) (longer_moves s (longer m b) b at h)))
+    move (is_slash m && b == 42) _ _ s (at + 1) (same s at h)
+    (move (is_slash m && b == 47) _ _ s (at + 1) (same s at h)
+    (move (is_dot m && b == 46) _ _ s (at + 1) (same s at h) (longer_moves s (longer m b) b at h)))
 step_moves t (Dots s) b at h = move (b == 46) _ _ s (at + 1) (same s at h) (begin_moves false _ b s at h)
 step_moves t (CharOpened s) b at h = move (b == 92) _ _ s (at + 1) (same s at h) (move (is_character_byte b) _ _ s (at + 1) (same s at h) (self s))
 step_moves t (CharEscape s e) b at h = char_moves s (escape_step e b) b at h
 step_moves t (CharHeld s) b at h = char_held_moves s b at h
 step_moves t (InText s) b at h = in_text_moves s b at h
 step_moves t (TextEscape s e) b at h = text_moves s (escape_step e b) b at h
-step_moves t (InDirective s end) b at h = move (b == 10) _ _ s (at + 1) (directive_moves s end at (slice_range t (s + 1) at) (broken_at (slice_range t (s + 1) at)) h) (same s at h)
+step_moves t (InDirective s end) b at h = move (b == 10) _ _ s (at + 1)
+    (directive_moves s end at (slice_range t (s + 1) at) (broken_at (slice_range t (s + 1) at)) h) (same s at h)
 step_moves t (InComment s c) b at h = comment_moves s c b at h
 step_moves t (InLine s end) b at h = move (b == 10) _ _ s (at + 1) (line_moves s end at (broken_at (slice_range t s at)) h) (same s at h)
 
@@ -141,7 +146,8 @@ faulty reason place = Faulty reason place
 place_same : (low place k reason other : ℕ) → low ≤ place → faulty reason place ≡ faulty other k → low ≤ k
 place_same low place k reason other h e = let y : place ≡ k = cc in omega arith
 
-later : (ts : List ℕ) (t : List ℕ) (s : State) (at : ℕ) (out : List Ended) (reason k : ℕ) → floor s at ≤ at → scan t s at out ts ≡ Faulty reason k → floor s at ≤ k
+later : (ts : List ℕ) (t : List ℕ) (s : State) (at : ℕ) (out : List Ended) (reason k : ℕ) → floor s at ≤ at → scan t s at out ts ≡ Faulty reason k →
+    floor s at ≤ k
 later [] t s at out reason k f h = go (finish t s at) (finish_moves t s at f) h
   where
     go : (n : Taken) → Moves n (floor s at) (at + 1) → go_on add_all n out (λ z (more : List Ended). Read more) ≡ Faulty reason k → floor s at ≤ k
@@ -149,7 +155,8 @@ later [] t s at out reason k f h = go (finish t s at) (finish_moves t s at f) h
     go (Fault r place) m g = place_same (floor s at) place k r reason m g
 later (b ∷ ts) t s at out reason k f h = go (step t s b at) (step_moves t s b at f) (λ x more i. later ts t x (at + 1) more reason k i) h
   where
-    go : (n : Taken) → Moves n (floor s at) (at + 1) → ((x : State) (more : List Ended) → floor x (at + 1) ≤ at + 1 → scan t x (at + 1) more ts ≡ Faulty reason k → floor x (at + 1) ≤ k)
+    go : (n : Taken) → Moves n (floor s at) (at + 1) → ((x : State) (more : List Ended) → floor x (at + 1) ≤ at + 1 →
+        scan t x (at + 1) more ts ≡ Faulty reason k → floor x (at + 1) ≤ k)
         → go_on add_all n out (λ z more. scan t z (at + 1) more ts) ≡ Faulty reason k → floor s at ≤ k
     go (Go x e) m g i = up _ _ _ m.0 (g x (add_all e out) m.1 i)
     go (Fault r place) m g i = place_same (floor s at) place k r reason m i
@@ -178,9 +185,11 @@ has_byte first (Line w) f = omega arith
 has_byte first (Block w) f = omega arith
 
 -- where a piece begins there is no fault
-pub no_fault : (t : List ℕ) (first : Bool) (p : Piece) (r : List ℕ) → Fits first p → Longest p r → (at : ℕ) (out : List Ended) → Stands t at (spelled p r) → (reason : ℕ) → scan t (Between first) at out (spelled p r) ≡ Faulty reason at → ⊥
+pub no_fault : (t : List ℕ) (first : Bool) (p : Piece) (r : List ℕ) → Fits first p → Longest p r → (at : ℕ) (out : List Ended) →
+    Stands t at (spelled p r) → (reason : ℕ) → scan t (Between first) at out (spelled p r) ≡ Faulty reason at → ⊥
 no_fault t first p r f l at out i reason h =
-    let x = later r t (Between (first_behind first p)) (ends p at) (add_all (kept p at) out) reason at (self (ends p at)) (sym (read t first p f r l at out i) ∙ h) in
+    let x = later r t (Between (first_behind first p)) (ends p at) (add_all (kept p at) out) reason at (self (ends p at))
+    (sym (read t first p f r l at out i) ∙ h) in
     let y = plus_more at (ends p at) (length (spelled p [])) (ends_is p at) (has_byte first p f) in
     less _ _ x y
   where

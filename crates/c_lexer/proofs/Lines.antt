@@ -139,7 +139,8 @@ pub broken : (w : List ℕ) (n : ℕ) → broken_at w ≡ Some n → Broken w n
 broken [] n h = absurd cc
 broken (b ∷ w) n h = go (breaks_line b w) refl (broken_at w) refl h (λ m f. broken w m f)
   where
-    go : (c : Bool) → breaks_line b w ≡ c → (o : Option ℕ) → broken_at w ≡ o → cond c (Some 0) (option_map (λ m. m + 1) o) ≡ Some n → ((m : ℕ) → broken_at w ≡ Some m → Broken w m) → Broken (b ∷ w) n
+    go : (c : Bool) → breaks_line b w ≡ c → (o : Option ℕ) → broken_at w ≡ o → cond c (Some 0) (option_map (λ m. m + 1) o) ≡ Some n →
+        ((m : ℕ) → broken_at w ≡ Some m → Broken w m) → Broken (b ∷ w) n
     go true e o f g i =
         let z = some_same 0 n g in
         record {
@@ -148,8 +149,10 @@ broken (b ∷ w) n h = go (breaks_line b w) refl (broken_at w) refl h (λ m f. b
           bytes = refl;
           count = z;
           within = omega arith;
-          own_is = λ r next line. (let q = all_of_more (λ c. not (is_newline c)) b w line in own_stops (b == 10) (breaks_off b (w ++ r)) _ (breaks_same b w r next q.1 ∙ e));
-          breaks = λ r next line. (let q = all_of_more (λ c. not (is_newline c)) b w line in broken_here (b == 10) (breaks_off b (w ++ r)) _ (not_true (b == 10) q.0) (breaks_same b w r next q.1 ∙ e));
+          own_is = λ r next line. (let q = all_of_more (λ c. not (is_newline c)) b w line in
+              own_stops (b == 10) (breaks_off b (w ++ r)) _ (breaks_same b w r next q.1 ∙ e));
+          breaks = λ r next line. (let q = all_of_more (λ c. not (is_newline c)) b w line in
+              broken_here (b == 10) (breaks_off b (w ++ r)) _ (not_true (b == 10) q.0) (breaks_same b w r next q.1 ∙ e));
         }
     go false e None f g i = absurd cc
     go false e (Some m) f g i =
@@ -163,8 +166,10 @@ broken (b ∷ w) n h = go (breaks_line b w) refl (broken_at w) refl h (λ m f. b
           bytes = ap (λ (l : List ℕ). b ∷ l) k.bytes;
           count = omega arith;
           within = omega arith;
-          own_is = λ r next line. (let q = all_of_more (λ c. not (is_newline c)) b w line in own_on (b == 10) (breaks_off b (w ++ r)) b _ _ (not_true (b == 10) q.0) (breaks_same b w r next q.1 ∙ e) (k.own_is r next q.1));
-          breaks = λ r next line. (let q = all_of_more (λ c. not (is_newline c)) b w line in broken_on (b == 10) (breaks_off b (w ++ r)) _ (not_true (b == 10) q.0) (k.breaks r next q.1));
+          own_is = λ r next line. (let q = all_of_more (λ c. not (is_newline c)) b w line in
+              own_on (b == 10) (breaks_off b (w ++ r)) b _ _ (not_true (b == 10) q.0) (breaks_same b w r next q.1 ∙ e) (k.own_is r next q.1));
+          breaks = λ r next line. (let q = all_of_more (λ c. not (is_newline c)) b w line in
+              broken_on (b == 10) (breaks_off b (w ++ r)) _ (not_true (b == 10) q.0) (k.breaks r next q.1));
         }
 
 pub broken_within : (w : List ℕ) (n : ℕ) → broken_at w ≡ Some n → n < length w

@@ -8,7 +8,8 @@ use Rattle.c_lexer.specs.Marks.{mark_text}
 use Rattle.c_lexer.specs.MarkSteps.{mark_at, longer, is_dot, grown, grown_mark}
 use Rattle.c_lexer.specs.Pieces.{Begins}
 
-one_more : (b d : ℕ) (p : Mark) (o : Option Mark) (n : Mark) (w : List ℕ) → mark_text p ≡ w ++ d ∷ [] → ((o ≡ Some n) → mark_text n ≡ w ++ b ∷ []) → cond (b == d) (Some p) o ≡ Some n → mark_text n ≡ w ++ b ∷ []
+one_more : (b d : ℕ) (p : Mark) (o : Option Mark) (n : Mark) (w : List ℕ) → mark_text p ≡ w ++ d ∷ [] → ((o ≡ Some n) → mark_text n ≡ w ++ b ∷ []) →
+    cond (b == d) (Some p) o ≡ Some n → mark_text n ≡ w ++ b ∷ []
 one_more b d p o n w e f h = go (b == d) refl h
   where
     go : (c : Bool) → (b == d) ≡ c → cond c (Some p) o ≡ Some n → mark_text n ≡ w ++ b ∷ []
@@ -17,10 +18,12 @@ one_more b d p o n w e f h = go (b == d) refl h
 
 -- a longer mark is the mark with that byte behind it
 pub longer_text : (m n : Mark) (b : ℕ) → longer m b ≡ Some n → mark_text n ≡ mark_text m ++ b ∷ []
-longer_text Ampersand n b h = one_more b 38 AmpersandAmpersand _ n (mark_text Ampersand) refl (one_more b 61 AmpersandEquals _ n (mark_text Ampersand) refl (λ g. absurd cc)) h
+longer_text Ampersand n b h = one_more b 38 AmpersandAmpersand _ n (mark_text Ampersand) refl
+    (one_more b 61 AmpersandEquals _ n (mark_text Ampersand) refl (λ g. absurd cc)) h
 longer_text Star n b h = one_more b 61 StarEquals _ n (mark_text Star) refl (λ g. absurd cc) h
 longer_text Plus n b h = one_more b 43 PlusPlus _ n (mark_text Plus) refl (one_more b 61 PlusEquals _ n (mark_text Plus) refl (λ g. absurd cc)) h
-longer_text Minus n b h = one_more b 62 Arrow _ n (mark_text Minus) refl (one_more b 45 MinusMinus _ n (mark_text Minus) refl (one_more b 61 MinusEquals _ n (mark_text Minus) refl (λ g. absurd cc))) h
+longer_text Minus n b h = one_more b 62 Arrow _ n (mark_text Minus) refl
+    (one_more b 45 MinusMinus _ n (mark_text Minus) refl (one_more b 61 MinusEquals _ n (mark_text Minus) refl (λ g. absurd cc))) h
 longer_text Exclamation n b h = one_more b 61 ExclamationEquals _ n (mark_text Exclamation) refl (λ g. absurd cc) h
 longer_text Slash n b h = one_more b 61 SlashEquals _ n (mark_text Slash) refl (λ g. absurd cc) h
 longer_text Percent n b h = one_more b 61 PercentEquals _ n (mark_text Percent) refl (λ g. absurd cc) h
@@ -36,9 +39,26 @@ longer_text _ n b h = absurd cc
 -- a mark of one byte
 pub mark_first : (b : ℕ) (m : Mark) → mark_at b ≡ Some m → mark_text m ≡ b ∷ []
 mark_first b m h =
-    one_more b 91 OpenBracket _ m [] refl (one_more b 93 CloseBracket _ m [] refl (one_more b 40 OpenParenthesis _ m [] refl (one_more b 41 CloseParenthesis _ m [] refl (one_more b 123 OpenBrace _ m [] refl (one_more b 125 CloseBrace _ m [] refl (one_more b 46 Dot _ m [] refl (one_more b 38 Ampersand _ m [] refl (one_more b 42 Star _ m [] refl (one_more b 43 Plus _ m [] refl (one_more b 45 Minus _ m [] refl (one_more b 126 Tilde _ m [] refl (one_more b 33 Exclamation _ m [] refl (one_more b 47 Slash _ m [] refl (one_more b 37 Percent _ m [] refl (one_more b 60 Less _ m [] refl (one_more b 62 Greater _ m [] refl (one_more b 94 Caret _ m [] refl (one_more b 124 Bar _ m [] refl (one_more b 63 Question _ m [] refl (one_more b 58 Colon _ m [] refl (one_more b 59 Semicolon _ m [] refl (one_more b 61 Equals _ m [] refl (one_more b 44 Comma _ m [] refl (λ g. absurd cc)))))))))))))))))))))))) h
+    one_more b 91 OpenBracket _ m [] refl
+    (one_more b 93 CloseBracket _ m [] refl
+    (one_more b 40 OpenParenthesis _ m [] refl (one_more b 41 CloseParenthesis _ m [] refl
+    (one_more b 123 OpenBrace _ m [] refl
+    (one_more b 125 CloseBrace _ m [] refl
+    (one_more b 46 Dot _ m [] refl (one_more b 38 Ampersand _ m [] refl
+    (one_more b 42 Star _ m [] refl (one_more b 43 Plus _ m [] refl
+    (one_more b 45 Minus _ m [] refl
+    (one_more b 126 Tilde _ m [] refl
+    (one_more b 33 Exclamation _ m [] refl
+    (one_more b 47 Slash _ m [] refl
+    (one_more b 37 Percent _ m [] refl
+    (one_more b 60 Less _ m [] refl (one_more b 62 Greater _ m [] refl
+    (one_more b 94 Caret _ m [] refl
+    (one_more b 124 Bar _ m [] refl (one_more b 63 Question _ m [] refl
+    (one_more b 58 Colon _ m [] refl
+    (one_more b 59 Semicolon _ m [] refl (one_more b 61 Equals _ m [] refl (one_more b 44 Comma _ m [] refl (λ g. absurd cc)))))))))))))))))))))))) h
 
-pub none_longer : (m : Mark) (b : ℕ) (r : List ℕ) → ((n : Mark) → Begins (mark_text n) (mark_text m ++ b ∷ r) → length (mark_text n) ≤ length (mark_text m)) → longer m b ≡ None
+pub none_longer : (m : Mark) (b : ℕ) (r : List ℕ) → ((n : Mark) → Begins (mark_text n) (mark_text m ++ b ∷ r) →
+    length (mark_text n) ≤ length (mark_text m)) → longer m b ≡ None
 none_longer m b r h = go (longer m b) refl
   where
     go : (o : Option Mark) → longer m b ≡ o → o ≡ None
@@ -132,7 +152,8 @@ none_some : (n : Mark) → None ≡ Some n → ⊥
 none_some n h = cc
 
 -- where the byte makes no longer mark, and no ellipsis begins, none that is longer begins there
-no_longer : (m : Mark) (b : ℕ) (r : List ℕ) → is_ellipsis m ≡ false → longer m b ≡ None → (n : Mark) → is_ellipsis n ≡ false → Begins (mark_text n) (mark_text m ++ b ∷ r) → length (mark_text n) ≤ length (mark_text m)
+no_longer : (m : Mark) (b : ℕ) (r : List ℕ) → is_ellipsis m ≡ false → longer m b ≡ None → (n : Mark) → is_ellipsis n ≡ false →
+    Begins (mark_text n) (mark_text m ++ b ∷ r) → length (mark_text n) ≤ length (mark_text m)
 no_longer m b r a h n c (q, e) = le_or (length (mark_text n)) (length (mark_text m)) (λ lt.
     let k = split_at (mark_text m) (mark_text n) b r q e lt in
     none_some n (sym (sym (grows n c) ∙ ap grown_mark k.1 ∙ grows_more m (mark_text m) (b ∷ k.0) (grows m a) ∙ ap (λ (o : Option Mark). grown o k.0) h)))
@@ -148,7 +169,8 @@ dots_from : (v : List ℕ) → Begins (mark_text Ellipsis) v → dots_begin v �
 dots_from v (q, e) = ap dots_begin e
 
 -- so none begins that is longer than this mark
-pub longest_mark : (m : Mark) (b : ℕ) (r : List ℕ) → longer m b ≡ None → (is_ellipsis m ≡ false → dots_begin (mark_text m ++ b ∷ r) ≡ false) → (n : Mark) → Begins (mark_text n) (mark_text m ++ b ∷ r) → length (mark_text n) ≤ length (mark_text m)
+pub longest_mark : (m : Mark) (b : ℕ) (r : List ℕ) → longer m b ≡ None → (is_ellipsis m ≡ false → dots_begin (mark_text m ++ b ∷ r) ≡ false) →
+    (n : Mark) → Begins (mark_text n) (mark_text m ++ b ∷ r) → length (mark_text n) ≤ length (mark_text m)
 longest_mark m b r h d n i = other (is_ellipsis m) refl (is_ellipsis n) refl
   where
     at_most_three : (n : Mark) → length (mark_text n) ≤ 3

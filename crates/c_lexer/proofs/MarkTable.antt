@@ -15,7 +15,8 @@ use Rattle.c_lexer.proofs.Truths.{both_true, not_true}
 some_same : (m n : Mark) → Some m ≡ Some n → m ≡ n
 some_same m n e = cc
 
-found_at : (p q : Mark → Bool) (n m : Mark) (c : Bool) (o : Option Mark) → p n ≡ c → q n ≡ true → (o ≡ Some m → (p m ≡ true) × (q m ≡ true)) → cond c (Some n) o ≡ Some m → (p m ≡ true) × (q m ≡ true)
+found_at : (p q : Mark → Bool) (n m : Mark) (c : Bool) (o : Option Mark) → p n ≡ c → q n ≡ true → (o ≡ Some m → (p m ≡ true) × (q m ≡ true)) →
+    cond c (Some n) o ≡ Some m → (p m ≡ true) × (q m ≡ true)
 found_at p q n m true o f h k e = let x = some_same n m e in (ap p (sym x) ∙ f, ap q (sym x) ∙ h)
 found_at p q n m false o f h k e = k e
 

@@ -288,13 +288,15 @@ rest_none false = refl
 pub quote_here : (b : ℕ) (w : List ℕ) → (47 == b) ≡ false → is_quote b ≡ true → from_quote (b ∷ w) ≡ b ∷ w
 quote_here b [] s q = ap (λ c. cond c (b ∷ []) []) q
 quote_here b (c ∷ w) s q =
-    ap (λ x. cond (x && (47 == c && true)) [] (cond (x && (42 == c && true)) (cond (is_some (behind_comment w)) (past_comment w) (b ∷ c ∷ w)) (cond (is_quote b) (b ∷ c ∷ w) (from_quote (c ∷ w))))) s
+    ap (λ x. cond (x && (47 == c && true)) [] (cond (x && (42 == c && true)) (cond (is_some (behind_comment w)) (past_comment w) (b ∷ c ∷ w))
+    (cond (is_quote b) (b ∷ c ∷ w) (from_quote (c ∷ w))))) s
     ∙ ap (λ x. cond x (b ∷ c ∷ w) (from_quote (c ∷ w))) q
 
 passed : (b : ℕ) (w : List ℕ) → (47 == b) ≡ false → is_quote b ≡ false → from_quote (b ∷ w) ≡ from_quote w
 passed b [] s q = ap (λ c. cond c (b ∷ []) []) q
 passed b (c ∷ w) s q =
-    ap (λ x. cond (x && (47 == c && true)) [] (cond (x && (42 == c && true)) (cond (is_some (behind_comment w)) (past_comment w) (b ∷ c ∷ w)) (cond (is_quote b) (b ∷ c ∷ w) (from_quote (c ∷ w))))) s
+    ap (λ x. cond (x && (47 == c && true)) [] (cond (x && (42 == c && true)) (cond (is_some (behind_comment w)) (past_comment w) (b ∷ c ∷ w))
+    (cond (is_quote b) (b ∷ c ∷ w) (from_quote (c ∷ w))))) s
     ∙ ap (λ x. cond x (b ∷ c ∷ w) (from_quote (c ∷ w))) q
 
 -- what is left behind a comment

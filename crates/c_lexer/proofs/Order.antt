@@ -68,7 +68,9 @@ text_escape_keeps s Wrong b at h = omega arith
 
 -- a line is continued within it
 slice_within : (t : List ℕ) (s at n : ℕ) → broken_at (slice_range t s at) ≡ Some n → s ≤ at → n ≤ at - s
-slice_within t s at n k h = let x = broken_within (slice_range t s at) n k in let y = length-take (at - s) (drop s t) in let z = min-le_left (at - s) (length (drop s t)) in omega arith
+slice_within t s at n k h = let x = broken_within (slice_range t s at) n k in let y = length-take (at - s) (drop s t) in let z =
+    min-le_left (at - s)
+    (length (drop s t)) in omega arith
 
 directive_keeps : (s end at : ℕ) (w : List ℕ) (o : Option ℕ) → ((n : ℕ) → o ≡ Some n → s + 1 + n ≤ at) → s + 1 ≤ at → KeepsOrder at (end_directive s end w o)
 directive_keeps s end at w None f h = either (is_directive w) _ _ at (omega arith) (omega arith)
@@ -97,6 +99,9 @@ step_keeps t (CharEscape s e) b at h = char_escape_keeps s (escape_step e b) b a
 step_keeps t (CharHeld s) b at h = char_held_keeps s b at h
 step_keeps t (InText s) b at h = in_text_keeps s b at h
 step_keeps t (TextEscape s e) b at h = text_escape_keeps s (escape_step e b) b at h
-step_keeps t (InDirective s end) b at h = either (b == 10) _ _ at (directive_keeps s end at (slice_range t (s + 1) at) (broken_at (slice_range t (s + 1) at)) (λ n k. let x = slice_within t (s + 1) at n k h in (let y : s + 1 + n ≤ at = omega arith in y)) h) (omega arith)
+step_keeps t (InDirective s end) b at h = either (b == 10) _ _ at
+    (directive_keeps s end at (slice_range t (s + 1) at) (broken_at (slice_range t (s + 1) at))
+    (λ n k. let x = slice_within t (s + 1) at n k h in (let y : s + 1 + n ≤ at = omega arith in y)) h) (omega arith)
 step_keeps t (InComment s c) b at h = comment_keeps s c b at h
-step_keeps t (InLine s end) b at h = either (b == 10) _ _ at (line_keeps s end at (broken_at (slice_range t s at)) (λ n k. let x = slice_within t s at n k h in (let y : s + n ≤ at = omega arith in y)) h) (omega arith)
+step_keeps t (InLine s end) b at h = either (b == 10) _ _ at
+    (line_keeps s end at (broken_at (slice_range t s at)) (λ n k. let x = slice_within t s at n k h in (let y : s + n ≤ at = omega arith in y)) h) (omega arith)

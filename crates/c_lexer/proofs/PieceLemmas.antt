@@ -95,7 +95,8 @@ written_split (Hexadecimal a ds) r = ap (λ (w : List ℕ). 92 ∷ 120 ∷ a ∷
 written_all_split : (cs : List Character) (r : List ℕ) → written_all cs r ≡ written_all cs [] ++ r
 written_all_split [] r = refl
 written_all_split (c ∷ cs) r =
-    written_split c (written_all cs r) ∙ ap (λ (w : List ℕ). written c [] ++ w) (written_all_split cs r) ∙ sym (append_assoc (written c []) (written_all cs []) r)
+    written_split c (written_all cs r) ∙ ap (λ (w : List ℕ). written c [] ++ w) (written_all_split cs r) ∙
+    sym (append_assoc (written c []) (written_all cs []) r)
     ∙ ap (λ (w : List ℕ). w ++ r) (sym (written_split c (written_all cs [])))
 
 quoted : (w v r : List ℕ) (b : ℕ) → w ≡ v ++ b ∷ r → (u : List ℕ) → u ≡ v ++ b ∷ [] → w ≡ u ++ r
@@ -131,7 +132,8 @@ slice_is t at w r (u, e, n) =
 
 pub stands_behind : (t : List ℕ) (p : Piece) (at : ℕ) (r : List ℕ) → Stands t at (spelled p r) → Stands t (ends p at) r
 stands_behind t p at r h =
-    subst (λ (n : ℕ). Stands t n r) (past_is (spelled p []) at ∙ sym (ends_is p at)) (stands_past t at (spelled p []) r (stands_along t at _ _ (spelled_split p r) h))
+    subst (λ (n : ℕ). Stands t n r) (past_is (spelled p []) at ∙ sym (ends_is p at))
+    (stands_past t at (spelled p []) r (stands_along t at _ _ (spelled_split p r) h))
 
 pub stands_text : (t : List ℕ) (ps : List Piece) (at : ℕ) (r : List ℕ) → Stands t at (text ps r) → Stands t (ends_all ps at) r
 stands_text t [] at r h = h

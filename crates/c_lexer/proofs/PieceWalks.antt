@@ -37,7 +37,8 @@ first_is ps = first_along stands_first stands_along ps
 -- ---- good pieces
 
 abbrev AreGoodBy : (List Piece → Bool) → List Piece → List ℕ → Type 0
-AreGoodBy first pieces r = (before : List Piece) (p : Piece) (after : List Piece) → pieces ≡ before ++ p ∷ after → Fits (first before) p × Longest p (text after r)
+AreGoodBy first pieces r = (before : List Piece) (p : Piece) (after : List Piece) → pieces ≡ before ++ p ∷ after →
+    Fits (first before) p × Longest p (text after r)
 
 good_along : (first : List Piece → Bool) → GoesAlong first → (ps : List Piece) (r : List ℕ) → AreGoodBy first ps r → Good (first []) ps r
 good_along first h [] r g = tt
@@ -46,7 +47,8 @@ good_along first h (p ∷ ps) r g =
       k.0,
       k.1,
       subst (λ c. Good c ps r) (h [] p)
-          (good_along (λ before. first (p ∷ before)) (λ before q. h (p ∷ before) q) ps r (λ before q after e. g (p ∷ before) q after (ap (λ (l : List Piece). p ∷ l) e))),
+          (good_along (λ before. first (p ∷ before)) (λ before q. h (p ∷ before) q) ps r
+          (λ before q after e. g (p ∷ before) q after (ap (λ (l : List Piece). p ∷ l) e))),
     )
 
 good_back : (first : List Piece → Bool) → GoesAlong first → (ps : List Piece) (r : List ℕ) → Good (first []) ps r → AreGoodBy first ps r
@@ -76,12 +78,14 @@ spells_walked ps t s = good_walked ps [] s.good
 pub length_on : (p : Piece) (r : List ℕ) → length (spelled p r) ≡ length (spelled p []) + length r
 length_on p r = ap length (spelled_split p r) ∙ length-append (spelled p []) r
 
-all_along : {X : Type 0} (f : Piece → ℕ → List X) (g : List Piece → Piece → List X) (at : ℕ) → ((before : List Piece) (p : Piece) → g before p ≡ f p (at + length (text before [])))
+all_along : {X : Type 0} (f : Piece → ℕ → List X) (g : List Piece → Piece → List X) (at : ℕ) →
+    ((before : List Piece) (p : Piece) → g before p ≡ f p (at + length (text before [])))
     → (ps : List Piece) → all_of f ps at ≡ flat_map (λ xs. xs) (each_behind g ps)
 all_along f g at h [] = refl
 all_along {X} f g at h (p ∷ ps) =
     let here : f p at ≡ g [] p = ap (f p) (nothing at) ∙ sym (h [] p) in
-    let later = all_along f (λ before q. g (p ∷ before) q) (behind p at) (λ before q. h (p ∷ before) q ∙ ap (f q) (on _ _ _ (length_on p (text before [])))) ps in
+    let later = all_along f (λ before q. g (p ∷ before) q) (behind p at)
+    (λ before q. h (p ∷ before) q ∙ ap (f q) (on _ _ _ (length_on p (text before [])))) ps in
     ap (λ (xs : List X). xs ++ all_of f ps (behind p at)) here ∙ ap (λ (xs : List X). g [] p ++ xs) later
   where
     nothing : (n : ℕ) → n ≡ n + 0

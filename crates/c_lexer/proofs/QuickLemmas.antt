@@ -62,7 +62,8 @@ back out = same_parts _ _ _ _ (tokens_back out.tokens out.comments) (comments_ba
 transfer : (t : List ℕ) (s z : State) (at place : ℕ) (e : Ended) (u v : List ℕ) → ((out : List Ended) → scan t s at out u ≡ scan t z place (add_all e out) v)
     → (out : Scanned) → run add_ended t s at out u ≡ run add_ended t z place (add_ended e out) v
 transfer t s z at place e u v h out =
-    ap (λ (x : Scanned). run add_ended t s at x u) (sym (back out)) ∙ select_run u t s at (as_list out) ∙ ap selected (h (as_list out)) ∙ sym (select_run v t z place (add_all e (as_list out)))
+    ap (λ (x : Scanned). run add_ended t s at x u) (sym (back out)) ∙ select_run u t s at (as_list out) ∙ ap selected (h (as_list out)) ∙
+    sym (select_run v t z place (add_all e (as_list out)))
     ∙ ap (λ (x : Scanned). run add_ended t z place x v) (sym (keep e (as_list out)) ∙ ap (add_ended e) (back out))
 
 -- ---- the front of a list of which this holds
@@ -80,7 +81,15 @@ span_of f [] = record { front = []; rest = []; bytes = refl; all = refl; ends = 
 span_of f (b ∷ v) = go (f b) refl (span_of f v)
   where
     go : (c : Bool) → f b ≡ c → Fronted f v → Fronted f (b ∷ v)
-    go true e k = let x = k.count in let y = k.all in record { front = b ∷ k.front; rest = k.rest; bytes = ap (λ (l : List ℕ). b ∷ l) k.bytes; all = rw (e, y); ends = k.ends; count = rw e (let z : length (b ∷ k.front) ≡ 1 + prefix_len f v = omega arith in z) }
+    go true e k = let x = k.count in let y = k.all in record {
+      front = b ∷ k.front;
+      rest = k.rest;
+      bytes = ap (λ (l : List ℕ). b ∷ l) k.bytes;
+      all =
+          rw (e, y);
+      ends = k.ends;
+      count = rw e (let z : length (b ∷ k.front) ≡ 1 + prefix_len f v = omega arith in z);
+    }
     go false e k = record { front = []; rest = b ∷ v; bytes = refl; all = refl; ends = e; count = rw e }
 
 -- ---- where a text goes on
@@ -88,7 +97,8 @@ span_of f (b ∷ v) = go (f b) refl (span_of f v)
 stands_at : (t : List ℕ) (i : ℕ) → i ≤ length t → Stands t i (drop i t)
 stands_at t zero h = ([], refl, refl)
 stands_at [] (suc n) h = absurd (omega arith)
-stands_at (b ∷ t) (suc n) h = let x = stands_at t n (let y : n ≤ length t = omega arith in y) in (b ∷ x.0, ap (λ (l : List ℕ). b ∷ l) x.1, (let z = x.2 in let w : length (b ∷ x.0) ≡ suc n = omega arith in w))
+stands_at (b ∷ t) (suc n) h = let x = stands_at t n (let y : n ≤ length t = omega arith in y) in
+    (b ∷ x.0, ap (λ (l : List ℕ). b ∷ l) x.1, (let z = x.2 in let w : length (b ∷ x.0) ≡ suc n = omega arith in w))
 
 behind_it : (t : List ℕ) (i n : ℕ) (w r : List ℕ) → Stands t i (w ++ r) → n ≡ i + length w → drop n t ≡ r
 behind_it t i n w r (u, e, l) h =
@@ -97,7 +107,8 @@ behind_it t i n w r (u, e, l) h =
 -- ---- a word
 
 pub word_read : (t : List ℕ) (s : State) (i : ℕ) (out : Scanned) → i < length t → begins_word s (get_or t i 0) ≡ true
-    → run add_ended t s i out (drop i t) ≡ run add_ended t (Between false) (word_from t i).end (record { tokens = out.tokens ++ word_from t i ∷ []; comments = out.comments }) (drop (word_from t i).end t)
+    → run add_ended t s i out (drop i t) ≡ run add_ended t (Between false) (word_from t i).end
+    (record { tokens = out.tokens ++ word_from t i ∷ []; comments = out.comments }) (drop (word_from t i).end t)
 word_read t (Between first) i out h letter =
     let k = span_of is_word_byte (drop (i + 1) t) in
     let b = get_or t i 0 in
@@ -108,10 +119,14 @@ word_read t (Between first) i out h letter =
     let slice : slice_range t i (word_from t i).end ≡ w = ap (slice_range t i) (sym end) ∙ slice_is t i w k.rest stands in
     let whole : is_letter b && list_all is_word_byte k.front ≡ true = both_are _ _ letter k.all in
     ap (run add_ended t (Between first) i out) here
-    ∙ transfer t (Between first) (Between false) i (past i w) (kept (Word w) i) (w ++ k.rest) k.rest (λ more. read t first (Word w) whole k.rest k.ends i more stands) out
-    ∙ ap (λ (v : List ℕ). run add_ended t (Between false) (past i w) (record { tokens = out.tokens ++ token (word_kind v) i (past i w) ∷ []; comments = out.comments }) k.rest) (sym slice)
-    ∙ ap (λ (n : ℕ). run add_ended t (Between false) n (record { tokens = out.tokens ++ token (word_kind (slice_range t i (word_from t i).end)) i n ∷ []; comments = out.comments }) k.rest) end
-    ∙ ap (run add_ended t (Between false) (word_from t i).end (record { tokens = out.tokens ++ word_from t i ∷ []; comments = out.comments })) (sym (behind_it t i (word_from t i).end w k.rest stands (let x = past_is w i in omega arith)))
+    ∙ transfer t (Between first) (Between false) i (past i w) (kept (Word w) i) (w ++ k.rest) k.rest
+    (λ more. read t first (Word w) whole k.rest k.ends i more stands) out
+    ∙ ap (λ (v : List ℕ). run add_ended t (Between false) (past i w)
+    (record { tokens = out.tokens ++ token (word_kind v) i (past i w) ∷ []; comments = out.comments }) k.rest) (sym slice)
+    ∙ ap (λ (n : ℕ). run add_ended t (Between false) n
+    (record { tokens = out.tokens ++ token (word_kind (slice_range t i (word_from t i).end)) i n ∷ []; comments = out.comments }) k.rest) end
+    ∙ ap (run add_ended t (Between false) (word_from t i).end (record { tokens = out.tokens ++ word_from t i ∷ []; comments = out.comments }))
+    (sym (behind_it t i (word_from t i).end w k.rest stands (let x = past_is w i in omega arith)))
   where
     both_are : (a c : Bool) → a ≡ true → c ≡ true → (a && c) ≡ true
     both_are a c e f = rw (e, f)
@@ -149,7 +164,10 @@ no_dot _ c h = absurd cc
 
 longest_alone : (m : Mark) (r : List ℕ) → is_alone m ≡ true → Longest (Sign m) r
 longest_alone m [] h = (mark_last m, (λ q. tt))
-longest_alone m (c ∷ r) h = (longest_mark m c r (none_after m c h) (no_dots m c r (no_dot m c h)), (λ q. absurd (let y : is_alone Slash ≡ true = subst (λ (n : Mark). is_alone n ≡ true) q h in cc)))
+longest_alone m (c ∷ r) h = (
+  longest_mark m c r (none_after m c h) (no_dots m c r (no_dot m c h)),
+  (λ q. absurd (let y : is_alone Slash ≡ true = subst (λ (n : Mark). is_alone n ≡ true) q h in cc)),
+)
 
 pub mark_read : (t : List ℕ) (s : State) (i : ℕ) (out : Scanned) → i < length t → begins_mark s (get_or t i 0) ≡ true
     → run add_ended t s i out (drop i t) ≡ run add_ended t (Between false) (i + 1) (record_of (out.tokens ++ mark i (i + 1) ∷ []) out.comments) (drop (i + 1) t)
@@ -162,7 +180,8 @@ mark_read t (Between first) i out h alone = go (mark_at b) refl alone
     r = drop (i + 1) t
 
     go : (o : Option Mark) → mark_at b ≡ o → is_alone_mark o ≡ true
-        → run add_ended t (Between first) i out (drop i t) ≡ run add_ended t (Between false) (i + 1) (record_of (out.tokens ++ mark i (i + 1) ∷ []) out.comments) (drop (i + 1) t)
+        → run add_ended t (Between first) i out (drop i t) ≡ run add_ended t (Between false) (i + 1)
+        (record_of (out.tokens ++ mark i (i + 1) ∷ []) out.comments) (drop (i + 1) t)
     go None e a = absurd cc
     go (Some m) e a =
         let here : drop i t ≡ b ∷ r = drop_more t i 0 h in
@@ -170,17 +189,20 @@ mark_read t (Between first) i out h alone = go (mark_at b) refl alone
         let stands : Stands t i (b ∷ r) = subst (Stands t i) here (stands_at t i (let y : i ≤ length t = omega arith in y)) in
         ap (run add_ended t (Between first) i out) here
         ∙ transfer t (Between first) (Between false) i (i + 1) (found k.Mark i (i + 1)) (b ∷ r) r
-        (λ more. subst (λ (w : List ℕ). scan t (Between first) i more (w ++ r) ≡ scan t (Between false) (past i w) (add_all (found k.Mark i (past i w)) more) r) spelling
+        (λ more. subst (λ (w : List ℕ). scan t (Between first) i more (w ++ r) ≡ scan t (Between false) (past i w)
+        (add_all (found k.Mark i (past i w)) more) r) spelling
         (read t first (Sign m) tt r (longest_alone m r a) i more (subst (λ (w : List ℕ). Stands t i (w ++ r)) (sym spelling) stands))) out
 mark_read t _ i out h alone = absurd cc
 
 -- ---- bytes that stay
 
-stays_all : (t : List ℕ) (s : State) (w r : List ℕ) (at : ℕ) (out : Scanned) → list_all (stays s) w ≡ true → run add_ended t s at out (w ++ r) ≡ run add_ended t s (past at w) out r
+stays_all : (t : List ℕ) (s : State) (w r : List ℕ) (at : ℕ) (out : Scanned) → list_all (stays s) w ≡ true →
+    run add_ended t s at out (w ++ r) ≡ run add_ended t s (past at w) out r
 stays_all t s [] r at out h = refl
 stays_all t s (b ∷ w) r at out h = go (stays s b) refl h (λ k. stays_all t s w r (at + 1) out k)
   where
-    go : (c : Bool) → stays s b ≡ c → (c && list_all (stays s) w) ≡ true → (list_all (stays s) w ≡ true → run add_ended t s (at + 1) out (w ++ r) ≡ run add_ended t s (past (at + 1) w) out r)
+    go : (c : Bool) → stays s b ≡ c → (c && list_all (stays s) w) ≡ true →
+        (list_all (stays s) w ≡ true → run add_ended t s (at + 1) out (w ++ r) ≡ run add_ended t s (past (at + 1) w) out r)
         → run add_ended t s at out (b ∷ w ++ r) ≡ run add_ended t s (past (at + 1) w) out r
     go true e k f = ap (λ (n : Taken). go_on add_ended n out (λ z (more : Scanned). run add_ended t z (at + 1) more (w ++ r))) (stays_is t s b at e) ∙ f k
     go false e k f = absurd cc
@@ -195,23 +217,28 @@ stays_read t s i n out h e place =
     let stands : Stands t i (w ++ k.rest) = subst (Stands t i) here (stands_at t i (let y : i ≤ length t = omega arith in y)) in
     let end : past i w ≡ n = (let x = past_is w i in let y = k.count in omega arith) in
     ap (run add_ended t s i out) here ∙ stays_all t s w k.rest i out (both_are _ _ e k.all)
-    ∙ ap (λ (m : ℕ). run add_ended t s m out k.rest) end ∙ ap (run add_ended t s n out) (sym (behind_it t i n w k.rest stands (let x = past_is w i in omega arith)))
+    ∙ ap (λ (m : ℕ). run add_ended t s m out k.rest) end ∙ ap (run add_ended t s n out)
+    (sym (behind_it t i n w k.rest stands (let x = past_is w i in omega arith)))
   where
     both_are : (a c : Bool) → a ≡ true → c ≡ true → (a && c) ≡ true
     both_are a c e f = rw (e, f)
 
 -- ---- what the loop keeps
 
-pub word_kept : (t : List ℕ) (s : State) (i : ℕ) (out : Scanned) (x : Token) (xs : List Token) → i < length t → begins_word s (get_or t i 0) ≡ true → x ≡ word_from t i → xs ≡ out.tokens ++ x ∷ []
+pub word_kept : (t : List ℕ) (s : State) (i : ℕ) (out : Scanned) (x : Token) (xs : List Token) → i < length t → begins_word s (get_or t i 0) ≡ true →
+    x ≡ word_from t i → xs ≡ out.tokens ++ x ∷ []
     → run add_ended t s i out (drop i t) ≡ run add_ended t (Between false) x.end (record_of xs out.comments) (drop x.end t)
 word_kept t s i out x xs h letter e f =
-    word_read t s i out h letter ∙ ap (λ (y : Token). run add_ended t (Between false) y.end (record_of (out.tokens ++ y ∷ []) out.comments) (drop y.end t)) (sym e)
+    word_read t s i out h letter ∙ ap (λ (y : Token). run add_ended t (Between false) y.end (record_of (out.tokens ++ y ∷ []) out.comments)
+    (drop y.end t)) (sym e)
     ∙ ap (λ (l : List Token). run add_ended t (Between false) x.end (record_of l out.comments) (drop x.end t)) (sym f)
 
-pub mark_kept : (t : List ℕ) (s : State) (i : ℕ) (out : Scanned) (x : Token) (xs : List Token) → i < length t → begins_mark s (get_or t i 0) ≡ true → x ≡ mark i (i + 1) → xs ≡ out.tokens ++ x ∷ []
+pub mark_kept : (t : List ℕ) (s : State) (i : ℕ) (out : Scanned) (x : Token) (xs : List Token) → i < length t → begins_mark s (get_or t i 0) ≡ true →
+    x ≡ mark i (i + 1) → xs ≡ out.tokens ++ x ∷ []
     → run add_ended t s i out (drop i t) ≡ run add_ended t (Between false) (i + 1) (record_of xs out.comments) (drop (i + 1) t)
 mark_kept t s i out x xs h alone e f =
-    mark_read t s i out h alone ∙ ap (λ (l : List Token). run add_ended t (Between false) (i + 1) (record_of l out.comments) (drop (i + 1) t)) (ap (λ (y : Token). out.tokens ++ y ∷ []) (sym e) ∙ sym f)
+    mark_read t s i out h alone ∙ ap (λ (l : List Token). run add_ended t (Between false) (i + 1) (record_of l out.comments) (drop (i + 1) t))
+    (ap (λ (y : Token). out.tokens ++ y ∷ []) (sym e) ∙ sym f)
 
 pub later : (m i n : ℕ) → m ≤ i → i < n → m ≤ n
 later m i n h k = omega arith

@@ -75,15 +75,19 @@ cond_false false x y h = refl
 
 -- ---- what the next byte ends
 
-same_cond : (c : Bool) (x y v w : Taken) (out more : List Ended) (f : State → List Ended → Lexed (List Ended)) → go_on add_all x out f ≡ go_on add_all v more f → go_on add_all y out f ≡ go_on add_all w more f → go_on add_all (cond c x y) out f ≡ go_on add_all (cond c v w) more f
+same_cond : (c : Bool) (x y v w : Taken) (out more : List Ended) (f : State → List Ended → Lexed (List Ended)) →
+    go_on add_all x out f ≡ go_on add_all v more f → go_on add_all y out f ≡ go_on add_all w more f →
+    go_on add_all (cond c x y) out f ≡ go_on add_all (cond c v w) more f
 same_cond true x y v w out more f h k = h
 same_cond false x y v w out more f h k = k
 
-begin_mark : (o : Option Mark) (e : Ended) (at : ℕ) (out : List Ended) (f : State → List Ended → Lexed (List Ended)) → go_on add_all (of_mark o e at) out f ≡ go_on add_all (of_mark o ended.Nothing at) (add_all e out) f
+begin_mark : (o : Option Mark) (e : Ended) (at : ℕ) (out : List Ended) (f : State → List Ended → Lexed (List Ended)) →
+    go_on add_all (of_mark o e at) out f ≡ go_on add_all (of_mark o ended.Nothing at) (add_all e out) f
 begin_mark (Some m) e at out f = refl
 begin_mark None e at out f = refl
 
-pub begin_after : (e : Ended) (b at : ℕ) (out : List Ended) (f : State → List Ended → Lexed (List Ended)) → go_on add_all (begin false e b at) out f ≡ go_on add_all (begin false ended.Nothing b at) (add_all e out) f
+pub begin_after : (e : Ended) (b at : ℕ) (out : List Ended) (f : State → List Ended → Lexed (List Ended)) →
+    go_on add_all (begin false e b at) out f ≡ go_on add_all (begin false ended.Nothing b at) (add_all e out) f
 begin_after e b at out f =
     same_cond (is_space b) _ _ _ _ out (add_all e out) f refl
     (same_cond (is_letter b) _ _ _ _ out (add_all e out) f refl
@@ -95,12 +99,14 @@ begin_after e b at out f =
 abbrev all_read : State → List Ended → Lexed (List Ended)
 all_read z more = Read more
 
-taken : (t : List ℕ) (s : State) (b at : ℕ) (out : List Ended) (r : List ℕ) (n : Taken) → step t s b at ≡ n → scan t s at out (b ∷ r) ≡ go_on add_all n out (λ z more. run add_all t z (at + 1) more r)
+taken : (t : List ℕ) (s : State) (b at : ℕ) (out : List Ended) (r : List ℕ) (n : Taken) → step t s b at ≡ n →
+    scan t s at out (b ∷ r) ≡ go_on add_all n out (λ z more. run add_all t z (at + 1) more r)
 taken t s b at out r n e = ap (λ (m : Taken). go_on add_all m out (λ z more. run add_all t z (at + 1) more r)) e
 
 -- ---- words
 
-word_ends : (t : List ℕ) (s at : ℕ) (out : List Ended) (r : List ℕ) → NotFirst is_word_byte r → scan t (InWord s) at out r ≡ scan t (Between false) at (add_all (word t s at) out) r
+word_ends : (t : List ℕ) (s at : ℕ) (out : List Ended) (r : List ℕ) → NotFirst is_word_byte r →
+    scan t (InWord s) at out r ≡ scan t (Between false) at (add_all (word t s at) out) r
 word_ends t s at out [] h = refl
 word_ends t s at out (b ∷ r) h = rw h (begin_after (word t s at) b at out (λ z more. run add_all t z (at + 1) more r))
 
@@ -111,16 +117,19 @@ word_run t (b ∷ w) e s at out r h = let q = all_of_more is_word_byte b w e in 
 
 -- ---- numbers
 
-number_ends : (t : List ℕ) (s : ℕ) (power : Bool) (at : ℕ) (out : List Ended) (r : List ℕ) → is_some (integer_of (slice_range t s at)) ≡ true → NotFirst (is_run_byte power) r
+number_ends : (t : List ℕ) (s : ℕ) (power : Bool) (at : ℕ) (out : List Ended) (r : List ℕ) → is_some (integer_of (slice_range t s at)) ≡ true →
+    NotFirst (is_run_byte power) r
     → scan t (InNumber s power) at out r ≡ scan t (Between false) at (add_all (found k.Number s at) out) r
 number_ends t s true at out [] g h = rw g
 number_ends t s false at out [] g h = rw g
 number_ends t s power at out (b ∷ r) g h = rw (h, g) (begin_after (found k.Number s at) b at out (λ z more. run add_all t z (at + 1) more r))
 
-number_run : (t w : List ℕ) (s : ℕ) (power : Bool) → continues_from power w ≡ true → (at : ℕ) (out : List Ended) (r : List ℕ) → is_some (integer_of (slice_range t s (past at w))) ≡ true → NotFirst (is_run_byte (power_from power w)) r
+number_run : (t w : List ℕ) (s : ℕ) (power : Bool) → continues_from power w ≡ true → (at : ℕ) (out : List Ended) (r : List ℕ) →
+    is_some (integer_of (slice_range t s (past at w))) ≡ true → NotFirst (is_run_byte (power_from power w)) r
     → scan t (InNumber s power) at out (w ++ r) ≡ scan t (Between false) (past at w) (add_all (found k.Number s (past at w)) out) r
 number_run t [] s power e at out r g h = number_ends t s power at out r g h
-number_run t (b ∷ w) s power e at out r g h = let q = both_true (is_run_byte power b) (continues_from (is_power b) w) e in let x = q.0 in rw x (number_run t w s (is_power b) q.1 (at + 1) out r g h)
+number_run t (b ∷ w) s power e at out r g h = let q = both_true (is_run_byte power b) (continues_from (is_power b) w) e in let x = q.0 in
+    rw x (number_run t w s (is_power b) q.1 (at + 1) out r g h)
 
 -- ---- marks
 
@@ -132,7 +141,8 @@ dot_newline : (m : Mark) → (is_dot m && 10 == 46) ≡ false
 dot_newline Dot = refl
 dot_newline _ = refl
 
-no_comment : (m : Mark) (b : ℕ) (r : List ℕ) → (m ≡ Slash → NotFirst (λ x. x == 42 || x == 47) (b ∷ r)) → ((is_slash m && b == 42) ≡ false) × ((is_slash m && b == 47) ≡ false)
+no_comment : (m : Mark) (b : ℕ) (r : List ℕ) → (m ≡ Slash → NotFirst (λ x. x == 42 || x == 47) (b ∷ r)) →
+    ((is_slash m && b == 42) ≡ false) × ((is_slash m && b == 47) ≡ false)
 no_comment Slash b r h = (or_first _ _ (h refl), or_second _ _ (h refl))
 no_comment _ b r h = (refl, refl)
 
@@ -155,7 +165,8 @@ two_dots t s out [] h = refl
 two_dots t s out (b ∷ r) h =
     taken t (Dots s) b (s + 1 + 1) out r _ (cond_false (b == 46) _ _ h)
     ∙ begin_after (ended.Dots (mark s (s + 1)) (mark (s + 1) (s + 1 + 1))) b (s + 1 + 1) out (λ z more. run add_all t z (s + 1 + 1 + 1) more r)
-    ∙ sym (begin_after (found k.Mark (s + 1) (s + 1 + 1)) b (s + 1 + 1) (add_all (found k.Mark s (s + 1)) out) (λ z more. run add_all t z (s + 1 + 1 + 1) more r))
+    ∙ sym (begin_after (found k.Mark (s + 1) (s + 1 + 1)) b (s + 1 + 1) (add_all (found k.Mark s (s + 1)) out)
+    (λ z more. run add_all t z (s + 1 + 1 + 1) more r))
     ∙ sym (taken t (InMark (s + 1) Dot) b (s + 1 + 1) (add_all (found k.Mark s (s + 1)) out) r _ (cond_false (b == 46) _ _ h))
 
 mark_ends : (t : List ℕ) (m : Mark) (s : ℕ) (out : List Ended) (r : List ℕ) → Longest (Sign m) r
@@ -167,24 +178,30 @@ mark_ends t m s out [] h =
     rw (x, z, n)
 mark_ends t m s out (b ∷ r) h = go (is_dot m && b == 46) refl
   where
-    go : (c : Bool) → (is_dot m && b == 46) ≡ c → scan t (InMark s m) (past s (mark_text m)) out (b ∷ r) ≡ scan t (Between false) (past s (mark_text m)) (add_all (found k.Mark s (past s (mark_text m))) out) (b ∷ r)
+    go : (c : Bool) → (is_dot m && b == 46) ≡ c → scan t (InMark s m) (past s (mark_text m)) out (b ∷ r) ≡ scan t (Between false)
+        (past s (mark_text m)) (add_all (found k.Mark s (past s (mark_text m))) out) (b ∷ r)
     go false d =
         let x = no_comment m b r h.1 in
         let p = x.0 in
         let q = x.1 in
         let n = none_longer m b r h.0 in
-        rw (p, q, d, n) (begin_after (found k.Mark s (past s (mark_text m))) b (past s (mark_text m)) out (λ z more. run add_all t z (past s (mark_text m) + 1) more r))
+        rw (p, q, d, n) (begin_after (found k.Mark s (past s (mark_text m))) b (past s (mark_text m)) out
+        (λ z more. run add_all t z (past s (mark_text m) + 1) more r))
     go true d = dots m b (dot_is m (both_true (is_dot m) (b == 46) d).0) (eqb-true b 46 (both_true (is_dot m) (b == 46) d).1) h.0
       where
         dots : (n : Mark) (i : ℕ) → n ≡ Dot → i ≡ 46 → ((o : Mark) → Begins (mark_text o) (mark_text n ++ i ∷ r) → length (mark_text o) ≤ length (mark_text n))
-            → scan t (InMark s n) (past s (mark_text n)) out (i ∷ r) ≡ scan t (Between false) (past s (mark_text n)) (add_all (found k.Mark s (past s (mark_text n))) out) (i ∷ r)
+            → scan t (InMark s n) (past s (mark_text n)) out (i ∷ r) ≡ scan t (Between false) (past s (mark_text n))
+            (add_all (found k.Mark s (past s (mark_text n))) out) (i ∷ r)
         dots n i e f l =
-            subst (λ (z : Mark). scan t (InMark s z) (past s (mark_text z)) out (i ∷ r) ≡ scan t (Between false) (past s (mark_text z)) (add_all (found k.Mark s (past s (mark_text z))) out) (i ∷ r)) (sym e)
-            (subst (λ (z : ℕ). scan t (InMark s Dot) (s + 1) out (z ∷ r) ≡ scan t (Between false) (s + 1) (add_all (found k.Mark s (s + 1)) out) (z ∷ r)) (sym f)
+            subst (λ (z : Mark). scan t (InMark s z) (past s (mark_text z)) out (i ∷ r) ≡ scan t (Between false) (past s (mark_text z))
+            (add_all (found k.Mark s (past s (mark_text z))) out) (i ∷ r)) (sym e)
+            (subst (λ (z : ℕ). scan t (InMark s Dot) (s + 1) out (z ∷ r) ≡ scan t (Between false) (s + 1) (add_all (found k.Mark s (s + 1)) out)
+            (z ∷ r)) (sym f)
             (two_dots t s out r (not_third r (subst (λ (z : ℕ). (o : Mark) → Begins (mark_text o) (46 ∷ z ∷ r) → length (mark_text o) ≤ 1) f
             (subst (λ (z : Mark). (o : Mark) → Begins (mark_text o) (mark_text z ++ i ∷ r) → length (mark_text o) ≤ length (mark_text z)) e l)))))
 
-mark_run : (t : List ℕ) (first : Bool) (m : Mark) (at : ℕ) (out : List Ended) (r : List ℕ) → scan t (Between first) at out (mark_text m ++ r) ≡ scan t (InMark at m) (past at (mark_text m)) out r
+mark_run : (t : List ℕ) (first : Bool) (m : Mark) (at : ℕ) (out : List Ended) (r : List ℕ) →
+    scan t (Between first) at out (mark_text m ++ r) ≡ scan t (InMark at m) (past at (mark_text m)) out r
 mark_run t first OpenBracket at out r = refl
 mark_run t first CloseBracket at out r = refl
 mark_run t first OpenParenthesis at out r = refl
@@ -235,13 +252,17 @@ mark_run t first Comma at out r = refl
 -- ---- comments and directives
 
 -- its bytes are passed over
-line_passes : (t w : List ℕ) → has_no_newline w ≡ true → (s e at : ℕ) (out : List Ended) (r : List ℕ) → scan t (InLine s e) at out (w ++ r) ≡ scan t (InLine s (end_from e at w)) (past at w) out r
+line_passes : (t w : List ℕ) → has_no_newline w ≡ true → (s e at : ℕ) (out : List Ended) (r : List ℕ) →
+    scan t (InLine s e) at out (w ++ r) ≡ scan t (InLine s (end_from e at w)) (past at w) out r
 line_passes t [] h s e at out r = refl
-line_passes t (b ∷ w) h s e at out r = let q = all_of_more (λ c. not (is_newline c)) b w h in let x = not_true (b == 10) q.0 in rw x (line_passes t w q.1 s (line_end e b at) (at + 1) out r)
+line_passes t (b ∷ w) h s e at out r = let q = all_of_more (λ c. not (is_newline c)) b w h in let x = not_true (b == 10) q.0 in
+    rw x (line_passes t w q.1 s (line_end e b at) (at + 1) out r)
 
-directive_passes : (t w : List ℕ) → has_no_newline w ≡ true → (s e at : ℕ) (out : List Ended) (r : List ℕ) → scan t (InDirective s e) at out (w ++ r) ≡ scan t (InDirective s (end_from e at w)) (past at w) out r
+directive_passes : (t w : List ℕ) → has_no_newline w ≡ true → (s e at : ℕ) (out : List Ended) (r : List ℕ) →
+    scan t (InDirective s e) at out (w ++ r) ≡ scan t (InDirective s (end_from e at w)) (past at w) out r
 directive_passes t [] h s e at out r = refl
-directive_passes t (b ∷ w) h s e at out r = let q = all_of_more (λ c. not (is_newline c)) b w h in let x = not_true (b == 10) q.0 in rw x (directive_passes t w q.1 s (line_end e b at) (at + 1) out r)
+directive_passes t (b ∷ w) h s e at out r = let q = all_of_more (λ c. not (is_newline c)) b w h in let x = not_true (b == 10) q.0 in
+    rw x (directive_passes t w q.1 s (line_end e b at) (at + 1) out r)
 
 -- reading goes on from this, past the next byte if there is one
 abbrev go_past : List ℕ → ℕ → Taken → List Ended → List ℕ → Lexed (List Ended)
@@ -249,46 +270,57 @@ go_past t at n out [] = go_on add_all n out all_read
 go_past t at n out (b ∷ r) = go_on add_all n out (λ z more. run add_all t z (at + 1) more r)
 
 -- what its newline, or the end of the text, does to it
-at_newline : (t : List ℕ) (s : State) (at : ℕ) (out : List Ended) (r : List ℕ) (n : Taken) → NewlineNext r → finish t s at ≡ n → step t s 10 at ≡ n → scan t s at out r ≡ go_past t at n out r
+at_newline : (t : List ℕ) (s : State) (at : ℕ) (out : List Ended) (r : List ℕ) (n : Taken) → NewlineNext r → finish t s at ≡ n → step t s 10 at ≡ n →
+    scan t s at out r ≡ go_past t at n out r
 at_newline t s at out [] n next last h = ap (λ (m : Taken). go_on add_all m out all_read) last
 at_newline t s at out (b ∷ r) n next last h = taken t s b at out r n (ap (λ (i : ℕ). step t s i at) (eqb-true b 10 next) ∙ h)
 
-line_newline : (t w : List ℕ) (s e at : ℕ) (out : List Ended) (r : List ℕ) (o : Option ℕ) → NewlineNext r → slice_range t s at ≡ w → broken_at w ≡ o → scan t (InLine s e) at out r ≡ go_past t at (end_line s e o) out r
+line_newline : (t w : List ℕ) (s e at : ℕ) (out : List Ended) (r : List ℕ) (o : Option ℕ) → NewlineNext r → slice_range t s at ≡ w → broken_at w ≡ o →
+    scan t (InLine s e) at out r ≡ go_past t at (end_line s e o) out r
 line_newline t w s e at out r o next h k = let x = ap (end_line s e) (ap broken_at h ∙ k) in at_newline t (InLine s e) at out r (end_line s e o) next x x
 
 directive_newline : (t w : List ℕ) (s e at : ℕ) (out : List Ended) (r : List ℕ) (o : Option ℕ) → NewlineNext r → slice_range t (s + 1) at ≡ w → broken_at w ≡ o
     → scan t (InDirective s e) at out r ≡ go_past t at (end_directive s e w o) out r
 directive_newline t w s e at out r o next h k =
-    let x = ap (λ (v : List ℕ). end_directive s e v (broken_at v)) h ∙ ap (end_directive s e w) k in at_newline t (InDirective s e) at out r (end_directive s e w o) next x x
+    let x = ap (λ (v : List ℕ). end_directive s e v (broken_at v)) h ∙ ap (end_directive s e w) k in
+    at_newline t (InDirective s e) at out r (end_directive s e w o) next x x
 
-past_line : (t : List ℕ) (at : ℕ) (x : Ended) (out : List Ended) (r : List ℕ) → NewlineNext r → go_past t at (Go (Between true) x) out r ≡ scan t (Between false) at (add_all x out) r
+past_line : (t : List ℕ) (at : ℕ) (x : Ended) (out : List Ended) (r : List ℕ) → NewlineNext r →
+    go_past t at (Go (Between true) x) out r ≡ scan t (Between false) at (add_all x out) r
 past_line t at x out [] next = refl
-past_line t at x out (b ∷ r) next = subst (λ (i : ℕ). go_past t at (Go (Between true) x) out (i ∷ r) ≡ scan t (Between false) at (add_all x out) (i ∷ r)) (sym (eqb-true b 10 next)) refl
+past_line t at x out (b ∷ r) next = subst (λ (i : ℕ). go_past t at (Go (Between true) x) out (i ∷ r) ≡ scan t (Between false) at (add_all x out)
+    (i ∷ r)) (sym (eqb-true b 10 next)) refl
 
 -- two bytes further
 abbrev pub two_on : Option ℕ → Option ℕ
 two_on o = option_map (λ n. n + 1) (option_map (λ n. n + 1) o)
 
 line_reads : (t w : List ℕ) (s : ℕ) (out : List Ended) (r : List ℕ) → runs_on w r ≡ true → NewlineNext r → Stands t s (47 ∷ 47 ∷ w ++ r)
-    → scan t (InLine s (s + 1 + 1)) (s + 1 + 1) out (w ++ r) ≡ scan t (Between false) (past (s + 1 + 1) w) (add_all (ended.Comment (span s (end_from (s + 1 + 1) (s + 1 + 1) w))) out) r
+    → scan t (InLine s (s + 1 + 1)) (s + 1 + 1) out (w ++ r) ≡ scan t (Between false) (past (s + 1 + 1) w)
+    (add_all (ended.Comment (span s (end_from (s + 1 + 1) (s + 1 + 1) w))) out) r
 line_reads t w s out r runs next stands =
     line_passes t w (no_newline w r runs) s (s + 1 + 1) (s + 1 + 1) out r
     ∙ line_newline t (47 ∷ 47 ∷ w) s _ _ out r None next (slice_is t s (47 ∷ 47 ∷ w) r stands) (ap two_on (not_broken w r next runs))
     ∙ past_line t (past (s + 1 + 1) w) (ended.Comment (span s (end_from (s + 1 + 1) (s + 1 + 1) w))) out r next
 
-directive_reads : (t w : List ℕ) (s : ℕ) (out : List Ended) (r : List ℕ) → is_directive w ≡ true → runs_on w r ≡ true → NewlineNext r → Stands t (s + 1) (w ++ r)
-    → scan t (InDirective s (s + 1)) (s + 1) out (w ++ r) ≡ scan t (Between false) (past (s + 1) w) (add_all (found k.Directive s (end_from (s + 1) (s + 1) w)) out) r
+directive_reads : (t w : List ℕ) (s : ℕ) (out : List Ended) (r : List ℕ) → is_directive w ≡ true → runs_on w r ≡ true → NewlineNext r →
+    Stands t (s + 1) (w ++ r)
+    → scan t (InDirective s (s + 1)) (s + 1) out (w ++ r) ≡ scan t (Between false) (past (s + 1) w)
+    (add_all (found k.Directive s (end_from (s + 1) (s + 1) w)) out) r
 directive_reads t w s out r include runs next stands =
     directive_passes t w (no_newline w r runs) s (s + 1) (s + 1) out r
     ∙ directive_newline t w s _ _ out r None next (slice_is t (s + 1) w r stands) (not_broken w r next runs)
-    ∙ ap (λ (n : Taken). go_past t (past (s + 1) w) n out r) (cond_true (is_directive w) (Go (Between true) (found k.Directive s (end_from (s + 1) (s + 1) w))) (Fault 6 s) include)
+    ∙ ap (λ (n : Taken). go_past t (past (s + 1) w) n out r)
+    (cond_true (is_directive w) (Go (Between true) (found k.Directive s (end_from (s + 1) (s + 1) w))) (Fault 6 s) include)
     ∙ past_line t (past (s + 1) w) (found k.Directive s (end_from (s + 1) (s + 1) w)) out r next
 
-block_run : (t w : List ℕ) (c : Closing) → closes_from c w ≡ true → (s at : ℕ) (out : List Ended) (r : List ℕ) → scan t (InComment s c) at out (w ++ r) ≡ scan t (Between false) (past at w) (add_all (ended.Comment (span s (past at w))) out) r
+block_run : (t w : List ℕ) (c : Closing) → closes_from c w ≡ true → (s at : ℕ) (out : List Ended) (r : List ℕ) →
+    scan t (InComment s c) at out (w ++ r) ≡ scan t (Between false) (past at w) (add_all (ended.Comment (span s (past at w))) out) r
 block_run t [] c h s at out r = absurd (let y : true ≡ false = sym h ∙ none_left c in cc)
 block_run t (b ∷ w) c h s at out r = go (goes_on c b) refl (λ g. block_run t w (closing_step c b) (sym (closes_on c b w g) ∙ h) s (at + 1) out r)
   where
-    go : (d : Bool) → goes_on c b ≡ d → (goes_on c b ≡ true → scan t (InComment s (closing_step c b)) (at + 1) out (w ++ r) ≡ scan t (Between false) (past (at + 1) w) (add_all (ended.Comment (span s (past (at + 1) w))) out) r)
+    go : (d : Bool) → goes_on c b ≡ d → (goes_on c b ≡ true → scan t (InComment s (closing_step c b)) (at + 1) out (w ++ r) ≡ scan t (Between false)
+        (past (at + 1) w) (add_all (ended.Comment (span s (past (at + 1) w))) out) r)
         → scan t (InComment s c) at out (b ∷ w ++ r) ≡ scan t (Between false) (past (at + 1) w) (add_all (ended.Comment (span s (past (at + 1) w))) out) r
     go true g f = taken t (InComment s c) b at out (w ++ r) _ (comment_on s c b at g) ∙ f g
     go false g f = here c b w (last_slash c b w g h)
@@ -296,9 +328,12 @@ block_run t (b ∷ w) c h s at out r = go (goes_on c b) refl (λ g. block_run t 
         here : (c : Closing) (b : ℕ) (w : List ℕ) → (c ≡ Starred) × (b ≡ 47) × (w ≡ [])
             → scan t (InComment s c) at out (b ∷ w ++ r) ≡ scan t (Between false) (past (at + 1) w) (add_all (ended.Comment (span s (past (at + 1) w))) out) r
         here c b w (x, y, z) =
-            subst (λ (d : Closing). scan t (InComment s d) at out (b ∷ w ++ r) ≡ scan t (Between false) (past (at + 1) w) (add_all (ended.Comment (span s (past (at + 1) w))) out) r) (sym x)
-            (subst (λ (i : ℕ). scan t (InComment s Starred) at out (i ∷ w ++ r) ≡ scan t (Between false) (past (at + 1) w) (add_all (ended.Comment (span s (past (at + 1) w))) out) r) (sym y)
-            (subst (λ (v : List ℕ). scan t (InComment s Starred) at out (47 ∷ v ++ r) ≡ scan t (Between false) (past (at + 1) v) (add_all (ended.Comment (span s (past (at + 1) v))) out) r) (sym z) refl))
+            subst (λ (d : Closing). scan t (InComment s d) at out (b ∷ w ++ r) ≡ scan t (Between false) (past (at + 1) w)
+            (add_all (ended.Comment (span s (past (at + 1) w))) out) r) (sym x)
+            (subst (λ (i : ℕ). scan t (InComment s Starred) at out (i ∷ w ++ r) ≡ scan t (Between false) (past (at + 1) w)
+            (add_all (ended.Comment (span s (past (at + 1) w))) out) r) (sym y)
+            (subst (λ (v : List ℕ). scan t (InComment s Starred) at out (47 ∷ v ++ r) ≡ scan t (Between false) (past (at + 1) v)
+            (add_all (ended.Comment (span s (past (at + 1) v))) out) r) (sym z) refl))
 
 -- ---- characters
 
@@ -341,9 +376,12 @@ abbrev EndsBefore : Escape → List ℕ → Type 0
 EndsBefore e [] = escape_step e 10 ≡ Over
 EndsBefore e (b ∷ r) = escape_step e b ≡ Over
 
-escape_over : (x : Bool) (t : List ℕ) (s : ℕ) (e : Escape) (at : ℕ) (out : List Ended) (r : List ℕ) → EndsBefore e r → scan t (escaping x s e) at out r ≡ scan t (held x s) at out r
-escape_over true t s e at out [] h = ap (λ (m : Taken). go_on add_all m out all_read) (escape_is true t s e 10 at ∙ ap (λ (q : Progress). progress true t s q 10 at) h)
-escape_over false t s e at out [] h = ap (λ (m : Taken). go_on add_all m out all_read) (escape_is false t s e 10 at ∙ ap (λ (q : Progress). progress false t s q 10 at) h)
+escape_over : (x : Bool) (t : List ℕ) (s : ℕ) (e : Escape) (at : ℕ) (out : List Ended) (r : List ℕ) → EndsBefore e r →
+    scan t (escaping x s e) at out r ≡ scan t (held x s) at out r
+escape_over true t s e at out [] h = ap (λ (m : Taken). go_on add_all m out all_read)
+    (escape_is true t s e 10 at ∙ ap (λ (q : Progress). progress true t s q 10 at) h)
+escape_over false t s e at out [] h = ap (λ (m : Taken). go_on add_all m out all_read)
+    (escape_is false t s e 10 at ∙ ap (λ (q : Progress). progress false t s q 10 at) h)
 escape_over x t s e at out (b ∷ r) h = escape_taken x t s e Over b at out r h
 
 one_ends : (a : ℕ) (r : List ℕ) → NotFirst is_octal_digit r → EndsBefore (OneOctal a) r
@@ -361,14 +399,16 @@ hexadecimal_ends v (b ∷ r) h = rw h
 within : (a b c : ℕ) → a ≤ b → nat_le b c ≡ true → nat_le a c ≡ true
 within a b c h k = grind (arith, nat_tests)
 
-hexadecimal_run : (x : Bool) (t : List ℕ) (ds : List ℕ) (v s at : ℕ) (out : List Ended) (r : List ℕ) → list_all is_hexadecimal_digit ds ≡ true → nat_le (value_from 16 v ds) 255 ≡ true → NotFirst is_hexadecimal_digit r
+hexadecimal_run : (x : Bool) (t : List ℕ) (ds : List ℕ) (v s at : ℕ) (out : List Ended) (r : List ℕ) → list_all is_hexadecimal_digit ds ≡ true →
+    nat_le (value_from 16 v ds) 255 ≡ true → NotFirst is_hexadecimal_digit r
     → scan t (escaping x s (InHexadecimal v)) at out (ds ++ r) ≡ scan t (held x s) (past at ds) out r
 hexadecimal_run x t [] v s at out r h g l = escape_over x t s (InHexadecimal v) at out r (hexadecimal_ends v r l)
 hexadecimal_run x t (d ∷ ds) v s at out r h g l =
     let q = all_of_more is_hexadecimal_digit d ds h in
     let y = q.0 in
     let z = within _ _ 255 (value_up (v * 16 + digit_value d) ds) g in
-    escape_taken x t s (InHexadecimal v) (More (InHexadecimal (v * 16 + digit_value d))) d at out (ds ++ r) (rw (y, z)) ∙ hexadecimal_run x t ds (v * 16 + digit_value d) s (at + 1) out r q.1 g l
+    escape_taken x t s (InHexadecimal v) (More (InHexadecimal (v * 16 + digit_value d))) d at out (ds ++ r) (rw (y, z)) ∙
+    hexadecimal_run x t ds (v * 16 + digit_value d) s (at + 1) out r q.1 g l
 
 abbrev opened : Bool → ℕ → State
 opened true s = InText s
@@ -378,11 +418,13 @@ abbrev plain_byte : Bool → ℕ → Bool
 plain_byte true b = is_text_byte b
 plain_byte false b = is_character_byte b
 
-backslash : (x : Bool) (t : List ℕ) (s at : ℕ) (out : List Ended) (r : List ℕ) → scan t (opened x s) at out (92 ∷ r) ≡ scan t (escaping x s Backslash) (at + 1) out r
+backslash : (x : Bool) (t : List ℕ) (s at : ℕ) (out : List Ended) (r : List ℕ) →
+    scan t (opened x s) at out (92 ∷ r) ≡ scan t (escaping x s Backslash) (at + 1) out r
 backslash true t s at out r = refl
 backslash false t s at out r = refl
 
-plain_character : (x : Bool) (t : List ℕ) (b s at : ℕ) (out : List Ended) (r : List ℕ) → plain_byte x b ≡ true → scan t (opened x s) at out (b ∷ r) ≡ scan t (held x s) (at + 1) out r
+plain_character : (x : Bool) (t : List ℕ) (b s at : ℕ) (out : List Ended) (r : List ℕ) → plain_byte x b ≡ true →
+    scan t (opened x s) at out (b ∷ r) ≡ scan t (held x s) (at + 1) out r
 plain_character true t b s at out r h =
     let p = both_true (not (b == 10) && not (b == 34)) (not (b == 92)) h in
     let q = both_true (not (b == 10)) (not (b == 34)) p.0 in
@@ -404,25 +446,31 @@ character_run : (x : Bool) (t : List ℕ) (c : Character) (s at : ℕ) (out : Li
 character_run x t (Plain b) s at out r h l = plain_character x t b s at out r h
 character_run x t (Simple b) s at out r h l = backslash x t s at out (b ∷ r) ∙ escape_taken x t s Backslash Whole b (at + 1) out r (rw h)
 character_run x t (OneDigit a) s at out r h l =
-    backslash x t s at out (a ∷ r) ∙ escape_taken x t s Backslash (More (OneOctal a)) a (at + 1) out r (first_octal a h) ∙ escape_over x t s (OneOctal a) (at + 1 + 1) out r (one_ends a r l)
+    backslash x t s at out (a ∷ r) ∙ escape_taken x t s Backslash (More (OneOctal a)) a (at + 1) out r (first_octal a h) ∙
+    escape_over x t s (OneOctal a) (at + 1 + 1) out r (one_ends a r l)
 character_run x t (TwoDigits a b) s at out r h l =
     let y = h.1 in
     backslash x t s at out (a ∷ b ∷ r) ∙ escape_taken x t s Backslash (More (OneOctal a)) a (at + 1) out (b ∷ r) (first_octal a h.0)
-    ∙ escape_taken x t s (OneOctal a) (More (TwoOctal a b)) b (at + 1 + 1) out r (rw y) ∙ escape_over x t s (TwoOctal a b) (at + 1 + 1 + 1) out r (two_ends a b r l)
+    ∙ escape_taken x t s (OneOctal a) (More (TwoOctal a b)) b (at + 1 + 1) out r (rw y) ∙
+    escape_over x t s (TwoOctal a b) (at + 1 + 1 + 1) out r (two_ends a b r l)
 character_run x t (ThreeDigits a b c) s at out r h l =
     let y = h.1 in
     let z = h.2 in
     let w = h.3 in
     backslash x t s at out (a ∷ b ∷ c ∷ r) ∙ escape_taken x t s Backslash (More (OneOctal a)) a (at + 1) out (b ∷ c ∷ r) (first_octal a h.0)
-    ∙ escape_taken x t s (OneOctal a) (More (TwoOctal a b)) b (at + 1 + 1) out (c ∷ r) (rw y) ∙ escape_taken x t s (TwoOctal a b) Whole c (at + 1 + 1 + 1) out r (rw (z, w))
+    ∙ escape_taken x t s (OneOctal a) (More (TwoOctal a b)) b (at + 1 + 1) out (c ∷ r) (rw y) ∙
+    escape_taken x t s (TwoOctal a b) Whole c (at + 1 + 1 + 1) out r (rw (z, w))
 character_run x t (Hexadecimal a ds) s at out r h l =
     let q = all_of_more is_hexadecimal_digit a ds h.0 in
     let y = q.0 in
     backslash x t s at out (120 ∷ a ∷ ds ++ r) ∙ escape_taken x t s Backslash (More HexadecimalStart) 120 (at + 1) out (a ∷ ds ++ r) refl
-    ∙ escape_taken x t s HexadecimalStart (More (InHexadecimal (digit_value a))) a (at + 1 + 1) out (ds ++ r) (rw y) ∙ hexadecimal_run x t ds (digit_value a) s (at + 1 + 1 + 1) out r q.1 (ap (λ (n : ℕ). nat_le (value_from 16 n ds) 255) (sym (zero-add (digit_value a))) ∙ ap (λ (n : ℕ). nat_le n 255) (value_is 16 (a ∷ ds)) ∙ h.1) l
+    ∙ escape_taken x t s HexadecimalStart (More (InHexadecimal (digit_value a))) a (at + 1 + 1) out (ds ++ r) (rw y) ∙
+    hexadecimal_run x t ds (digit_value a) s (at + 1 + 1 + 1) out r q.1
+    (ap (λ (n : ℕ). nat_le (value_from 16 n ds) 255) (sym (zero-add (digit_value a))) ∙ ap (λ (n : ℕ). nat_le n 255) (value_is 16 (a ∷ ds)) ∙ h.1) l
 
 text_run : (t : List ℕ) (cs : List Character) (s at : ℕ) (out : List Ended) (r : List ℕ) → AreCharacters is_text_byte cs (34 ∷ r)
-    → scan t (InText s) at out (written_all cs (34 ∷ r)) ≡ scan t (Between false) (past_characters cs at + 1) (add_all (found k.Text s (past_characters cs at + 1)) out) r
+    → scan t (InText s) at out (written_all cs (34 ∷ r)) ≡ scan t (Between false) (past_characters cs at + 1)
+    (add_all (found k.Text s (past_characters cs at + 1)) out) r
 text_run t [] s at out r h = refl
 text_run t (c ∷ cs) s at out r h = character_run true t c s at out (written_all cs (34 ∷ r)) h.0 h.1 ∙ text_run t cs s (past_character c at) out r h.2
 
@@ -472,7 +520,8 @@ text_quote (c ∷ cs) r h = (h.0, first_same c cs r h.1, text_quote cs r h.2)
     first_same (ThreeDigits a b c) cs r h = tt
     first_same (Hexadecimal a ds) cs r h = same_all is_hexadecimal_digit cs r h
 
-read_word : (t : List ℕ) (first : Bool) (w : List ℕ) → is_word w ≡ true → (at : ℕ) (out : List Ended) (r : List ℕ) → NotFirst is_word_byte r → Stands t at (w ++ r)
+read_word : (t : List ℕ) (first : Bool) (w : List ℕ) → is_word w ≡ true → (at : ℕ) (out : List Ended) (r : List ℕ) → NotFirst is_word_byte r →
+    Stands t at (w ++ r)
     → scan t (Between first) at out (w ++ r) ≡ scan t (Between false) (past at w) (add_all (kept (Word w) at) out) r
 read_word t first [] h at out r l g = absurd cc
 read_word t first (b ∷ w) h at out r l g =
@@ -480,9 +529,11 @@ read_word t first (b ∷ w) h at out r l g =
     let x = letter_space b q.0 in
     let y = q.0 in
     let slice = slice_is t at (b ∷ w) r g in
-    rw (x, y) (word_run t w q.1 at (at + 1) out r l ∙ ap (λ (v : List ℕ). scan t (Between false) (past (at + 1) w) (add_all (found (word_kind v) at (past (at + 1) w)) out) r) slice)
+    rw (x, y) (word_run t w q.1 at (at + 1) out r l ∙ ap (λ (v : List ℕ). scan t (Between false) (past (at + 1) w)
+    (add_all (found (word_kind v) at (past (at + 1) w)) out) r) slice)
 
-read_number : (t : List ℕ) (first : Bool) (w : List ℕ) → is_run w ≡ true → is_some (integer_of w) ≡ true → (at : ℕ) (out : List Ended) (r : List ℕ) → NotFirst (is_run_byte (ends_with_power w)) r → Stands t at (w ++ r)
+read_number : (t : List ℕ) (first : Bool) (w : List ℕ) → is_run w ≡ true → is_some (integer_of w) ≡ true → (at : ℕ) (out : List Ended) (r : List ℕ) →
+    NotFirst (is_run_byte (ends_with_power w)) r → Stands t at (w ++ r)
     → scan t (Between first) at out (w ++ r) ≡ scan t (Between false) (past at w) (add_all (kept (Number w) at) out) r
 read_number t first [] h i at out r l g = absurd cc
 read_number t first (b ∷ w) h i at out r l g =
@@ -491,7 +542,8 @@ read_number t first (b ∷ w) h i at out r l g =
     let y = digit_letter b q.0 in
     let z = q.0 in
     let slice = slice_is t at (b ∷ w) r g in
-    rw (x, y, z) (number_run t w at false (run_continues b w q.0 ∙ q.1) (at + 1) out r (ap (λ (v : List ℕ). is_some (integer_of v)) slice ∙ i) (subst (λ (c : Bool). NotFirst (is_run_byte c) r) (sym (run_power b w q.0)) l))
+    rw (x, y, z) (number_run t w at false (run_continues b w q.0 ∙ q.1) (at + 1) out r (ap (λ (v : List ℕ). is_some (integer_of v)) slice ∙ i)
+    (subst (λ (c : Bool). NotFirst (is_run_byte c) r) (sym (run_power b w q.0)) l))
 
 pub read : (t : List ℕ) (first : Bool) (p : Piece) → Fits first p → (r : List ℕ) → Longest p r → (at : ℕ) (out : List Ended) → Stands t at (spelled p r)
     → scan t (Between first) at out (spelled p r) ≡ scan t (Between (first_behind first p)) (ends p at) (add_all (kept p at) out) r
@@ -501,7 +553,8 @@ read t first (Number w) h r l at out g = read_number t first w h.0 h.1 at out r 
 read t first (Char c) h r l at out g = character_run false t c at (at + 1) out (39 ∷ r) h (any_quote c r)
 read t first (Text cs) h r l at out g = text_run t cs at (at + 1) out r (text_quote cs r h)
 read t first (Sign m) h r l at out g = mark_run t first m at out r ∙ mark_ends t m at out r l
-read t first (Directive w) h r l at out g = let x = h.0 in rw x (directive_reads t w at out r ((directive_decided w).1 h.1) l.0 l.1 (stands_past t at (35 ∷ []) (w ++ r) g))
+read t first (Directive w) h r l at out g = let x = h.0 in rw x
+    (directive_reads t w at out r ((directive_decided w).1 h.1) l.0 l.1 (stands_past t at (35 ∷ []) (w ++ r) g))
 read t first (Line w) h r l at out g = line_reads t w at out r l.0 l.1 g
 read t first (Block w) h r l at out g = block_run t w Open (closes_so w h) at (at + 1 + 1) out r
 
@@ -515,7 +568,8 @@ pub reads : (t : List ℕ) (first : Bool) (ps : List Piece) (r : List ℕ) → G
     → scan t (Between first) at out (text ps r) ≡ scan t (Between (first_behind_all first ps)) (ends_all ps at) (gather ps at out) r
 reads t first [] r g at out i = refl
 reads t first (p ∷ ps) r g at out i =
-    read t first p g.0 (text ps r) g.1 at out i ∙ reads t (first_behind first p) ps r g.2 (ends p at) (add_all (kept p at) out) (stands_behind t p at (text ps r) i)
+    read t first p g.0 (text ps r) g.1 at out i ∙ reads t (first_behind first p) ps r g.2 (ends p at) (add_all (kept p at) out)
+    (stands_behind t p at (text ps r) i)
 
 pub lexes : (ps : List Piece) → Good true ps [] → scan (text ps []) (Between true) 0 [] (text ps []) ≡ Read (gather ps 0 [])
 lexes ps g = reads (text ps []) true ps [] g 0 [] ([], refl, refl)

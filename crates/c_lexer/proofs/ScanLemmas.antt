@@ -37,4 +37,5 @@ pub read_all : (t : List ℕ) (s last : State) (i : ℕ) (out : Scanned) (ended 
     → scanning t ≡ Ok (add_ended ended out)
 read_all t s last i out ended same within past e =
     let place = same_place i (length t) within past in
-    ap (answer t) (same ∙ ap (run add_ended t s i out) (drop_all i t past) ∙ ap (λ (n : ℕ). run add_ended t s n out []) place ∙ ap (λ (n : Taken). go_on add_ended n out (λ z (more : Scanned). Read more)) (sym e))
+    ap (answer t) (same ∙ ap (run add_ended t s i out) (drop_all i t past) ∙ ap (λ (n : ℕ). run add_ended t s n out []) place ∙
+    ap (λ (n : Taken). go_on add_ended n out (λ z (more : Scanned). Read more)) (sym e))

@@ -21,7 +21,8 @@ returns_is : (w : List ℕ) (at : ℕ) → (tail_of at w).returns ≡ list_all i
 returns_is [] at = refl
 returns_is (b ∷ w) at = ap (λ (x : Bool). is_return b && x) (returns_is w (at + 1))
 
-chosen : (c : Bool) (at : ℕ) (o : Option ℕ) → cond c (Some at) (option_map (λ n. n + (at + 1)) o) ≡ option_map (λ n. n + at) (cond c (Some 0) (option_map (λ n. n + 1) o))
+chosen : (c : Bool) (at : ℕ) (o : Option ℕ) → cond c (Some at) (option_map (λ n. n + (at + 1)) o) ≡ option_map (λ n. n + at)
+    (cond c (Some 0) (option_map (λ n. n + 1) o))
 chosen true at o = ap (λ (n : ℕ). Some n) (let e : at ≡ 0 + at = omega arith in e)
 chosen false at None = refl
 chosen false at (Some n) = ap (λ (n : ℕ). Some n) (let e : n + (at + 1) ≡ n + 1 + at = omega arith in e)
@@ -46,10 +47,12 @@ one_more w passed new old h before e =
     let x : length w - 1 - passed ≡ i = omega arith in
     let y : length w - passed ≡ i + 1 = omega arith in
     let z : i < length w = omega arith in
-    e ∙ ap (λ (n : ℕ). onto (get_or w n 0) n old) x ∙ ap (onto (get_or w i 0) i) (before ∙ ap (λ (n : ℕ). tail_of n (drop n w)) y) ∙ ap (tail_of i) (sym (drop_more w i 0 z))
+    e ∙ ap (λ (n : ℕ). onto (get_or w n 0) n old) x ∙ ap (onto (get_or w i 0) i) (before ∙ ap (λ (n : ℕ). tail_of n (drop n w)) y) ∙
+    ap (tail_of i) (sym (drop_more w i 0 z))
 
 -- all bytes
-pub all_passed : (w : List ℕ) (passed : ℕ) (tail : Tail) → length w ≤ passed → tail ≡ tail_of (length w - passed) (drop (length w - passed) w) → tail.broken ≡ broken_at w
+pub all_passed : (w : List ℕ) (passed : ℕ) (tail : Tail) → length w ≤ passed → tail ≡ tail_of (length w - passed) (drop (length w - passed) w) →
+    tail.broken ≡ broken_at w
 all_passed w passed tail h e =
     let x : length w - passed ≡ 0 = omega arith in
     ap (λ (t : Tail). t.broken) (e ∙ ap (λ (n : ℕ). tail_of n (drop n w)) x) ∙ broken_is w 0 ∙ none_added (broken_at w)

@@ -78,13 +78,15 @@ comments_end (ended.Token c ∷ out) e = comments_end out e
 tokens_keep : (e : Ended) (out : List Ended) → add_token e (only_tokens out) ≡ only_tokens (add_all e out)
 tokens_keep ended.Nothing out = refl
 tokens_keep (ended.Token x) out = sym (tokens_end out (ended.Token x))
-tokens_keep (ended.Dots a b) out = sym (tokens_end (out ++ ended.Token a ∷ []) (ended.Token b) ∙ ap (λ (l : List Token). l ++ b ∷ []) (tokens_end out (ended.Token a)))
+tokens_keep (ended.Dots a b) out = sym (tokens_end (out ++ ended.Token a ∷ []) (ended.Token b) ∙
+    ap (λ (l : List Token). l ++ b ∷ []) (tokens_end out (ended.Token a)))
 tokens_keep (ended.Comment c) out = sym (tokens_end out (ended.Comment c) ∙ append-nil (only_tokens out))
 
 comments_keep : (e : Ended) (out : List Ended) → add_comment e (only_comments out) ≡ only_comments (add_all e out)
 comments_keep ended.Nothing out = refl
 comments_keep (ended.Token x) out = sym (comments_end out (ended.Token x) ∙ append-nil (only_comments out))
-comments_keep (ended.Dots a b) out = sym (comments_end (out ++ ended.Token a ∷ []) (ended.Token b) ∙ append-nil (only_comments (out ++ ended.Token a ∷ [])) ∙ comments_end out (ended.Token a) ∙ append-nil (only_comments out))
+comments_keep (ended.Dots a b) out = sym (comments_end (out ++ ended.Token a ∷ []) (ended.Token b) ∙
+    append-nil (only_comments (out ++ ended.Token a ∷ [])) ∙ comments_end out (ended.Token a) ∙ append-nil (only_comments out))
 comments_keep (ended.Comment c) out = sym (comments_end out (ended.Comment c))
 
 pub same_parts : (ts us : List Token) (cs ds : List Span) → ts ≡ us → cs ≡ ds → record_of ts cs ≡ record_of us ds
@@ -113,13 +115,16 @@ scan_run t = select_run t t (Between true) 0 []
 abbrev Gives : {X : Type 0} → (Piece → ℕ → List X) → (List Ended → List X) → Type 0
 Gives f select = (p : Piece) (at : ℕ) (out : List Ended) → select (add_all (kept p at) out) ≡ select out ++ f p at
 
-gathered : {X : Type 0} (f : Piece → ℕ → List X) (select : List Ended → List X) → Gives f select → (ps : List Piece) (at : ℕ) (out : List Ended) → select (gather ps at out) ≡ select out ++ all_of f ps at
+gathered : {X : Type 0} (f : Piece → ℕ → List X) (select : List Ended → List X) → Gives f select → (ps : List Piece) (at : ℕ) (out : List Ended) →
+    select (gather ps at out) ≡ select out ++ all_of f ps at
 gathered f select gives [] at out = sym (append-nil (select out))
 gathered {X} f select gives (p ∷ ps) at out =
-    gathered f select gives ps (ends p at) (add_all (kept p at) out) ∙ ap (λ (x : List X). x ++ all_of f ps (ends p at)) (gives p at out) ∙ append_assoc (select out) (f p at) (all_of f ps (ends p at))
+    gathered f select gives ps (ends p at) (add_all (kept p at) out) ∙ ap (λ (x : List X). x ++ all_of f ps (ends p at)) (gives p at out) ∙
+    append_assoc (select out) (f p at) (all_of f ps (ends p at))
     ∙ ap (λ (n : ℕ). select out ++ (f p at ++ all_of f ps n)) (ends_is p at)
 
-one_token : (kind : TokenKind) (at : ℕ) (end other : ℕ) (out : List Ended) → end ≡ other → only_tokens (out ++ ended.Token (token kind at end) ∷ []) ≡ only_tokens out ++ token kind at other ∷ []
+one_token : (kind : TokenKind) (at : ℕ) (end other : ℕ) (out : List Ended) → end ≡ other →
+    only_tokens (out ++ ended.Token (token kind at end) ∷ []) ≡ only_tokens out ++ token kind at other ∷ []
 one_token kind at end other out e = tokens_end out (ended.Token (token kind at end)) ∙ ap (λ (n : ℕ). only_tokens out ++ token kind at n ∷ []) e
 
 tokens_give : Gives token_of only_tokens
@@ -133,7 +138,8 @@ tokens_give (Directive w) at out = one_token k.Directive at _ _ out (end_is w (a
 tokens_give (Line w) at out = tokens_end out (kept (Line w) at)
 tokens_give (Block w) at out = tokens_end out (kept (Block w) at)
 
-one_comment : (at end other : ℕ) (out : List Ended) → end ≡ other → only_comments (out ++ ended.Comment (span at end) ∷ []) ≡ only_comments out ++ span at other ∷ []
+one_comment : (at end other : ℕ) (out : List Ended) → end ≡ other → only_comments (out ++ ended.Comment (span at end) ∷ []) ≡ only_comments out ++
+    span at other ∷ []
 one_comment at end other out e = comments_end out (ended.Comment (span at end)) ∙ ap (λ (n : ℕ). only_comments out ++ span at n ∷ []) e
 
 comments_give : Gives comment_of only_comments
@@ -148,7 +154,8 @@ comments_give (Line w) at out = one_comment at _ _ out (end_is w (at + 1 + 1))
 comments_give (Block w) at out = one_comment at _ _ out (ends_is (Block w) at)
 
 both_gathered : (ps : List Piece) → both (gather ps 0 []) ≡ scanned_of ps
-both_gathered ps = same_parts _ _ _ _ (gathered token_of only_tokens tokens_give ps 0 [] ∙ all_is token_of ps) (gathered comment_of only_comments comments_give ps 0 [] ∙ all_is comment_of ps)
+both_gathered ps = same_parts _ _ _ _ (gathered token_of only_tokens tokens_give ps 0 [] ∙ all_is token_of ps)
+    (gathered comment_of only_comments comments_give ps 0 [] ∙ all_is comment_of ps)
 
 -- ---- pieces read back
 
@@ -156,7 +163,8 @@ spelled_reads : (t : List ℕ) (ps : List Piece) → t ≡ text ps [] → Good t
 spelled_reads t ps e g = ap (λ (x : List ℕ). scan x (Between true) 0 [] x) e ∙ lexes ps g
 
 pub scan_read_back : (t : List ℕ) (ps : List Piece) → Spells ps t → scanning t ≡ Ok (scanned_of ps)
-scan_read_back t ps s = ap (answer t) (scan_run t ∙ ap selected (spelled_reads t ps s.spells (spells_walked ps t s))) ∙ ap (λ (x : Scanned). Ok x) (both_gathered ps)
+scan_read_back t ps s = ap (answer t) (scan_run t ∙ ap selected (spelled_reads t ps s.spells (spells_walked ps t s))) ∙
+    ap (λ (x : Scanned). Ok x) (both_gathered ps)
 
 -- ---- the first fault
 
@@ -169,7 +177,8 @@ refused r = Err r
 same_bytes : (t : List ℕ) (ps : List Piece) (r : List ℕ) → t ≡ text ps r → Stands t 0 (text ps r)
 same_bytes t ps r e = ([], e, refl)
 
-first_fault : (t : List ℕ) (reason place : ℕ) → StuckAt 0 true reason place t → scan t (Between true) 0 [] t ≡ Faulty reason place → IsFirstFault t (refusal_of reason t place)
+first_fault : (t : List ℕ) (reason place : ℕ) → StuckAt 0 true reason place t → scan t (Between true) 0 [] t ≡ Faulty reason place →
+    IsFirstFault t (refusal_of reason t place)
 first_fault t reason place s h =
     record {
       pieces = s.pieces;
@@ -181,7 +190,8 @@ first_fault t reason place s h =
       include = is_directive (own_line s.rest);
       include_is = directive_decided (own_line s.rest);
       refusal =
-          ap (λ (n : ℕ). refusal_of n t place) (sym s.reason_is) ∙ ap (refusal_of (reason_at first s.byte s.rest) t) (sym s.place_is ∙ ap (λ (n : ℕ). n + reach_at first s.byte s.rest) (ends_at s.pieces))
+          ap (λ (n : ℕ). refusal_of n t place) (sym s.reason_is) ∙ ap (refusal_of (reason_at first s.byte s.rest) t)
+          (sym s.place_is ∙ ap (λ (n : ℕ). n + reach_at first s.byte s.rest) (ends_at s.pieces))
           ∙ ap (λ c. refusal_of (reason_at c s.byte s.rest) t (length (text s.pieces []) + reach_at c s.byte s.rest)) (first_is s.pieces);
     }
   where
@@ -203,45 +213,57 @@ first_fault t reason place s h =
     none : (reach_at first s.byte s.rest ≡ 0) ⊎ HasNoPiece first (s.byte ∷ s.rest) → HasNoPiece first (s.byte ∷ s.rest)
     none (inr f) = f
     none (inl z) = λ p r e f l.
-        no_fault t first p r f l at (gather s.pieces 0 []) (stands_text t s.pieces 0 (spelled p r) (same_bytes t s.pieces (spelled p r) (s.spells ∙ ap (text s.pieces) e))) reason
+        no_fault t first p r f l at (gather s.pieces 0 []) (stands_text t s.pieces 0 (spelled p r)
+        (same_bytes t s.pieces (spelled p r) (s.spells ∙ ap (text s.pieces) e))) reason
         (ap (scan t (Between first) at (gather s.pieces 0 [])) (sym e) ∙ there ∙ ap (faulty reason) (same _ at z s.place_is))
 
 -- a byte at which no piece begins is where reading stops
-stops_there : (first : Bool) (byte place : ℕ) (rest : List ℕ) → HasNoPiece first (byte ∷ rest) → (n : Lexed (List Ended)) → Outcome place first n (byte ∷ rest) → n ≡ Faulty (reason_at first byte rest) (place + reach_at first byte rest)
+stops_there : (first : Bool) (byte place : ℕ) (rest : List ℕ) → HasNoPiece first (byte ∷ rest) → (n : Lexed (List Ended)) →
+    Outcome place first n (byte ∷ rest) → n ≡ Faulty (reason_at first byte rest) (place + reach_at first byte rest)
 stops_there first byte place rest none (Read z) ([], e, g) = absurd cc
 stops_there first byte place rest none (Read z) (p ∷ ps, e, g) = absurd (none p (text ps []) e g.0 g.1)
 stops_there first byte place rest none (Faulty reason at) s = go s.pieces s.spells s.good s.place_is s.reason_is
   where
-    go : (ps : List Piece) → byte ∷ rest ≡ text ps (s.byte ∷ s.rest) → Good first ps (s.byte ∷ s.rest) → ends_all ps place + reach_at (first_behind_all first ps) s.byte s.rest ≡ at → reason_at (first_behind_all first ps) s.byte s.rest ≡ reason
+    go : (ps : List Piece) → byte ∷ rest ≡ text ps (s.byte ∷ s.rest) → Good first ps (s.byte ∷ s.rest) →
+        ends_all ps place + reach_at (first_behind_all first ps) s.byte s.rest ≡ at → reason_at (first_behind_all first ps) s.byte s.rest ≡ reason
         → faulty reason at ≡ faulty (reason_at first byte rest) (place + reach_at first byte rest)
     go [] e g p r =
         let x : byte ≡ s.byte = cc in
         let y : rest ≡ s.rest = cc in
         ap (λ (i : ℕ). faulty i at) (sym r) ∙ ap (faulty (reason_at first s.byte s.rest)) (sym p)
-        ∙ ap (λ (i : ℕ). faulty (reason_at first i s.rest) (place + reach_at first i s.rest)) (sym x) ∙ ap (λ (v : List ℕ). faulty (reason_at first byte v) (place + reach_at first byte v)) (sym y)
+        ∙ ap (λ (i : ℕ). faulty (reason_at first i s.rest) (place + reach_at first i s.rest)) (sym x) ∙
+        ap (λ (v : List ℕ). faulty (reason_at first byte v) (place + reach_at first byte v)) (sym y)
     go (p ∷ ps) e g a r = absurd (none p (text ps (s.byte ∷ s.rest)) e g.0 g.1)
 
-fault_stops : (t : List ℕ) (fault : Refusal) (f : IsFirstFault t fault) → scan t (Between true) 0 [] t ≡ Faulty (reason_at (first_behind_all true f.pieces) f.byte f.rest) (ends_all f.pieces 0 + reach_at (first_behind_all true f.pieces) f.byte f.rest)
+fault_stops : (t : List ℕ) (fault : Refusal) (f : IsFirstFault t fault) →
+    scan t (Between true) 0 [] t ≡ Faulty (reason_at (first_behind_all true f.pieces) f.byte f.rest)
+    (ends_all f.pieces 0 + reach_at (first_behind_all true f.pieces) f.byte f.rest)
 fault_stops t fault f =
     let stands = same_bytes t f.pieces (f.byte ∷ f.rest) f.spells in
-    ap (λ (x : List ℕ). scan t (Between true) 0 [] x) f.spells ∙ reads t true f.pieces (f.byte ∷ f.rest) (good_walked f.pieces (f.byte ∷ f.rest) f.good) 0 [] stands
-    ∙ stops_there (first_behind_all true f.pieces) f.byte (ends_all f.pieces 0) f.rest (subst (λ c. HasNoPiece c (f.byte ∷ f.rest)) (sym (first_is f.pieces)) f.stuck) _
-    (whole t (ends_all f.pieces 0) (first_behind_all true f.pieces) (f.byte ∷ f.rest) (stands_text t f.pieces 0 (f.byte ∷ f.rest) stands) (gather f.pieces 0 []))
+    ap (λ (x : List ℕ). scan t (Between true) 0 [] x) f.spells ∙ reads t true f.pieces (f.byte ∷ f.rest)
+    (good_walked f.pieces (f.byte ∷ f.rest) f.good) 0 [] stands
+    ∙ stops_there (first_behind_all true f.pieces) f.byte (ends_all f.pieces 0) f.rest
+    (subst (λ c. HasNoPiece c (f.byte ∷ f.rest)) (sym (first_is f.pieces)) f.stuck) _
+    (whole t (ends_all f.pieces 0) (first_behind_all true f.pieces) (f.byte ∷ f.rest) (stands_text t f.pieces 0 (f.byte ∷ f.rest) stands)
+    (gather f.pieces 0 []))
 
 -- the first fault is what reading gives
 pub scan_fault_back : (t : List ℕ) (fault : Refusal) → IsFirstFault t fault → scanning t ≡ Err fault
 scan_fault_back t fault f =
     ap (answer t) (scan_run t ∙ ap selected (fault_stops t fault f))
-    ∙ ap (λ (n : ℕ). refused (refusal_of (reason_at (first_behind_all true f.pieces) f.byte f.rest) t (n + reach_at (first_behind_all true f.pieces) f.byte f.rest))) (ends_at f.pieces)
+    ∙ ap (λ (n : ℕ). refused (refusal_of (reason_at (first_behind_all true f.pieces) f.byte f.rest) t
+    (n + reach_at (first_behind_all true f.pieces) f.byte f.rest))) (ends_at f.pieces)
     ∙ ap (λ c. refused (refusal_of (reason_at c f.byte f.rest) t (length (text f.pieces []) + reach_at c f.byte f.rest))) (first_is f.pieces)
-    ∙ ap (λ x. refused (refusal_of (reason_of (stands_first f.pieces) x f.byte f.rest) t (length (text f.pieces []) + reach_of (stands_first f.pieces) x f.byte f.rest)))
+    ∙ ap (λ x. refused (refusal_of (reason_of (stands_first f.pieces) x f.byte f.rest) t
+    (length (text f.pieces []) + reach_of (stands_first f.pieces) x f.byte f.rest)))
     (same_from_decides (is_directive (own_line f.rest)) f.include (directive_decided (own_line f.rest)) f.include_is) ∙ ap refused (sym f.refusal)
 
 -- ---- what reading gives
 
 pub scan_reading : (t : List ℕ) → IsReading scanned_of t (scanning t)
 scan_reading t =
-    subst (λ (x : Lexed Scanned). IsReading scanned_of t (answer t x)) (sym (scan_run t)) (go (scan t (Between true) 0 [] t) refl (whole t 0 true t ([], refl, refl) []))
+    subst (λ (x : Lexed Scanned). IsReading scanned_of t (answer t x)) (sym (scan_run t))
+    (go (scan t (Between true) 0 [] t) refl (whole t 0 true t ([], refl, refl) []))
   where
     go : (n : Lexed (List Ended)) → scan t (Between true) 0 [] t ≡ n → Outcome 0 true n t → IsReading scanned_of t (answer t (selected n))
     go (Read z) e h =

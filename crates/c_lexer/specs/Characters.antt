@@ -34,7 +34,8 @@ IsCharacter plain (Plain b) = plain b ≡ true
 IsCharacter plain (Simple b) = is_simple_escape b ≡ true
 IsCharacter plain (OneDigit a) = is_octal_digit a ≡ true
 IsCharacter plain (TwoDigits a b) = (is_octal_digit a ≡ true) × (is_octal_digit b ≡ true)
-IsCharacter plain (ThreeDigits a b c) = (is_octal_digit a ≡ true) × (is_octal_digit b ≡ true) × (is_octal_digit c ≡ true) × (nat_le (three_digits a b c) 255 ≡ true)
+IsCharacter plain (ThreeDigits a b c) = (is_octal_digit a ≡ true) × (is_octal_digit b ≡ true) × (is_octal_digit c ≡ true) ×
+    (nat_le (three_digits a b c) 255 ≡ true)
 IsCharacter plain (Hexadecimal a ds) = (list_all is_hexadecimal_digit (a ∷ ds) ≡ true) × (nat_le (value_of 16 (a ∷ ds)) 255 ≡ true)
 
 -- as many digits are taken as there are

@@ -4,14 +4,20 @@ use Rattle.std.specs.Str.{bytes_eq}
 
 -- those that begin with `_`
 abbrev pub is_marked : List ℕ → Bool
-is_marked w = bytes_eq (codes "_Alignas") w || (bytes_eq (codes "_Alignof") w || (bytes_eq (codes "_Atomic") w || (bytes_eq (codes "_Bool") w || (bytes_eq (codes "_Complex") w || (bytes_eq (codes "_Generic") w || (bytes_eq (codes "_Imaginary") w || (bytes_eq (codes "_Noreturn") w || (bytes_eq (codes "_Static_assert") w || bytes_eq (codes "_Thread_local") w))))))))
+is_marked w = bytes_eq (codes "_Alignas") w ||
+    (bytes_eq (codes "_Alignof") w || (bytes_eq (codes "_Atomic") w ||
+    (bytes_eq (codes "_Bool") w || (bytes_eq (codes "_Complex") w ||
+    (bytes_eq (codes "_Generic") w || (bytes_eq (codes "_Imaginary") w ||
+    (bytes_eq (codes "_Noreturn") w || (bytes_eq (codes "_Static_assert") w || bytes_eq (codes "_Thread_local") w))))))))
 
 -- those that begin with a letter from `l` on, or with `_`
 abbrev pub is_late : ℕ → List ℕ → Bool
 is_late b w =
     cond (b == 108) (bytes_eq (codes "long") w)
     (cond (b == 114) (bytes_eq (codes "register") w || (bytes_eq (codes "restrict") w || bytes_eq (codes "return") w))
-    (cond (b == 115) (bytes_eq (codes "short") w || (bytes_eq (codes "signed") w || (bytes_eq (codes "sizeof") w || (bytes_eq (codes "static") w || (bytes_eq (codes "struct") w || bytes_eq (codes "switch") w)))))
+    (cond (b == 115) (bytes_eq (codes "short") w ||
+    (bytes_eq (codes "signed") w || (bytes_eq (codes "sizeof") w ||
+    (bytes_eq (codes "static") w || (bytes_eq (codes "struct") w || bytes_eq (codes "switch") w)))))
     (cond (b == 116) (bytes_eq (codes "typedef") w)
     (cond (b == 117) (bytes_eq (codes "union") w || bytes_eq (codes "unsigned") w)
     (cond (b == 118) (bytes_eq (codes "void") w || bytes_eq (codes "volatile") w)

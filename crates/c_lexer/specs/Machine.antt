@@ -71,7 +71,8 @@ escape_step Backslash b = cond (is_simple_escape b) Whole (cond (is_octal_digit 
 escape_step (OneOctal a) b = cond (is_octal_digit b) (More (TwoOctal a b)) Over
 escape_step (TwoOctal a b) c = cond (is_octal_digit c) (cond (nat_le (three_digits a b c) 255) Whole Wrong) Over
 escape_step HexadecimalStart b = cond (is_hexadecimal_digit b) (More (InHexadecimal (digit_value b))) Wrong
-escape_step (InHexadecimal v) b = cond (is_hexadecimal_digit b) (cond (nat_le (v * 16 + digit_value b) 255) (More (InHexadecimal (v * 16 + digit_value b))) Wrong) Over
+escape_step (InHexadecimal v) b = cond (is_hexadecimal_digit b)
+    (cond (nat_le (v * 16 + digit_value b) 255) (More (InHexadecimal (v * 16 + digit_value b))) Wrong) Over
 
 abbrev pub char_held : ℕ → ℕ → ℕ → Taken
 char_held start b at = cond (b == 39) (Go (Between false) (found k.Char start (at + 1))) (Fault 4 start)
@@ -143,7 +144,8 @@ abbrev pub closing_step : Closing → ℕ → Closing
 closing_step c b = cond (b == 42) closing.Starred (closing_else c b)
 
 abbrev pub in_comment : ℕ → Closing → ℕ → ℕ → Taken
-in_comment start closing.Starred b at = cond (b == 47) (Go (Between false) (ends.Comment (span start (at + 1)))) (Go (InComment start (closing_step closing.Starred b)) ends.Nothing)
+in_comment start closing.Starred b at = cond (b == 47) (Go (Between false) (ends.Comment (span start (at + 1))))
+    (Go (InComment start (closing_step closing.Starred b)) ends.Nothing)
 in_comment start closing.Returned b at = cond (b == 47) (Fault 3 start) (Go (InComment start (closing_step closing.Returned b)) ends.Nothing)
 in_comment start closing.Joined b at = cond (b == 47) (Fault 3 start) (Go (InComment start (closing_step closing.Joined b)) ends.Nothing)
 in_comment start c b at = Go (InComment start (closing_step c b)) ends.Nothing
@@ -166,7 +168,8 @@ char_opened start b =
 
 abbrev pub in_directive : List ℕ → ℕ → ℕ → ℕ → ℕ → Taken
 in_directive t start end b at =
-    cond (b == 10) (end_directive start end (slice_range t (start + 1) at) (broken_at (slice_range t (start + 1) at))) (Go (InDirective start (line_end end b at)) ends.Nothing)
+    cond (b == 10) (end_directive start end (slice_range t (start + 1) at) (broken_at (slice_range t (start + 1) at)))
+    (Go (InDirective start (line_end end b at)) ends.Nothing)
 
 abbrev pub in_line : List ℕ → ℕ → ℕ → ℕ → ℕ → Taken
 in_line t start end b at = cond (b == 10) (end_line start end (broken_at (slice_range t start at))) (Go (InLine start (line_end end b at)) ends.Nothing)

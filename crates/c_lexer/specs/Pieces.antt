@@ -131,7 +131,8 @@ IsLine w r = (runs_on w r ≡ true) × NewlineNext r
 abbrev pub Longest : Piece → List ℕ → Type 0
 Longest (Word w) r = NotFirst is_word_byte r
 Longest (Number w) r = NotFirst (is_run_byte (ends_with_power w)) r
-Longest (Sign m) r = ((n : Mark) → Begins (mark_text n) (mark_text m ++ r) → length (mark_text n) ≤ length (mark_text m)) × (m ≡ Slash → NotFirst (λ b. b == 42 || b == 47) r)
+Longest (Sign m) r = ((n : Mark) → Begins (mark_text n) (mark_text m ++ r) → length (mark_text n) ≤ length (mark_text m)) ×
+    (m ≡ Slash → NotFirst (λ b. b == 42 || b == 47) r)
 Longest (Directive w) r = IsLine w r
 Longest (Line w) r = IsLine w r
 Longest _ r = Unit {0}
@@ -148,7 +149,8 @@ stands_first before = is_white_back (reverse before)
 
 -- these are pieces, each the longest at its byte, in front of these bytes
 abbrev pub AreGood : List Piece → List ℕ → Type 0
-AreGood pieces r = (before : List Piece) (p : Piece) (after : List Piece) → pieces ≡ before ++ p ∷ after → Fits (stands_first before) p × Longest p (text after r)
+AreGood pieces r = (before : List Piece) (p : Piece) (after : List Piece) → pieces ≡ before ++ p ∷ after →
+    Fits (stands_first before) p × Longest p (text after r)
 
 -- the text is these pieces
 pub record Spells (pieces : List Piece) (t : List ℕ) : Type 0 where

@@ -14,9 +14,11 @@ pub resumes_begun : (form : Form) (x : Want) (l : List Want) (z : Frames) (t : C
     → resume form z t at ≡ begin form.rule form.first form.level form.parts l x z t at
 resumes_begun form x l z t at e h =
     ap (λ (todo : List Want). feed form.rule form.first form.level form.parts todo z t at (λ v. give z (Whole v) t at)) e
-    ∙ ap (λ (b : Bool). cond b (feed form.rule form.first form.level (skipped x form.parts at) l z t at (λ v. give z (Whole v) t at)) (begin form.rule form.first form.level form.parts l x z t at)) h
+    ∙ ap (λ (b : Bool). cond b (feed form.rule form.first form.level (skipped x form.parts at) l z t at (λ v. give z (Whole v) t at))
+    (begin form.rule form.first form.level form.parts l x z t at)) h
 
-pub resumes_ended : (form : Form) (z : Frames) (t : Class) (at : ℕ) → form.todo ≡ [] → resume form z t at ≡ give z (Whole (node form.rule form.first at form.parts)) t at
+pub resumes_ended : (form : Form) (z : Frames) (t : Class) (at : ℕ) → form.todo ≡ [] →
+    resume form z t at ≡ give z (Whole (node form.rule form.first at form.parts)) t at
 resumes_ended form z t at e = ap (λ (todo : List Want). feed form.rule form.first form.level form.parts todo z t at (λ v. give z (Whole v) t at)) e
 
 pub steps_taken : (next : Next) (o : Option Load) (l : Load) (z : Frames) → Steps next (Ok o) z → o ≡ Some l → next ≡ Takes l z

@@ -101,21 +101,24 @@ begin rule first level parts l (w.Tail x) z t at =
     cond (same c.Comma t) (passed (rest rule first level (parts ++ leaf at ∷ []) (w.Next x ∷ l) ∷ z))
     (cond (same c.CloseBlock t) (passed (rest rule first level (parts ++ leaf at ∷ []) l ∷ z)) Fails)
 begin rule first level parts l (w.Next x) z t at =
-    cond (same c.CloseBlock t) (passed (rest rule first level (parts ++ leaf at ∷ []) l ∷ z)) (at_member x (rest rule first level parts (w.Tail x ∷ l) ∷ z) t at)
+    cond (same c.CloseBlock t) (passed (rest rule first level (parts ++ leaf at ∷ []) l ∷ z))
+    (at_member x (rest rule first level parts (w.Tail x ∷ l) ∷ z) t at)
 begin rule first level parts l w.ForStart z t at =
     cond (starts_local t) (at_local (rest rule first level parts l ∷ z) t at) (at_optional rule first level parts l f.Expression c.Semicolon z t at)
 begin rule first level parts l w.FunctionEnd z t at =
     cond (same c.Semicolon t) (passed (rest rule first level (parts ++ leaf at ∷ []) l ∷ z)) (at_block 1 (rest rule first level parts l ∷ z) t at)
 begin rule first level parts l w.Items z t at =
     cond (same c.CloseBlock t) (passed (rest rule first level (parts ++ leaf at ∷ []) l ∷ z))
-    (cond (starts_local t) (at_local (rest rule first level parts (w.Items ∷ l) ∷ z) t at) (at_statement level (rest rule first level parts (w.Items ∷ l) ∷ z) t at))
+    (cond (starts_local t) (at_local (rest rule first level parts (w.Items ∷ l) ∷ z) t at)
+    (at_statement level (rest rule first level parts (w.Items ∷ l) ∷ z) t at))
 begin rule first level parts l w.Labelled z t at = at_labelled (record { rule = rule; first = first; level = level; parts = parts; todo = l }) z t at
 begin rule first level parts l x z t at = begin_node rule first level parts l x z t at
 
 -- A token goes on with what is left of a node; a node of which nothing is left goes to `k`.
 abbrev pub feed : Production → ℕ → ℕ → List Syntax → List Want → Frames → Class → ℕ → (Syntax → Next) → Next
 feed rule first level parts [] z t at k = k (node rule first at parts)
-feed rule first level parts (x ∷ l) z t at k = cond (skips x t) (feed rule first level (skipped x parts at) l z t at k) (begin rule first level parts l x z t at)
+feed rule first level parts (x ∷ l) z t at k = cond (skips x t) (feed rule first level (skipped x parts at) l z t at k)
+    (begin rule first level parts l x z t at)
 
 -- A value is there for the first frame, and this token stands behind it.
 abbrev pub give : Frames → Found → Class → ℕ → Next
@@ -128,20 +131,26 @@ give (s.CastType first bracket ∷ z) (Whole type) t at = at_type_end first brac
 give (s.Cast first parts next ∷ z) v t at = give z (Whole (node p.Unary first at (parts ++ solid_unary next at v ∷ []))) t at
 give (s.Operand first ∷ z) v t at = give z (lift p.Binary first at v) t at
 give (s.Join first left mark next l ∷ z) v t at =
-    cond (nat_lt l (level t)) (counted (s.WantUnary ∷ s.Operand (at + 1) ∷ s.Join next (solid_binary next at v) (leaf at) (at + 1) (level t) ∷ s.Join first left mark next l ∷ z))
+    cond (nat_lt l (level t)) (counted (s.WantUnary ∷ s.Operand (at + 1) ∷ s.Join next (solid_binary next at v) (leaf at) (at + 1) (level t) ∷ s.Join
+    first left mark next l ∷ z))
     (give z (Whole (node p.Binary first at (left ∷ mark ∷ solid_binary next at v ∷ []))) t at)
 give (s.Choice first ∷ z) v t at =
-    cond (nat_lt 0 (level t)) (counted (s.WantUnary ∷ s.Operand (at + 1) ∷ s.Join first (solid_binary first at v) (leaf at) (at + 1) (level t) ∷ s.Choice first ∷ z))
-    (cond (is_question t) (counted (expression (at + 1) (s.ChoiceThen first (solid_binary first at v) (leaf at) (at + 1) ∷ z))) (give z (lift p.Conditional first at v) t at))
+    cond (nat_lt 0 (level t)) (counted (s.WantUnary ∷ s.Operand (at + 1) ∷ s.Join first (solid_binary first at v) (leaf at) (at + 1)
+    (level t) ∷ s.Choice first ∷ z))
+    (cond (is_question t) (counted (expression (at + 1) (s.ChoiceThen first (solid_binary first at v) (leaf at) (at + 1) ∷ z)))
+    (give z (lift p.Conditional first at v) t at))
 give (s.ChoiceThen first test question next ∷ z) v t at =
     cond (is_colon t) (taken (conditional (at + 1) (s.ChoiceElse first (test ∷ question ∷ solid_expression next at v ∷ leaf at ∷ []) (at + 1) ∷ z))) Fails
 give (s.ChoiceElse first parts next ∷ z) v t at = give z (Whole (node p.Conditional first at (parts ++ solid_conditional next at v ∷ []))) t at
-give (s.Assigns first ∷ z) (Lone v) t at = cond (is_assign t) (counted (assignment (at + 1) (s.AssignsTo first (v ∷ leaf at ∷ []) (at + 1) ∷ z))) (give z (Lone v) t at)
+give (s.Assigns first ∷ z) (Lone v) t at = cond (is_assign t) (counted (assignment (at + 1) (s.AssignsTo first (v ∷ leaf at ∷ []) (at + 1) ∷ z)))
+    (give z (Lone v) t at)
 give (s.Assigns first ∷ z) (Whole v) t at = give z (lift p.Assignment first at (Whole v)) t at
 give (s.AssignsTo first parts next ∷ z) v t at = give z (Whole (node p.Assignment first at (parts ++ solid_assignment next at v ∷ []))) t at
 give (s.Commas first start parts ∷ z) v t at =
-    cond (is_comma t) (counted (assignment (at + 1) (s.Commas first (at + 1) (parts ++ solid_assignment start at v ∷ leaf at ∷ []) ∷ z))) (give z (commas first start at parts v) t at)
-give (s.Indexed first parts next ∷ z) v t at = cond (is_close_index t) (taken (s.Done (target first (at + 1) (parts ++ solid_expression next at v ∷ leaf at ∷ [])) ∷ z)) Fails
+    cond (is_comma t) (counted (assignment (at + 1) (s.Commas first (at + 1) (parts ++ solid_assignment start at v ∷ leaf at ∷ []) ∷ z)))
+    (give z (commas first start at parts v) t at)
+give (s.Indexed first parts next ∷ z) v t at = cond (is_close_index t)
+    (taken (s.Done (target first (at + 1) (parts ++ solid_expression next at v ∷ leaf at ∷ [])) ∷ z)) Fails
 give (s.Bracketed first bracket next ∷ z) (Lone v) t at = cond (is_close t) (taken (s.Done (target first (at + 1) (bracket ∷ v ∷ leaf at ∷ [])) ∷ z)) Fails
 give (s.Bracketed first bracket next ∷ z) (Whole v) t at = cond (is_close t) (taken (s.Done (postfix first (at + 1) (bracket ∷ v ∷ leaf at ∷ [])) ∷ z)) Fails
 give (s.ArgumentSeen first ∷ z) v t at = give z (Whole (node p.Argument first at (solid_assignment first at v ∷ []))) t at
@@ -170,16 +179,19 @@ abbrev pub at_label_or_name : ℕ → Syntax → Form → Frames → Class → �
 at_label_or_name name mark form z t at =
     cond (same c.Colon t) (passed (rest p.Label name 0 (mark ∷ leaf at ∷ []) [] ∷ s.Rest (record form { todo = w.Labelled ∷ form.todo }) ∷ z))
     (at_named name mark
-    (s.Post name ∷ s.Operand name ∷ s.Choice name ∷ s.Assigns name ∷ s.Commas name name [] ∷ s.Whole f.Expression name ∷ rest p.Plain name form.level [] (w.Token c.Semicolon ∷ []) ∷ s.Rest form ∷ z) t at)
+    (s.Post name ∷ s.Operand name ∷ s.Choice name ∷ s.Assigns name ∷ s.Commas name name [] ∷ s.Whole f.Expression name ∷ rest p.Plain name form.level
+    [] (w.Token c.Semicolon ∷ []) ∷ s.Rest form ∷ z) t at)
 
 -- behind the name of a declaration or a function
 abbrev pub declared : ℕ → List Syntax → ℕ → Syntax → Frames → Frames
-declared first parts start type z = rest p.Local start 0 (type ∷ []) (w.Optional o.Declarators ∷ w.Token c.Semicolon ∷ []) ∷ rest p.Declaration first 0 parts [] ∷ z
+declared first parts start type z = rest p.Local start 0 (type ∷ []) (w.Optional o.Declarators ∷ w.Token c.Semicolon ∷ []) ∷ rest p.Declaration first
+    0 parts [] ∷ z
 
 abbrev pub at_top_name : ℕ → List Syntax → ℕ → Syntax → ℕ → Syntax → Frames → Class → ℕ → Next
 at_top_name first parts start type name mark z t at =
     cond (same c.Open t) (passed (rest p.Function first 0 (parts ++ type ∷ mark ∷ leaf at ∷ []) (w.Parameters ∷ w.Token c.Close ∷ w.FunctionEnd ∷ []) ∷ z))
-    (resume (record { rule = p.Declarator; first = name; level = 0; parts = mark ∷ []; todo = w.Optional o.Size ∷ w.Optional o.Value ∷ [] }) (declared first parts start type z) t at)
+    (resume (record { rule = p.Declarator; first = name; level = 0; parts = mark ∷ []; todo = w.Optional o.Size ∷ w.Optional o.Value ∷ [] })
+    (declared first parts start type z) t at)
 
 abbrev pub step : Frames → Class → ℕ → Next
 step (s.WantUnary ∷ z) t at = at_unary z t at

@@ -87,7 +87,8 @@ at_target z c.Name at = taken (s.TargetNamed at (leaf at) ∷ z)
 at_target z _ at = Fails
 
 abbrev pub at_argument : Frames → Class → ℕ → Next
-at_argument z t at = cond (is_text t) (taken (s.Texts at (leaf at ∷ []) ∷ z)) (at_unary (s.Operand at ∷ s.Choice at ∷ s.Assigns at ∷ s.ArgumentSeen at ∷ z) t at)
+at_argument z t at = cond (is_text t) (taken (s.Texts at (leaf at ∷ []) ∷ z))
+    (at_unary (s.Operand at ∷ s.Choice at ∷ s.Assigns at ∷ s.ArgumentSeen at ∷ z) t at)
 
 abbrev pub at_full : Full → Frames → Class → ℕ → Next
 at_full kind z t at = at_unary (behind_full kind at z) t at
@@ -185,7 +186,8 @@ abbrev pub at_plain : ℕ → Frames → Class → ℕ → Next
 at_plain level z t at = at_plain_with (plain_wants t) level z t at
 
 abbrev pub at_labelled : Form → Frames → Class → ℕ → Next
-at_labelled form z c.Case at = passed (rest p.Label at 0 (leaf at ∷ []) (w.Full f.Conditional ∷ w.Token c.Colon ∷ []) ∷ s.Rest (record form { todo = w.Labelled ∷ form.todo }) ∷ z)
+at_labelled form z c.Case at = passed (rest p.Label at 0 (leaf at ∷ []) (w.Full f.Conditional ∷ w.Token c.Colon ∷ []) ∷ s.Rest
+    (record form { todo = w.Labelled ∷ form.todo }) ∷ z)
 at_labelled form z c.Default at = passed (rest p.Label at 0 (leaf at ∷ []) (w.Token c.Colon ∷ []) ∷ s.Rest (record form { todo = w.Labelled ∷ form.todo }) ∷ z)
 at_labelled form z c.Name at = taken (s.LabelOrName at (leaf at) form ∷ z)
 at_labelled form z t at = at_plain form.level (s.Rest form ∷ z) t at
@@ -212,6 +214,7 @@ at_external first parts z t at = at_type (s.TopType first parts at ∷ z) t at
 abbrev pub at_top : List Syntax → Frames → Class → ℕ → Next
 at_top parts z c.End at = passed (s.Accepted (node p.File 0 at parts) ∷ z)
 at_top parts z c.Directive at = passed (s.Tops (parts ++ leaf at ∷ []) ∷ z)
-at_top parts z c.Enum at = passed (rest p.Enum at 0 (leaf at ∷ []) (w.Token c.OpenBlock ∷ w.Enumerator ∷ w.Tail m.Enumerator ∷ w.Token c.Semicolon ∷ []) ∷ s.Tops parts ∷ z)
+at_top parts z c.Enum at = passed (rest p.Enum at 0 (leaf at ∷ [])
+    (w.Token c.OpenBlock ∷ w.Enumerator ∷ w.Tail m.Enumerator ∷ w.Token c.Semicolon ∷ []) ∷ s.Tops parts ∷ z)
 at_top parts z c.Static at = passed (s.External at (leaf at ∷ []) ∷ s.Tops parts ∷ z)
 at_top parts z t at = at_external at [] (s.Tops parts ∷ z) t at

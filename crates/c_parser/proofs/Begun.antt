@@ -62,7 +62,8 @@ via_step z f at [] q h = absurd h
 via_step z f at (t ∷ ts) q h = refl
 
 -- two ways to take the first token that agree on such a token run alike
-pub switch : (f g : Class → ℕ → Next) (h : Class → Bool) (at : ℕ) → ((t : Class) → h t ≡ true → f t at ≡ g t at) → (ts : List Class) (q : List Event) → HeadIs h ts → via f at ts q ≡ via g at ts q
+pub switch : (f g : Class → ℕ → Next) (h : Class → Bool) (at : ℕ) → ((t : Class) → h t ≡ true → f t at ≡ g t at) →
+    (ts : List Class) (q : List Event) → HeadIs h ts → via f at ts q ≡ via g at ts q
 switch f g h at e [] q i = absurd i
 switch f g h at e (t ∷ ts) q i = ap (λ (n : Next). log_on n at q (λ x a. logged x (at + 1) ts a)) (e t i)
 
@@ -71,15 +72,18 @@ abbrev pub IsPlain : Next → Type 0
 IsPlain Fails = Unit {0}
 IsPlain (Takes l z) = l.opens ≡ None
 
-opened_next : (n : ℕ) (x : Next) (at : ℕ) (q : List Event) (k : Frames → List Event → Trace) → IsPlain x → log_on (opening n x) at q k ≡ log_on x at (Opened n ∷ q) k
+opened_next : (n : ℕ) (x : Next) (at : ℕ) (q : List Event) (k : Frames → List Event → Trace) → IsPlain x →
+    log_on (opening n x) at q k ≡ log_on x at (Opened n ∷ q) k
 opened_next n Fails at q k i = refl
 opened_next n (Takes l z) at q k i = by_opens l.opens i
   where
-    by_opens : (m : Option ℕ) → m ≡ None → log_on (Takes (record { role = l.role; opens = Some n }) z) at q k ≡ log_on (Takes (record { role = l.role; opens = m }) z) at (Opened n ∷ q) k
+    by_opens : (m : Option ℕ) → m ≡ None → log_on (Takes (record { role = l.role; opens = Some n }) z) at q k ≡ log_on
+        (Takes (record { role = l.role; opens = m }) z) at (Opened n ∷ q) k
     by_opens m e = ap (λ (x : Option ℕ). log_on (Takes (record { role = l.role; opens = x }) z) at (Opened n ∷ q) k) (sym e)
 
 -- a first token that opens a level notes it before itself
-pub via_opening : (n : ℕ) (f : Class → ℕ → Next) (h : Class → Bool) (at : ℕ) → ((t : Class) → h t ≡ true → IsPlain (f t at)) → (ts : List Class) (q : List Event) → HeadIs h ts
+pub via_opening : (n : ℕ) (f : Class → ℕ → Next) (h : Class → Bool) (at : ℕ) → ((t : Class) → h t ≡ true → IsPlain (f t at)) →
+    (ts : List Class) (q : List Event) → HeadIs h ts
     → via (λ t a. opening n (f t a)) at ts q ≡ via f at ts (Opened n ∷ q)
 via_opening n f h at e [] q i = absurd i
 via_opening n f h at e (t ∷ ts) q i = opened_next n (f t at) at q (λ x a. logged x (at + 1) ts a) (e t i)
@@ -92,31 +96,37 @@ headed_is (t ∷ l) h = h
 -- ---- full expressions, in front of any list that such a token begins
 
 -- a full expression in front of a list that such a token begins
-pub full_expression : (e : Expression) → FitsExpression e → (zs : Frames) (at : ℕ) (ts : List Class) (q : List Event) → HeadIs is_closer ts → HeadIsNot is_comma ts
-    → logged (s.WantUnary ∷ behind_full full.Expression at zs) at (expression_tokens e ts) q ≡ logged (s.Done (Whole (expression_node at e)) ∷ zs) (expression_end at e) ts (expression_events e q)
+pub full_expression : (e : Expression) → FitsExpression e → (zs : Frames) (at : ℕ) (ts : List Class) (q : List Event) → HeadIs is_closer ts →
+    HeadIsNot is_comma ts
+    → logged (s.WantUnary ∷ behind_full full.Expression at zs) at (expression_tokens e ts) q ≡ logged (s.Done (Whole (expression_node at e)) ∷ zs)
+    (expression_end at e) ts (expression_events e q)
 full_expression e w zs at [] q h k = absurd h
 full_expression e w zs at (t ∷ ts) q h k = whole_expression e w zs at t ts q h k
 
 -- a full assignment
 pub full_assignment : (a : Assignment) → FitsAssignment a → (zs : Frames) (at : ℕ) (ts : List Class) (q : List Event) → HeadIs is_closer ts
-    → logged (s.WantUnary ∷ behind_full full.Assignment at zs) at (assignment_tokens a ts) q ≡ logged (s.Done (Whole (assignment_node at a)) ∷ zs) (assignment_end at a) ts (assignment_events a q)
+    → logged (s.WantUnary ∷ behind_full full.Assignment at zs) at (assignment_tokens a ts) q ≡ logged (s.Done (Whole (assignment_node at a)) ∷ zs)
+    (assignment_end at a) ts (assignment_events a q)
 full_assignment a w zs at [] q h = absurd h
 full_assignment a w zs at (t ∷ ts) q h = whole_assignment a w zs at t ts q h
 
 -- a full conditional
 pub full_conditional : (d : Conditional) → FitsConditional d → (zs : Frames) (at : ℕ) (ts : List Class) (q : List Event) → HeadIs is_closer ts
-    → logged (s.WantUnary ∷ behind_full full.Conditional at zs) at (conditional_tokens d ts) q ≡ logged (s.Done (Whole (conditional_node at d)) ∷ zs) (conditional_end at d) ts (conditional_events d q)
+    → logged (s.WantUnary ∷ behind_full full.Conditional at zs) at (conditional_tokens d ts) q ≡ logged (s.Done (Whole (conditional_node at d)) ∷ zs)
+    (conditional_end at d) ts (conditional_events d q)
 full_conditional d w zs at [] q h = absurd h
 full_conditional d w zs at (t ∷ ts) q h = whole_conditional d w zs at t ts q h
 
 -- a node that awaits a full expression begins it
-pub full_run : (rule : Production) (first n : ℕ) (parts : List Syntax) (l : List Want) (kind : Full) (zs : Frames) (at : ℕ) (ts : List Class) (q : List Event) → Headed ts
+pub full_run : (rule : Production) (first n : ℕ) (parts : List Syntax) (l : List Want) (kind : Full) (zs : Frames) (at : ℕ) (ts : List Class)
+    (q : List Event) → Headed ts
     → logged (rest rule first n parts (w.Full kind ∷ l) ∷ zs) at ts q ≡ logged (s.WantUnary ∷ behind_full kind at (rest rule first n parts l ∷ zs)) at ts q
 full_run rule first n parts l kind zs at [] q h = absurd h
 full_run rule first n parts l kind zs at (t ∷ ts) q h = refl
 
 -- the first token of a full expression awaits what is behind it
-pub via_full : (kind : Full) (zs : Frames) (at : ℕ) (ts : List Class) (q : List Event) → Headed ts → via (at_full kind zs) at ts q ≡ logged (s.WantUnary ∷ behind_full kind at zs) at ts q
+pub via_full : (kind : Full) (zs : Frames) (at : ℕ) (ts : List Class) (q : List Event) → Headed ts →
+    via (at_full kind zs) at ts q ≡ logged (s.WantUnary ∷ behind_full kind at zs) at ts q
 via_full kind zs at [] q h = absurd h
 via_full kind zs at (t ∷ ts) q h = refl
 
@@ -137,7 +147,8 @@ base_int _ h = refl
 
 -- `int` doesn't follow
 not_int : (first : ℕ) (parts : List Syntax) (zs : Frames) (z : ℕ) (t : Class) (r : List Class) (q : List Event) → is_base t ≡ false
-    → logged (rest p.NumberType first 0 parts (w.Optional o.Int ∷ []) ∷ zs) z (t ∷ r) q ≡ logged (s.Done (Whole (node p.NumberType first z parts)) ∷ zs) z (t ∷ r) q
+    → logged (rest p.NumberType first 0 parts (w.Optional o.Int ∷ []) ∷ zs) z (t ∷ r) q ≡ logged
+    (s.Done (Whole (node p.NumberType first z parts)) ∷ zs) z (t ∷ r) q
 not_int first parts zs z t r q h = rw (base_int t h)
 
 not_base : (first : ℕ) (parts : List Syntax) (zs : Frames) (z : ℕ) (t : Class) (r : List Class) (q : List Event) → is_base t ≡ false

@@ -26,12 +26,18 @@ file_closed P i = (i.0, c.End ∷ [], i.1, sym (i.2 (c.End ∷ [])))
 
 -- a bracket closes round a target, or round what is none
 bracket_closed : (x : Expression) (b : Bool) → is_lone x ≡ b → (P P0 : Front) → FitsExpression x → ((r : List Class) → P r ≡ P0 (c.Open ∷ r))
-    → (is_lone x ≡ false → Closed (λ r. P0 (unary_tokens (Within x) r))) → ((z : Target) → FitsTarget z → Closed (λ r. P0 (target_tokens (Round z) r))) → Closed (λ r. P (expression_tokens x r))
+    → (is_lone x ≡ false → Closed (λ r. P0 (unary_tokens (Within x) r))) →
+    ((z : Target) → FitsTarget z → Closed (λ r. P0 (target_tokens (Round z) r))) → Closed (λ r. P (expression_tokens x r))
 bracket_closed x false h P P0 w e f g = let k = f h in (k.0, c.Close ∷ k.1, k.2, k.3 ∙ sym (e (expression_tokens x (c.Close ∷ k.1))))
 bracket_closed x true h P P0 w e f g =
     let z = lone_expression x w h in
-    let k = g z.0 z.1 in
-    (k.0, c.Close ∷ k.1, k.2, k.3 ∙ ap (λ (n : Expression). P0 (c.Open ∷ expression_tokens n (c.Close ∷ k.1))) (sym z.2) ∙ sym (e (expression_tokens x (c.Close ∷ k.1))))
+    let k = g z.0 z.1 in (
+      k.0,
+      c.Close ∷ k.1,
+      k.2,
+      k.3 ∙ ap (λ (n : Expression). P0 (c.Open ∷ expression_tokens n (c.Close ∷ k.1))) (sym z.2) ∙
+          sym (e (expression_tokens x (c.Close ∷ k.1))),
+    )
 
 mutual
   unary_closed : (zs : Frames) (P : Front) → UnaryNext zs P → (u : Unary) → FitsUnary u → Closed (λ r. P (unary_tokens u r))
@@ -46,26 +52,30 @@ mutual
   target_closed : (zs : Frames) (P : Front) → TargetNext zs P → (x : Target) → FitsTarget x → Closed (λ r. P (target_tokens x r))
   target_closed (s.Post f ∷ zs) P i x w = unary_closed zs P i (Place x) w
   target_closed (s.Stepped f mark ∷ zs) P i x w = along _ _ (λ r. i.1 (target_tokens x r)) (unary_closed zs i.0 i.2 (StepTo x) w)
-  target_closed (s.Enclosed f bracket ∷ zs) P i x w = let k = target_closed zs i.0 i.2 (Round x) w in (k.0, c.Close ∷ k.1, k.2, k.3 ∙ sym (i.1 (target_tokens x (c.Close ∷ k.1))))
+  target_closed (s.Enclosed f bracket ∷ zs) P i x w = let k = target_closed zs i.0 i.2 (Round x) w in
+      (k.0, c.Close ∷ k.1, k.2, k.3 ∙ sym (i.1 (target_tokens x (c.Close ∷ k.1))))
   target_closed [] P i x w = absurd i
   target_closed (_ ∷ zs) P i x w = absurd i
 
   binary_closed : (zs : Frames) (P : Front) → BinaryNext zs P → (b : Binary) → FitsBinary b → Loose zs b → Closed (λ r. P (binary_tokens b r))
   binary_closed (s.Join f left mark next l ∷ zs) P i b w k =
-      along _ _ (λ r. i.7 (binary_tokens b r)) (binary_closed zs i.2 i.8 (Both i.0 i.1 b) (both_fits i.0 b i.1 l i.3 w i.4 i.5 i.6 k) (loose_both zs i.0 b i.1 l i.4 i.9))
+      along _ _ (λ r. i.7 (binary_tokens b r)) (binary_closed zs i.2 i.8 (Both i.0 i.1 b) (both_fits i.0 b i.1 l i.3 w i.4 i.5 i.6 k)
+      (loose_both zs i.0 b i.1 l i.4 i.9))
   binary_closed (s.Choice f ∷ zs) P i b w k = conditional_closed zs P i (Only b) w
   binary_closed [] P i b w k = absurd i
   binary_closed (_ ∷ zs) P i b w k = absurd i
 
   conditional_closed : (zs : Frames) (P : Front) → ConditionalNext zs P → (d : Conditional) → FitsConditional d → Closed (λ r. P (conditional_tokens d r))
   conditional_closed (s.Assigns f ∷ zs) P i d w = assignment_closed zs P i (Value d) w
-  conditional_closed (s.ChoiceElse f parts next ∷ zs) P i d w = along _ _ (λ r. i.5 (conditional_tokens d r)) (conditional_closed zs i.2 i.6 (Choose i.0 i.1 d) (i.3, i.4, w))
+  conditional_closed (s.ChoiceElse f parts next ∷ zs) P i d w = along _ _ (λ r. i.5 (conditional_tokens d r))
+      (conditional_closed zs i.2 i.6 (Choose i.0 i.1 d) (i.3, i.4, w))
   conditional_closed (s.Whole full.Conditional start ∷ zs) P i d w = value_closed zs (Of full.Conditional) P i d w
   conditional_closed [] P i d w = absurd i
   conditional_closed (_ ∷ zs) P i d w = absurd i
 
   assignment_closed : (zs : Frames) (P : Front) → AssignmentNext zs P → (a : Assignment) → FitsAssignment a → Closed (λ r. P (assignment_tokens a r))
-  assignment_closed (s.AssignsTo f parts next ∷ zs) P i a w = along _ _ (λ r. i.5 (assignment_tokens a r)) (assignment_closed zs i.2 i.6 (To i.0 i.1 a) (i.3, i.4, w))
+  assignment_closed (s.AssignsTo f parts next ∷ zs) P i a w = along _ _ (λ r. i.5 (assignment_tokens a r))
+      (assignment_closed zs i.2 i.6 (To i.0 i.1 a) (i.3, i.4, w))
   assignment_closed (s.Commas f z [] ∷ zs) P i a w = expression_closed zs P i (One a) w
   assignment_closed (s.Commas f z (y ∷ parts) ∷ zs) P i a w = along _ _ (λ r. i.3 (One a) r) (expression_closed zs i.1 i.4 (i.0 (One a)) (i.2 (One a) w).0)
   assignment_closed (s.ArgumentSeen f ∷ zs) P i a w = argument_closed zs P i (Given a) w
@@ -74,15 +84,20 @@ mutual
   assignment_closed (_ ∷ zs) P i a w = absurd i
 
   expression_closed : (zs : Frames) (P : Front) → ExpressionNext zs P → (x : Expression) → FitsExpression x → Closed (λ r. P (expression_tokens x r))
-  expression_closed (s.Indexed f parts next ∷ zs) P i x w = let k = target_closed zs i.0 i.2 (Cell x) w in (k.0, c.CloseIndex ∷ k.1, k.2, k.3 ∙ sym (i.1 (expression_tokens x (c.CloseIndex ∷ k.1))))
-  expression_closed (s.Bracketed f bracket next ∷ zs) P i x w = bracket_closed x (is_lone x) refl P i.0 w i.1 (λ h. unary_closed zs i.0 i.2 (Within x) (h, w)) (λ z v. target_closed zs i.0 i.3 (Round z) v)
-  expression_closed (s.ChoiceThen f test question next ∷ zs) P i x w = let k = conditional_closed zs i.1 i.4 (Choose i.0 x (Only (Single Number))) (i.2, w, tt) in (k.0, c.Colon ∷ c.Number ∷ k.1, k.2, k.3 ∙ sym (i.3 (expression_tokens x (c.Colon ∷ c.Number ∷ k.1))))
+  expression_closed (s.Indexed f parts next ∷ zs) P i x w = let k = target_closed zs i.0 i.2 (Cell x) w in
+      (k.0, c.CloseIndex ∷ k.1, k.2, k.3 ∙ sym (i.1 (expression_tokens x (c.CloseIndex ∷ k.1))))
+  expression_closed (s.Bracketed f bracket next ∷ zs) P i x w = bracket_closed x (is_lone x) refl P i.0 w i.1
+      (λ h. unary_closed zs i.0 i.2 (Within x) (h, w)) (λ z v. target_closed zs i.0 i.3 (Round z) v)
+  expression_closed (s.ChoiceThen f test question next ∷ zs) P i x w = let k =
+      conditional_closed zs i.1 i.4 (Choose i.0 x (Only (Single Number)))
+      (i.2, w, tt) in (k.0, c.Colon ∷ c.Number ∷ k.1, k.2, k.3 ∙ sym (i.3 (expression_tokens x (c.Colon ∷ c.Number ∷ k.1))))
   expression_closed (s.Whole full.Expression start ∷ zs) P i x w = value_closed zs (Of full.Expression) P i x w
   expression_closed [] P i x w = absurd i
   expression_closed (_ ∷ zs) P i x w = absurd i
 
   argument_closed : (zs : Frames) (P : Front) → ArgumentNext zs P → (x : Argument) → FitsArgument x → Closed (λ r. P (argument_tokens x r))
-  argument_closed (s.Arguments f parts ∷ zs) P i x w = let k = unary_closed zs i.1 i.4 (CallWith (i.0 (Last x))) (i.2 (Last x) w) in (k.0, c.Close ∷ k.1, k.2, k.3 ∙ sym (i.3 (Last x) (c.Close ∷ k.1)))
+  argument_closed (s.Arguments f parts ∷ zs) P i x w = let k = unary_closed zs i.1 i.4 (CallWith (i.0 (Last x))) (i.2 (Last x) w) in
+      (k.0, c.Close ∷ k.1, k.2, k.3 ∙ sym (i.3 (Last x) (c.Close ∷ k.1)))
   argument_closed [] P i x w = absurd i
   argument_closed (_ ∷ zs) P i x w = absurd i
 
@@ -102,15 +117,18 @@ mutual
   value_closed (_ ∷ zs) x P i a w = absurd i
 
 type_closed : (zs : Frames) (P P0 : Front) (k : Option NumberType) → ((r : List Class) → P r ≡ P0 (c.Open ∷ cast_tokens k r)) → UnaryNext zs P0 → Closed P
-type_closed zs P P0 (Some n) e i = let k = unary_closed zs P0 i (CastTo n Number) tt in (k.0, c.Close ∷ c.Number ∷ k.1, k.2, k.3 ∙ sym (e (c.Close ∷ c.Number ∷ k.1)))
-type_closed zs P P0 None e i = let k = unary_closed zs P0 i (CastVoid Number) tt in (k.0, c.Close ∷ c.Number ∷ k.1, k.2, k.3 ∙ sym (e (c.Close ∷ c.Number ∷ k.1)))
+type_closed zs P P0 (Some n) e i = let k = unary_closed zs P0 i (CastTo n Number) tt in
+    (k.0, c.Close ∷ c.Number ∷ k.1, k.2, k.3 ∙ sym (e (c.Close ∷ c.Number ∷ k.1)))
+type_closed zs P P0 None e i = let k = unary_closed zs P0 i (CastVoid Number) tt in
+    (k.0, c.Close ∷ c.Number ∷ k.1, k.2, k.3 ∙ sym (e (c.Close ∷ c.Number ∷ k.1)))
 
 -- What the frames say can be closed to a file that derives.
 pub closes : (zs : Frames) (P : Front) → Ready zs P → Closed P
 closes (s.WantUnary ∷ zs) P i = let k = unary_closed zs P i Number tt in (k.0, c.Number ∷ k.1, k.2, k.3)
 closes (s.WantTarget ∷ zs) P i = let k = target_closed zs P i Variable tt in (k.0, c.Name ∷ k.1, k.2, k.3)
 closes (s.WantArgument ∷ zs) P i = let k = argument_closed zs P i (Written OneText) tt in (k.0, c.Text ∷ k.1, k.2, k.3)
-closes (s.Opened f bracket next ∷ zs) P i = let k = target_closed zs i.0 i.3 (Round Variable) tt in (k.0, c.Name ∷ c.Close ∷ k.1, k.2, k.3 ∙ sym (i.1 (c.Name ∷ c.Close ∷ k.1)))
+closes (s.Opened f bracket next ∷ zs) P i = let k = target_closed zs i.0 i.3 (Round Variable) tt in
+    (k.0, c.Name ∷ c.Close ∷ k.1, k.2, k.3 ∙ sym (i.1 (c.Name ∷ c.Close ∷ k.1)))
 closes (s.VoidSeen f bracket word ∷ zs) P i = type_closed zs P i.0 None i.1 i.2
 closes (s.Named f name ∷ zs) P i = along _ _ i.1 (target_closed zs i.0 i.3 Variable tt)
 closes (s.TargetNamed f name ∷ zs) P i = along _ _ i.1 (target_closed zs i.0 i.2 Variable tt)

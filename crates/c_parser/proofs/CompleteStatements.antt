@@ -140,11 +140,13 @@ items_no_else (StatementItem x xs) u r = statement_no_else _ (statement_head x u
 -- ---- one token
 
 else_skipped : (level : ℕ) (first : ℕ) (parts : List Syntax) (v : Syntax) (zs : Frames) (at : ℕ) (ts : List Class) (q : List Event) → Follows true ts
-    → logged (s.Done (Whole v) ∷ rest p.Plain first level parts (w.Optional o.Else ∷ []) ∷ zs) at ts q ≡ logged (s.Done (Whole (node p.Plain first at (parts ++ v ∷ []))) ∷ zs) at ts q
+    → logged (s.Done (Whole v) ∷ rest p.Plain first level parts (w.Optional o.Else ∷ []) ∷ zs) at ts q ≡ logged
+    (s.Done (Whole (node p.Plain first at (parts ++ v ∷ []))) ∷ zs) at ts q
 else_skipped level first parts v zs at [] q h = absurd h
 else_skipped level first parts v zs at (t ∷ ts) q h = rw (h refl)
 
-simple_plain : (level : ℕ) (zs : Frames) (at : ℕ) (t : Class) → starts t ≡ true → at_plain level zs t at ≡ at_full full.Expression (rest p.Plain at level [] (w.Token c.Semicolon ∷ []) ∷ zs) t at
+simple_plain : (level : ℕ) (zs : Frames) (at : ℕ) (t : Class) → starts t ≡ true →
+    at_plain level zs t at ≡ at_full full.Expression (rest p.Plain at level [] (w.Token c.Semicolon ∷ []) ∷ zs) t at
 simple_plain level zs at c.Sign h = refl
 simple_plain level zs at c.Flip h = refl
 simple_plain level zs at c.Step h = refl
@@ -155,7 +157,8 @@ simple_plain level zs at c.Character h = refl
 simple_plain level zs at _ h = cc
 
 -- a statement that begins with an expression
-simple_statement : (form : Form) (zs : Frames) (at : ℕ) (ts : List Class) (q : List Event) → HeadIs starts ts → NoLabel ts → via (at_labelled form zs) at ts q ≡ via (at_plain form.level (s.Rest form ∷ zs)) at ts q
+simple_statement : (form : Form) (zs : Frames) (at : ℕ) (ts : List Class) (q : List Event) → HeadIs starts ts → NoLabel ts →
+    via (at_labelled form zs) at ts q ≡ via (at_plain form.level (s.Rest form ∷ zs)) at ts q
 simple_statement form zs at [] q h k = absurd h
 simple_statement form zs at (c.Name ∷ []) q h k = absurd k
 simple_statement form zs at (c.Name ∷ c.Colon ∷ ts) q h k = absurd k
@@ -168,9 +171,11 @@ simple_statement form zs at (c.Number ∷ ts) q h k = refl
 simple_statement form zs at (c.Character ∷ ts) q h k = refl
 simple_statement form zs at (_ ∷ ts) q h k = cc
 
-plain_statement : (x : Plain) → FitsPlain x → (form : Form) (zs : Frames) (at : ℕ) (r : List Class) (q : List Event) → via (at_labelled form zs) at (plain_tokens x r) q ≡ via (at_plain form.level (s.Rest form ∷ zs)) at (plain_tokens x r) q
+plain_statement : (x : Plain) → FitsPlain x → (form : Form) (zs : Frames) (at : ℕ) (r : List Class) (q : List Event) →
+    via (at_labelled form zs) at (plain_tokens x r) q ≡ via (at_plain form.level (s.Rest form ∷ zs)) at (plain_tokens x r) q
 plain_statement (Simple None) u form zs at r q = refl
-plain_statement (Simple (Some e)) u form zs at r q = simple_statement form zs at (expression_tokens e (c.Semicolon ∷ r)) q (headed_is _ (head_of_expression e u _)) (no_label e u (c.Semicolon ∷ r) tt)
+plain_statement (Simple (Some e)) u form zs at r q = simple_statement form zs at (expression_tokens e (c.Semicolon ∷ r)) q
+    (headed_is _ (head_of_expression e u _)) (no_label e u (c.Semicolon ∷ r) tt)
 plain_statement (Compound (Braces xs)) u form zs at r q = refl
 plain_statement (If e x) u form zs at r q = refl
 plain_statement (IfElse e x y) u form zs at r q = refl
@@ -184,7 +189,8 @@ plain_statement Continue u form zs at r q = refl
 plain_statement (Return e) u form zs at r q = refl
 
 -- a body other than a block opens its level with its first token
-body_opens : (level : ℕ) (zs : Frames) (at : ℕ) (t : Class) → starts_body t ≡ true → at_body level zs t at ≡ opening (level + 1) (at_statement (level + 1) zs t at)
+body_opens : (level : ℕ) (zs : Frames) (at : ℕ) (t : Class) → starts_body t ≡ true →
+    at_body level zs t at ≡ opening (level + 1) (at_statement (level + 1) zs t at)
 body_opens level zs at c.OpenBlock h = cc
 body_opens level zs at _ h = refl
 
@@ -211,7 +217,8 @@ opens_none level zs at c.Number h = refl
 opens_none level zs at c.Character h = refl
 opens_none level zs at _ h = cc
 
-body_run : (rule : Production) (first level : ℕ) (parts : List Syntax) (l : List Want) (zs : Frames) (at : ℕ) (f : Class → Bool) (ts : List Class) (q : List Event) → HeadIs f ts
+body_run : (rule : Production) (first level : ℕ) (parts : List Syntax) (l : List Want) (zs : Frames) (at : ℕ) (f : Class → Bool) (ts : List Class)
+    (q : List Event) → HeadIs f ts
     → logged (rest rule first level parts (w.Body ∷ l) ∷ zs) at ts q ≡ via (at_body level (rest rule first level parts l ∷ zs)) at ts q
 body_run rule first level parts l zs at f [] q h = absurd h
 body_run rule first level parts l zs at f (t ∷ ts) q h = refl
@@ -223,7 +230,8 @@ body_other level zs at ts q h =
     ∙ via_opening (level + 1) (at_statement (level + 1) zs) starts_body at (opens_none (level + 1) zs at) ts q h
 
 -- the first part of a `for`
-start_optional : (rule : Production) (first n : ℕ) (parts : List Syntax) (l : List Want) (zs : Frames) (at : ℕ) (ts : List Class) (q : List Event) → HeadIs starts ts
+start_optional : (rule : Production) (first n : ℕ) (parts : List Syntax) (l : List Want) (zs : Frames) (at : ℕ) (ts : List Class) (q : List Event) →
+    HeadIs starts ts
     → logged (rest rule first n parts (w.ForStart ∷ l) ∷ zs) at ts q ≡ logged (rest rule first n parts (w.OptionalExpression c.Semicolon ∷ l) ∷ zs) at ts q
 start_optional rule first n parts l zs at [] q h = absurd h
 start_optional rule first n parts l zs at (c.Sign ∷ ts) q h = refl
@@ -239,11 +247,14 @@ start_local : (rule : Production) (first n : ℕ) (parts : List Syntax) (l : Lis
     → step (rest rule first n parts (w.ForStart ∷ l) ∷ zs) t at ≡ at_local (rest rule first n parts l ∷ zs) t at
 start_local rule first n parts l zs at t h = rw h
 
-complete_for_start : (x : ForStart) → FitsForStart x → (rule : Production) (first n : ℕ) (parts : List Syntax) (l : List Want) (zs : Frames) (at : ℕ) (f : Class → Bool) (r : List Class) (q : List Event) → HeadIs f r
-    → logged (rest rule first n parts (w.ForStart ∷ l) ∷ zs) at (for_start_tokens x r) q ≡ logged (rest rule first n (parts ++ for_start_parts at x) l ∷ zs) (for_start_end at x) r (for_start_events x q)
+complete_for_start : (x : ForStart) → FitsForStart x → (rule : Production) (first n : ℕ) (parts : List Syntax) (l : List Want) (zs : Frames) (at : ℕ)
+    (f : Class → Bool) (r : List Class) (q : List Event) → HeadIs f r
+    → logged (rest rule first n parts (w.ForStart ∷ l) ∷ zs) at (for_start_tokens x r) q ≡ logged
+    (rest rule first n (parts ++ for_start_parts at x) l ∷ zs) (for_start_end at x) r (for_start_events x q)
 complete_for_start (StartLocal x) u rule first n parts l zs at f r q h =
     via_step (rest rule first n parts (w.ForStart ∷ l) ∷ zs) starts_local at (local_tokens x r) q (local_head x r)
-    ∙ switch (step (rest rule first n parts (w.ForStart ∷ l) ∷ zs)) (at_local (rest rule first n parts l ∷ zs)) starts_local at (start_local rule first n parts l zs at) (local_tokens x r) q (local_head x r)
+    ∙ switch (step (rest rule first n parts (w.ForStart ∷ l) ∷ zs)) (at_local (rest rule first n parts l ∷ zs)) starts_local at
+    (start_local rule first n parts l zs at) (local_tokens x r) q (local_head x r)
     ∙ complete_local x u (rest rule first n parts l ∷ zs) at f r q h
     ∙ next_part rule first n parts l (local_node at x) zs (local_end at x) f r (local_events x q) h
 complete_for_start (StartValue None) u rule first n parts l zs at f r q h = refl
@@ -284,52 +295,70 @@ abbrev statement_form : ℕ → ℕ → List Syntax → Form
 statement_form first level parts = record { rule = p.Statement; first = first; level = level; parts = parts; todo = [] }
 
 labelled_more : (first level : ℕ) (parts : List Syntax) (v : Syntax) (zs : Frames) (at : ℕ) (ts : List Class) (q : List Event) → HeadIs starts_statement ts
-    → logged (s.Done (Whole v) ∷ rest p.Statement first level parts (w.Labelled ∷ []) ∷ zs) at ts q ≡ via (at_labelled (statement_form first level (parts ++ v ∷ [])) zs) at ts q
+    → logged (s.Done (Whole v) ∷ rest p.Statement first level parts (w.Labelled ∷ []) ∷ zs) at ts q ≡ via
+    (at_labelled (statement_form first level (parts ++ v ∷ [])) zs) at ts q
 labelled_more first level parts v zs at [] q h = absurd h
 labelled_more first level parts v zs at (t ∷ ts) q h = refl
 
-complete_label_node : (x : Label) → FitsLabel x → (first level : ℕ) (parts : List Syntax) (zs : Frames) (at : ℕ) (ts : List Class) (q : List Event) → HeadIs starts_statement ts
-    → via (at_labelled (statement_form first level parts) zs) at (label_tokens x ts) q ≡ logged (s.Done (Whole (label_node at x)) ∷ rest p.Statement first level parts (w.Labelled ∷ []) ∷ zs) (label_end at x) ts (label_events x q)
+complete_label_node : (x : Label) → FitsLabel x → (first level : ℕ) (parts : List Syntax) (zs : Frames) (at : ℕ) (ts : List Class) (q : List Event) →
+    HeadIs starts_statement ts
+    → via (at_labelled (statement_form first level parts) zs) at (label_tokens x ts) q ≡ logged
+    (s.Done (Whole (label_node at x)) ∷ rest p.Statement first level parts (w.Labelled ∷ []) ∷ zs) (label_end at x) ts (label_events x q)
 complete_label_node NameLabel u first level parts zs at ts q h =
-    handed_on p.Label at 0 (leaf at ∷ leaf (at + 1) ∷ []) (rest p.Statement first level parts (w.Labelled ∷ []) ∷ zs) (at + 1 + 1) starts_statement ts (Outside ∷ Uncounted ∷ q) h
+    handed_on p.Label at 0 (leaf at ∷ leaf (at + 1) ∷ []) (rest p.Statement first level parts (w.Labelled ∷ []) ∷ zs) (at + 1 + 1) starts_statement ts
+    (Outside ∷ Uncounted ∷ q) h
 complete_label_node (CaseLabel d) u first level parts zs at ts q h =
-    full_run p.Label at 0 (leaf at ∷ []) (w.Token c.Colon ∷ []) full.Conditional (rest p.Statement first level parts (w.Labelled ∷ []) ∷ zs) (at + 1) (conditional_tokens d (c.Colon ∷ ts)) (Outside ∷ q) (head_of_conditional d u _)
-    ∙ full_conditional d u (rest p.Label at 0 (leaf at ∷ []) (w.Token c.Colon ∷ []) ∷ rest p.Statement first level parts (w.Labelled ∷ []) ∷ zs) (at + 1) (c.Colon ∷ ts) (Outside ∷ q) refl
-    ∙ handed_on p.Label at 0 (leaf at ∷ conditional_node (at + 1) d ∷ leaf (conditional_end (at + 1) d) ∷ []) (rest p.Statement first level parts (w.Labelled ∷ []) ∷ zs) (conditional_end (at + 1) d + 1) starts_statement ts (Outside ∷ conditional_events d (Outside ∷ q)) h
+    full_run p.Label at 0 (leaf at ∷ []) (w.Token c.Colon ∷ []) full.Conditional (rest p.Statement first level parts (w.Labelled ∷ []) ∷ zs) (at + 1)
+    (conditional_tokens d (c.Colon ∷ ts)) (Outside ∷ q) (head_of_conditional d u _)
+    ∙ full_conditional d u (rest p.Label at 0 (leaf at ∷ []) (w.Token c.Colon ∷ []) ∷ rest p.Statement first level parts (w.Labelled ∷ []) ∷ zs)
+    (at + 1) (c.Colon ∷ ts) (Outside ∷ q) refl
+    ∙ handed_on p.Label at 0 (leaf at ∷ conditional_node (at + 1) d ∷ leaf (conditional_end (at + 1) d) ∷ [])
+    (rest p.Statement first level parts (w.Labelled ∷ []) ∷ zs) (conditional_end (at + 1) d + 1) starts_statement ts
+    (Outside ∷ conditional_events d (Outside ∷ q)) h
 complete_label_node DefaultLabel u first level parts zs at ts q h =
-    handed_on p.Label at 0 (leaf at ∷ leaf (at + 1) ∷ []) (rest p.Statement first level parts (w.Labelled ∷ []) ∷ zs) (at + 1 + 1) starts_statement ts (Outside ∷ Outside ∷ q) h
+    handed_on p.Label at 0 (leaf at ∷ leaf (at + 1) ∷ []) (rest p.Statement first level parts (w.Labelled ∷ []) ∷ zs) (at + 1 + 1) starts_statement ts
+    (Outside ∷ Outside ∷ q) h
 
 -- ---- the expression in brackets that a construct begins with
 
 tested : (e : Expression) → FitsExpression e → (level : ℕ) (l : List Want) (zs : Frames) (at : ℕ) (r : List Class) (q : List Event)
-    → logged (rest p.Plain at level (leaf at ∷ leaf (at + 1) ∷ []) (w.Full full.Expression ∷ w.Token c.Close ∷ l) ∷ zs) (at + 1 + 1) (expression_tokens e (c.Close ∷ r)) q
-    ≡ logged (rest p.Plain at level (leaf at ∷ leaf (at + 1) ∷ expression_node (at + 1 + 1) e ∷ leaf (expression_end (at + 1 + 1) e) ∷ []) l ∷ zs) (expression_end (at + 1 + 1) e + 1) r (Outside ∷ expression_events e q)
+    → logged (rest p.Plain at level (leaf at ∷ leaf (at + 1) ∷ []) (w.Full full.Expression ∷ w.Token c.Close ∷ l) ∷ zs) (at + 1 + 1)
+    (expression_tokens e (c.Close ∷ r)) q
+    ≡ logged (rest p.Plain at level (leaf at ∷ leaf (at + 1) ∷ expression_node (at + 1 + 1) e ∷ leaf (expression_end (at + 1 + 1) e) ∷ []) l ∷ zs)
+    (expression_end (at + 1 + 1) e + 1) r (Outside ∷ expression_events e q)
 tested e u level l zs at r q =
-    full_run p.Plain at level (leaf at ∷ leaf (at + 1) ∷ []) (w.Token c.Close ∷ l) full.Expression zs (at + 1 + 1) (expression_tokens e (c.Close ∷ r)) q (head_of_expression e u _)
+    full_run p.Plain at level (leaf at ∷ leaf (at + 1) ∷ []) (w.Token c.Close ∷ l) full.Expression zs (at + 1 + 1) (expression_tokens e (c.Close ∷ r))
+    q (head_of_expression e u _)
     ∙ full_expression e u (rest p.Plain at level (leaf at ∷ leaf (at + 1) ∷ []) (w.Token c.Close ∷ l) ∷ zs) (at + 1 + 1) (c.Close ∷ r) q refl refl
 
 -- ---- statements
 
 -- the list of a construct, by whether it is a block alone
-other_body_events : (level : ℕ) (x : Statement) (q : List Event) → is_block x ≡ false → statement_events (level + 1) x (Opened (level + 1) ∷ q) ≡ statement_events (level_within level x) x (opened_by level x q)
+other_body_events : (level : ℕ) (x : Statement) (q : List Event) → is_block x ≡ false →
+    statement_events (level + 1) x (Opened (level + 1) ∷ q) ≡ statement_events (level_within level x) x (opened_by level x q)
 other_body_events level x q h = rw h
 
-block_body_events : (level : ℕ) (x : Statement) (q : List Event) → is_block x ≡ true → statement_events level x q ≡ statement_events (level_within level x) x (opened_by level x q)
+block_body_events : (level : ℕ) (x : Statement) (q : List Event) → is_block x ≡ true →
+    statement_events level x q ≡ statement_events (level_within level x) x (opened_by level x q)
 block_body_events level x q h = rw h
 
-block_body : (x : Statement) → is_block x ≡ true → (level : ℕ) (zs : Frames) (at : ℕ) (r : List Class) (q : List Event) → via (at_body level zs) at (statement_tokens x r) q ≡ via (at_statement level zs) at (statement_tokens x r) q
+block_body : (x : Statement) → is_block x ≡ true → (level : ℕ) (zs : Frames) (at : ℕ) (r : List Class) (q : List Event) →
+    via (at_body level zs) at (statement_tokens x r) q ≡ via (at_statement level zs) at (statement_tokens x r) q
 block_body (Unlabelled (Compound (Braces xs))) h level zs at r q = refl
 block_body _ h level zs at r q = absurd cc
 
 -- its form, from the place of its first token on
-statement_run : (level : ℕ) (zs : Frames) (at : ℕ) (ts : List Class) (q : List Event) → via (at_statement level zs) at ts q ≡ via (at_labelled (statement_form at level []) zs) at ts q
+statement_run : (level : ℕ) (zs : Frames) (at : ℕ) (ts : List Class) (q : List Event) →
+    via (at_statement level zs) at ts q ≡ via (at_labelled (statement_form at level []) zs) at ts q
 statement_run level zs at [] q = refl
 statement_run level zs at (t ∷ ts) q = refl
 
 -- the list of a construct, once it is parsed as a statement of either level
 body_parsed : (b : Bool) (x : Statement) → is_block x ≡ b → FitsStatement x → (level : ℕ) (zs : Frames) (at : ℕ) (ts : List Class) (q : List Event)
-    → ((n : ℕ) (p : List Event) → via (at_labelled (statement_form at n []) zs) at (statement_tokens x ts) p ≡ logged (s.Done (Whole (statement_node at x)) ∷ zs) (statement_end at x) ts (statement_events n x p))
-    → via (at_body level zs) at (statement_tokens x ts) q ≡ logged (s.Done (Whole (statement_node at x)) ∷ zs) (statement_end at x) ts (statement_events (level_within level x) x (opened_by level x q))
+    → ((n : ℕ) (p : List Event) → via (at_labelled (statement_form at n []) zs) at (statement_tokens x ts) p ≡ logged
+    (s.Done (Whole (statement_node at x)) ∷ zs) (statement_end at x) ts (statement_events n x p))
+    → via (at_body level zs) at (statement_tokens x ts) q ≡ logged (s.Done (Whole (statement_node at x)) ∷ zs) (statement_end at x) ts
+    (statement_events (level_within level x) x (opened_by level x q))
 body_parsed true x e u level zs at ts q k =
     block_body x e level zs at ts q
     ∙ statement_run level zs at (statement_tokens x ts) q
@@ -341,15 +370,20 @@ body_parsed false x e u level zs at ts q k =
     ∙ k (level + 1) (Opened (level + 1) ∷ q)
     ∙ ap (λ (a : List Event). logged (s.Done (Whole (statement_node at x)) ∷ zs) (statement_end at x) ts a) (other_body_events level x q e)
 
-complete_body : (x : Statement) → FitsStatement x → (rule : Production) (first level : ℕ) (parts : List Syntax) (l : List Want) (zs : Frames) (at : ℕ) (ts : List Class) (q : List Event)
-    → ((n : ℕ) (p : List Event) → via (at_labelled (statement_form at n []) (rest rule first level parts l ∷ zs)) at (statement_tokens x ts) p ≡ logged (s.Done (Whole (statement_node at x)) ∷ rest rule first level parts l ∷ zs) (statement_end at x) ts (statement_events n x p))
-    → logged (rest rule first level parts (w.Body ∷ l) ∷ zs) at (statement_tokens x ts) q ≡ logged (s.Done (Whole (statement_node at x)) ∷ rest rule first level parts l ∷ zs) (statement_end at x) ts (statement_events (level_within level x) x (opened_by level x q))
+complete_body : (x : Statement) → FitsStatement x → (rule : Production) (first level : ℕ) (parts : List Syntax) (l : List Want) (zs : Frames) (at : ℕ)
+    (ts : List Class) (q : List Event)
+    → ((n : ℕ) (p : List Event) → via (at_labelled (statement_form at n []) (rest rule first level parts l ∷ zs)) at (statement_tokens x ts)
+    p ≡ logged (s.Done (Whole (statement_node at x)) ∷ rest rule first level parts l ∷ zs) (statement_end at x) ts (statement_events n x p))
+    → logged (rest rule first level parts (w.Body ∷ l) ∷ zs) at (statement_tokens x ts) q ≡ logged
+    (s.Done (Whole (statement_node at x)) ∷ rest rule first level parts l ∷ zs) (statement_end at x) ts
+    (statement_events (level_within level x) x (opened_by level x q))
 complete_body x u rule first level parts l zs at ts q k =
     body_run rule first level parts l zs at starts_statement (statement_tokens x ts) q (statement_head x u ts)
     ∙ body_parsed (is_block x) x refl u level (rest rule first level parts l ∷ zs) at ts q k
 
 -- how the parts of a `for` come together
-for_parts : (a b : List Syntax) (x : Syntax) (d : List Syntax) (y v : Syntax) → ((a ++ (b ++ x ∷ [])) ++ (d ++ y ∷ [])) ++ v ∷ [] ≡ a ++ b ++ x ∷ d ++ y ∷ v ∷ []
+for_parts : (a b : List Syntax) (x : Syntax) (d : List Syntax) (y v : Syntax) →
+    ((a ++ (b ++ x ∷ [])) ++ (d ++ y ∷ [])) ++ v ∷ [] ≡ a ++ b ++ x ∷ d ++ y ∷ v ∷ []
 for_parts a b x d y v =
     ap (λ (l : List Syntax). (l ++ (d ++ y ∷ [])) ++ v ∷ []) (sym (append_assoc a b (x ∷ [])))
     ∙ append_assoc ((a ++ b) ++ x ∷ []) (d ++ y ∷ []) (v ∷ [])
@@ -363,38 +397,54 @@ mutual
       → via (at_block level zs) at (block_tokens x ts) q ≡ logged (s.Done (Whole (block_node at x)) ∷ zs) (block_end at x) ts (block_events level x q)
   complete_block (Braces xs) u level zs at f ts q h =
       complete_items xs u at level (leaf at ∷ []) zs (at + 1) ts (Outside ∷ Opened level ∷ q)
-      ∙ handed_on p.Block at level (leaf at ∷ items_parts (at + 1) xs ++ leaf (items_end (at + 1) xs) ∷ []) zs (items_end (at + 1) xs + 1) f ts (Outside ∷ items_events level xs (Outside ∷ Opened level ∷ q)) h
+      ∙ handed_on p.Block at level (leaf at ∷ items_parts (at + 1) xs ++ leaf (items_end (at + 1) xs) ∷ []) zs (items_end (at + 1) xs + 1) f ts
+      (Outside ∷ items_events level xs (Outside ∷ Opened level ∷ q)) h
 
   complete_items : (xs : Items) → FitsItems xs → (first level : ℕ) (parts : List Syntax) (zs : Frames) (at : ℕ) (r : List Class) (q : List Event)
       → logged (rest p.Block first level parts (w.Items ∷ []) ∷ zs) at (items_tokens xs (c.CloseBlock ∷ r)) q
-      ≡ logged (rest p.Block first level (parts ++ (items_parts at xs ++ leaf (items_end at xs) ∷ [])) [] ∷ zs) (items_end at xs + 1) r (Outside ∷ items_events level xs q)
+      ≡ logged (rest p.Block first level (parts ++ (items_parts at xs ++ leaf (items_end at xs) ∷ [])) [] ∷ zs) (items_end at xs + 1) r
+      (Outside ∷ items_events level xs q)
   complete_items NoItems u first level parts zs at r q = refl
   complete_items (LocalItem x xs) u first level parts zs at r q =
       let l = items_tokens xs (c.CloseBlock ∷ r) in
       via_step (rest p.Block first level parts (w.Items ∷ []) ∷ zs) starts_local at (local_tokens x l) q (local_head x l)
-      ∙ switch (step (rest p.Block first level parts (w.Items ∷ []) ∷ zs)) (at_local (rest p.Block first level parts (w.Items ∷ []) ∷ zs)) starts_local at (item_local first level parts zs at) (local_tokens x l) q (local_head x l)
+      ∙ switch (step (rest p.Block first level parts (w.Items ∷ []) ∷ zs)) (at_local (rest p.Block first level parts (w.Items ∷ []) ∷ zs))
+      starts_local at (item_local first level parts zs at) (local_tokens x l) q (local_head x l)
       ∙ complete_local x u.0 (rest p.Block first level parts (w.Items ∷ []) ∷ zs) at any l q (other_first no_else l (items_no_else xs u.1 r))
-      ∙ next_part p.Block first level parts (w.Items ∷ []) (local_node at x) zs (local_end at x) any l (local_events x q) (other_first no_else l (items_no_else xs u.1 r))
+      ∙ next_part p.Block first level parts (w.Items ∷ []) (local_node at x) zs (local_end at x) any l (local_events x q)
+      (other_first no_else l (items_no_else xs u.1 r))
       ∙ complete_items xs u.1 first level (parts ++ local_node at x ∷ []) zs (local_end at x) r (local_events x q)
-      ∙ ap (λ (a : List Syntax). logged (rest p.Block first level a [] ∷ zs) (items_end (local_end at x) xs + 1) r (Outside ∷ items_events level xs (local_events x q))) (append_assoc parts (local_node at x ∷ []) (items_parts (local_end at x) xs ++ leaf (items_end (local_end at x) xs) ∷ []))
+      ∙ ap (λ (a : List Syntax). logged (rest p.Block first level a [] ∷ zs) (items_end (local_end at x) xs + 1) r
+      (Outside ∷ items_events level xs (local_events x q)))
+      (append_assoc parts (local_node at x ∷ []) (items_parts (local_end at x) xs ++ leaf (items_end (local_end at x) xs) ∷ []))
   complete_items (StatementItem x xs) u first level parts zs at r q =
       let l = items_tokens xs (c.CloseBlock ∷ r) in
       via_step (rest p.Block first level parts (w.Items ∷ []) ∷ zs) starts_statement at (statement_tokens x l) q (statement_head x u.0 l)
-      ∙ switch (step (rest p.Block first level parts (w.Items ∷ []) ∷ zs)) (at_statement level (rest p.Block first level parts (w.Items ∷ []) ∷ zs)) starts_statement at (item_statement first level parts zs at) (statement_tokens x l) q (statement_head x u.0 l)
+      ∙ switch (step (rest p.Block first level parts (w.Items ∷ []) ∷ zs)) (at_statement level (rest p.Block first level parts (w.Items ∷ []) ∷ zs))
+      starts_statement at (item_statement first level parts zs at) (statement_tokens x l) q (statement_head x u.0 l)
       ∙ statement_run level (rest p.Block first level parts (w.Items ∷ []) ∷ zs) at (statement_tokens x l) q
-      ∙ complete_statement x u.0 at level [] (rest p.Block first level parts (w.Items ∷ []) ∷ zs) at l q (follows_none (is_statement_open x) l (items_no_else xs u.1 r))
-      ∙ next_part p.Block first level parts (w.Items ∷ []) (statement_node at x) zs (statement_end at x) any l (statement_events level x q) (other_first no_else l (items_no_else xs u.1 r))
+      ∙ complete_statement x u.0 at level [] (rest p.Block first level parts (w.Items ∷ []) ∷ zs) at l q
+      (follows_none (is_statement_open x) l (items_no_else xs u.1 r))
+      ∙ next_part p.Block first level parts (w.Items ∷ []) (statement_node at x) zs (statement_end at x) any l (statement_events level x q)
+      (other_first no_else l (items_no_else xs u.1 r))
       ∙ complete_items xs u.1 first level (parts ++ statement_node at x ∷ []) zs (statement_end at x) r (statement_events level x q)
-      ∙ ap (λ (a : List Syntax). logged (rest p.Block first level a [] ∷ zs) (items_end (statement_end at x) xs + 1) r (Outside ∷ items_events level xs (statement_events level x q))) (append_assoc parts (statement_node at x ∷ []) (items_parts (statement_end at x) xs ++ leaf (items_end (statement_end at x) xs) ∷ []))
+      ∙ ap (λ (a : List Syntax). logged (rest p.Block first level a [] ∷ zs) (items_end (statement_end at x) xs + 1) r
+      (Outside ∷ items_events level xs (statement_events level x q)))
+      (append_assoc parts (statement_node at x ∷ []) (items_parts (statement_end at x) xs ++ leaf (items_end (statement_end at x) xs) ∷ []))
 
   -- behind these labels
-  complete_statement : (x : Statement) → FitsStatement x → (first level : ℕ) (parts : List Syntax) (zs : Frames) (at : ℕ) (ts : List Class) (q : List Event) → Follows (is_statement_open x) ts
-      → via (at_labelled (statement_form first level parts) zs) at (statement_tokens x ts) q ≡ logged (s.Done (Whole (node p.Statement first (statement_end at x) (parts ++ statement_parts at x))) ∷ zs) (statement_end at x) ts (statement_events level x q)
+  complete_statement : (x : Statement) → FitsStatement x → (first level : ℕ) (parts : List Syntax) (zs : Frames) (at : ℕ) (ts : List Class)
+      (q : List Event) → Follows (is_statement_open x) ts
+      → via (at_labelled (statement_form first level parts) zs) at (statement_tokens x ts) q ≡ logged
+      (s.Done (Whole (node p.Statement first (statement_end at x) (parts ++ statement_parts at x))) ∷ zs) (statement_end at x) ts
+      (statement_events level x q)
   complete_statement (Labelled a x) u first level parts zs at ts q h =
       complete_label_node a u.0 first level parts zs at (statement_tokens x ts) q (statement_head x u.1 ts)
       ∙ labelled_more first level parts (label_node at a) zs (label_end at a) (statement_tokens x ts) (label_events a q) (statement_head x u.1 ts)
       ∙ complete_statement x u.1 first level (parts ++ label_node at a ∷ []) zs (label_end at a) ts (label_events a q) h
-      ∙ ap (λ (l : List Syntax). logged (s.Done (Whole (node p.Statement first (statement_end (label_end at a) x) l)) ∷ zs) (statement_end (label_end at a) x) ts (statement_events level x (label_events a q))) (append_assoc parts (label_node at a ∷ []) (statement_parts (label_end at a) x))
+      ∙ ap (λ (l : List Syntax). logged (s.Done (Whole (node p.Statement first (statement_end (label_end at a) x) l)) ∷ zs)
+      (statement_end (label_end at a) x) ts (statement_events level x (label_events a q)))
+      (append_assoc parts (label_node at a ∷ []) (statement_parts (label_end at a) x))
   complete_statement (Unlabelled x) u first level parts zs at ts q h =
       plain_statement x u (statement_form first level parts) zs at ts q
       ∙ complete_plain x u level (rest p.Statement first level parts [] ∷ zs) at ts q h
@@ -404,19 +454,25 @@ mutual
       → via (at_plain level zs) at (plain_tokens x ts) q ≡ logged (s.Done (Whole (plain_node at x)) ∷ zs) (plain_end at x) ts (plain_events level x q)
   complete_plain (Compound (Braces xs)) u level zs at ts q h =
       complete_block (Braces xs) u (level + 1) (rest p.Plain at level [] [] ∷ zs) at any ts q (follows_any false ts h)
-      ∙ last_part p.Plain at level [] (block_node at (Braces xs)) zs (block_end at (Braces xs)) any ts (block_events (level + 1) (Braces xs) q) (follows_any false ts h)
+      ∙ last_part p.Plain at level [] (block_node at (Braces xs)) zs (block_end at (Braces xs)) any ts (block_events (level + 1) (Braces xs) q)
+      (follows_any false ts h)
   complete_plain (Simple None) u level zs at ts q h = handed_on p.Plain at level (leaf at ∷ []) zs (at + 1) any ts (Outside ∷ q) (follows_any false ts h)
   complete_plain (Simple (Some e)) u level zs at ts q h =
-      switch (at_plain level zs) (at_full full.Expression (rest p.Plain at level [] (w.Token c.Semicolon ∷ []) ∷ zs)) starts at (simple_plain level zs at) (expression_tokens e (c.Semicolon ∷ ts)) q (headed_is _ (head_of_expression e u _))
-      ∙ via_full full.Expression (rest p.Plain at level [] (w.Token c.Semicolon ∷ []) ∷ zs) at (expression_tokens e (c.Semicolon ∷ ts)) q (head_of_expression e u _)
+      switch (at_plain level zs) (at_full full.Expression (rest p.Plain at level [] (w.Token c.Semicolon ∷ []) ∷ zs)) starts at
+      (simple_plain level zs at) (expression_tokens e (c.Semicolon ∷ ts)) q (headed_is _ (head_of_expression e u _))
+      ∙ via_full full.Expression (rest p.Plain at level [] (w.Token c.Semicolon ∷ []) ∷ zs) at (expression_tokens e (c.Semicolon ∷ ts)) q
+      (head_of_expression e u _)
       ∙ full_expression e u (rest p.Plain at level [] (w.Token c.Semicolon ∷ []) ∷ zs) at (c.Semicolon ∷ ts) q refl refl
-      ∙ handed_on p.Plain at level (expression_node at e ∷ leaf (expression_end at e) ∷ []) zs (expression_end at e + 1) any ts (Outside ∷ expression_events e q) (follows_any false ts h)
+      ∙ handed_on p.Plain at level (expression_node at e ∷ leaf (expression_end at e) ∷ []) zs (expression_end at e + 1) any ts
+      (Outside ∷ expression_events e q) (follows_any false ts h)
   complete_plain (If e x) u level zs at ts q h =
       let y = expression_end (at + 1 + 1) e in
       let a = leaf at ∷ leaf (at + 1) ∷ expression_node (at + 1 + 1) e ∷ leaf y ∷ [] in
       let b = Outside ∷ expression_events e (Outside ∷ Outside ∷ q) in
       tested e u.0 level (w.Body ∷ w.Optional o.Else ∷ []) zs at (statement_tokens x ts) (Outside ∷ Outside ∷ q)
-      ∙ complete_body x u.1 p.Plain at level a (w.Optional o.Else ∷ []) zs (y + 1) ts b (λ v g. complete_statement x u.1 (y + 1) v [] (rest p.Plain at level a (w.Optional o.Else ∷ []) ∷ zs) (y + 1) ts g (weaker (is_statement_open x) ts h))
+      ∙ complete_body x u.1 p.Plain at level a (w.Optional o.Else ∷ []) zs (y + 1) ts b
+      (λ v g. complete_statement x u.1 (y + 1) v [] (rest p.Plain at level a (w.Optional o.Else ∷ []) ∷ zs) (y + 1) ts g
+      (weaker (is_statement_open x) ts h))
       ∙ else_skipped level at a (statement_node (y + 1) x) zs (statement_end (y + 1) x) ts (statement_events (level_within level x) x (opened_by level x b)) h
     where
       weaker : (d : Bool) (l : List Class) → Follows true l → Follows d l
@@ -430,9 +486,13 @@ mutual
       let d = statement_events (level_within level x) x (opened_by level x b) in
       let a' = leaf at ∷ leaf (at + 1) ∷ expression_node (at + 1 + 1) e ∷ leaf m ∷ statement_node (m + 1) x ∷ leaf n ∷ [] in
       tested e u.0 level (w.Body ∷ w.Optional o.Else ∷ []) zs at (statement_tokens x (c.Else ∷ statement_tokens y ts)) (Outside ∷ Outside ∷ q)
-      ∙ complete_body x u.1 p.Plain at level a (w.Optional o.Else ∷ []) zs (m + 1) (c.Else ∷ statement_tokens y ts) b (λ v g. complete_statement x u.1 (m + 1) v [] (rest p.Plain at level a (w.Optional o.Else ∷ []) ∷ zs) (m + 1) (c.Else ∷ statement_tokens y ts) g (closed (is_statement_open x) u.2))
-      ∙ complete_body y u.3 p.Plain at level a' [] zs (n + 1) ts (Outside ∷ d) (λ v g. complete_statement y u.3 (n + 1) v [] (rest p.Plain at level a' [] ∷ zs) (n + 1) ts g h)
-      ∙ last_part p.Plain at level a' (statement_node (n + 1) y) zs (statement_end (n + 1) y) any ts (statement_events (level_within level y) y (opened_by level y (Outside ∷ d))) (follows_any (is_statement_open y) ts h)
+      ∙ complete_body x u.1 p.Plain at level a (w.Optional o.Else ∷ []) zs (m + 1) (c.Else ∷ statement_tokens y ts) b
+      (λ v g. complete_statement x u.1 (m + 1) v [] (rest p.Plain at level a (w.Optional o.Else ∷ []) ∷ zs) (m + 1)
+      (c.Else ∷ statement_tokens y ts) g (closed (is_statement_open x) u.2))
+      ∙ complete_body y u.3 p.Plain at level a' [] zs (n + 1) ts (Outside ∷ d)
+      (λ v g. complete_statement y u.3 (n + 1) v [] (rest p.Plain at level a' [] ∷ zs) (n + 1) ts g h)
+      ∙ last_part p.Plain at level a' (statement_node (n + 1) y) zs (statement_end (n + 1) y) any ts
+      (statement_events (level_within level y) y (opened_by level y (Outside ∷ d))) (follows_any (is_statement_open y) ts h)
     where
       closed : (d : Bool) → d ≡ false → d ≡ true → same c.Else c.Else ≡ false
       closed d e k = sym k ∙ e
@@ -441,25 +501,34 @@ mutual
       let a = leaf at ∷ leaf (at + 1) ∷ expression_node (at + 1 + 1) e ∷ leaf y ∷ [] in
       let b = Outside ∷ expression_events e (Outside ∷ Outside ∷ q) in
       tested e u.0 level (w.Body ∷ []) zs at (statement_tokens x ts) (Outside ∷ Outside ∷ q)
-      ∙ complete_body x u.1 p.Plain at level a [] zs (y + 1) ts b (λ v g. complete_statement x u.1 (y + 1) v [] (rest p.Plain at level a [] ∷ zs) (y + 1) ts g h)
-      ∙ last_part p.Plain at level a (statement_node (y + 1) x) zs (statement_end (y + 1) x) any ts (statement_events (level_within level x) x (opened_by level x b)) (follows_any (is_statement_open x) ts h)
+      ∙ complete_body x u.1 p.Plain at level a [] zs (y + 1) ts b
+      (λ v g. complete_statement x u.1 (y + 1) v [] (rest p.Plain at level a [] ∷ zs) (y + 1) ts g h)
+      ∙ last_part p.Plain at level a (statement_node (y + 1) x) zs (statement_end (y + 1) x) any ts
+      (statement_events (level_within level x) x (opened_by level x b)) (follows_any (is_statement_open x) ts h)
   complete_plain (Switch e x) u level zs at ts q h =
       let y = expression_end (at + 1 + 1) e in
       let a = leaf at ∷ leaf (at + 1) ∷ expression_node (at + 1 + 1) e ∷ leaf y ∷ [] in
       let b = Outside ∷ expression_events e (Outside ∷ Outside ∷ q) in
       tested e u.0 level (w.Body ∷ []) zs at (statement_tokens x ts) (Outside ∷ Outside ∷ q)
-      ∙ complete_body x u.1 p.Plain at level a [] zs (y + 1) ts b (λ v g. complete_statement x u.1 (y + 1) v [] (rest p.Plain at level a [] ∷ zs) (y + 1) ts g h)
-      ∙ last_part p.Plain at level a (statement_node (y + 1) x) zs (statement_end (y + 1) x) any ts (statement_events (level_within level x) x (opened_by level x b)) (follows_any (is_statement_open x) ts h)
+      ∙ complete_body x u.1 p.Plain at level a [] zs (y + 1) ts b
+      (λ v g. complete_statement x u.1 (y + 1) v [] (rest p.Plain at level a [] ∷ zs) (y + 1) ts g h)
+      ∙ last_part p.Plain at level a (statement_node (y + 1) x) zs (statement_end (y + 1) x) any ts
+      (statement_events (level_within level x) x (opened_by level x b)) (follows_any (is_statement_open x) ts h)
   complete_plain (DoWhile x e) u level zs at ts q h =
       let y = statement_end (at + 1) x in
       let b = statement_events (level_within level x) x (opened_by level x (Outside ∷ q)) in
       let m = expression_end (y + 1 + 1) e in
       let l = w.Token c.While ∷ w.Token c.Open ∷ w.Full full.Expression ∷ w.Token c.Close ∷ w.Token c.Semicolon ∷ [] in
       let a = leaf at ∷ statement_node (at + 1) x ∷ leaf y ∷ leaf (y + 1) ∷ [] in
-      complete_body x u.0 p.Plain at level (leaf at ∷ []) l zs (at + 1) (c.While ∷ c.Open ∷ expression_tokens e (c.Close ∷ c.Semicolon ∷ ts)) (Outside ∷ q) (λ v g. complete_statement x u.0 (at + 1) v [] (rest p.Plain at level (leaf at ∷ []) l ∷ zs) (at + 1) (c.While ∷ c.Open ∷ expression_tokens e (c.Close ∷ c.Semicolon ∷ ts)) g (λ k. refl))
-      ∙ full_run p.Plain at level a (w.Token c.Close ∷ w.Token c.Semicolon ∷ []) full.Expression zs (y + 1 + 1) (expression_tokens e (c.Close ∷ c.Semicolon ∷ ts)) (Outside ∷ Outside ∷ b) (head_of_expression e u.1 _)
-      ∙ full_expression e u.1 (rest p.Plain at level a (w.Token c.Close ∷ w.Token c.Semicolon ∷ []) ∷ zs) (y + 1 + 1) (c.Close ∷ c.Semicolon ∷ ts) (Outside ∷ Outside ∷ b) refl refl
-      ∙ handed_on p.Plain at level (leaf at ∷ statement_node (at + 1) x ∷ leaf y ∷ leaf (y + 1) ∷ expression_node (y + 1 + 1) e ∷ leaf m ∷ leaf (m + 1) ∷ []) zs (m + 1 + 1) any ts (Outside ∷ Outside ∷ expression_events e (Outside ∷ Outside ∷ b)) (follows_any false ts h)
+      complete_body x u.0 p.Plain at level (leaf at ∷ []) l zs (at + 1) (c.While ∷ c.Open ∷ expression_tokens e (c.Close ∷ c.Semicolon ∷ ts))
+      (Outside ∷ q) (λ v g. complete_statement x u.0 (at + 1) v [] (rest p.Plain at level (leaf at ∷ []) l ∷ zs) (at + 1)
+      (c.While ∷ c.Open ∷ expression_tokens e (c.Close ∷ c.Semicolon ∷ ts)) g (λ k. refl))
+      ∙ full_run p.Plain at level a (w.Token c.Close ∷ w.Token c.Semicolon ∷ []) full.Expression zs (y + 1 + 1)
+      (expression_tokens e (c.Close ∷ c.Semicolon ∷ ts)) (Outside ∷ Outside ∷ b) (head_of_expression e u.1 _)
+      ∙ full_expression e u.1 (rest p.Plain at level a (w.Token c.Close ∷ w.Token c.Semicolon ∷ []) ∷ zs) (y + 1 + 1) (c.Close ∷ c.Semicolon ∷ ts)
+      (Outside ∷ Outside ∷ b) refl refl
+      ∙ handed_on p.Plain at level (leaf at ∷ statement_node (at + 1) x ∷ leaf y ∷ leaf (y + 1) ∷ expression_node (y + 1 + 1) e ∷ leaf m ∷ leaf
+      (m + 1) ∷ []) zs (m + 1 + 1) any ts (Outside ∷ Outside ∷ expression_events e (Outside ∷ Outside ∷ b)) (follows_any false ts h)
   complete_plain (For f d e x) u level zs at ts q h =
       let i = for_start_end (at + 1 + 1) f in
       let j = optional_end i d in
@@ -470,16 +539,26 @@ mutual
       let b = for_start_events f (Outside ∷ Outside ∷ q) in
       let b1 = Outside ∷ optional_events d b in
       let b2 = Outside ∷ optional_events e b1 in
-      complete_for_start f u.0 p.Plain at level (leaf at ∷ leaf (at + 1) ∷ []) (w.OptionalExpression c.Semicolon ∷ w.OptionalExpression c.Close ∷ w.Body ∷ []) zs (at + 1 + 1) any (optional_tokens d (c.Semicolon ∷ optional_tokens e (c.Close ∷ statement_tokens x ts))) (Outside ∷ Outside ∷ q) (optional_any d u.1 c.Semicolon _)
-      ∙ complete_optional d u.1 c.Semicolon semicolon_stop p.Plain at level a (w.OptionalExpression c.Close ∷ w.Body ∷ []) zs i (optional_tokens e (c.Close ∷ statement_tokens x ts)) b
+      complete_for_start f u.0 p.Plain at level (leaf at ∷ leaf (at + 1) ∷ [])
+      (w.OptionalExpression c.Semicolon ∷ w.OptionalExpression c.Close ∷ w.Body ∷ []) zs (at + 1 + 1) any
+      (optional_tokens d (c.Semicolon ∷ optional_tokens e (c.Close ∷ statement_tokens x ts))) (Outside ∷ Outside ∷ q) (optional_any d u.1 c.Semicolon _)
+      ∙ complete_optional d u.1 c.Semicolon semicolon_stop p.Plain at level a (w.OptionalExpression c.Close ∷ w.Body ∷ []) zs i
+      (optional_tokens e (c.Close ∷ statement_tokens x ts)) b
       ∙ complete_optional e u.2 c.Close close_stop p.Plain at level a1 (w.Body ∷ []) zs (j + 1) (statement_tokens x ts) b1
-      ∙ complete_body x u.3 p.Plain at level a2 [] zs (k + 1) ts b2 (λ v g. complete_statement x u.3 (k + 1) v [] (rest p.Plain at level a2 [] ∷ zs) (k + 1) ts g h)
-      ∙ last_part p.Plain at level a2 (statement_node (k + 1) x) zs (statement_end (k + 1) x) any ts (statement_events (level_within level x) x (opened_by level x b2)) (follows_any (is_statement_open x) ts h)
-      ∙ ap (λ (l : List Syntax). logged (s.Done (Whole (node p.Plain at (statement_end (k + 1) x) l)) ∷ zs) (statement_end (k + 1) x) ts (statement_events (level_within level x) x (opened_by level x b2)))
+      ∙ complete_body x u.3 p.Plain at level a2 [] zs (k + 1) ts b2
+      (λ v g. complete_statement x u.3 (k + 1) v [] (rest p.Plain at level a2 [] ∷ zs) (k + 1) ts g h)
+      ∙ last_part p.Plain at level a2 (statement_node (k + 1) x) zs (statement_end (k + 1) x) any ts
+      (statement_events (level_within level x) x (opened_by level x b2)) (follows_any (is_statement_open x) ts h)
+      ∙ ap (λ (l : List Syntax). logged (s.Done (Whole (node p.Plain at (statement_end (k + 1) x) l)) ∷ zs) (statement_end (k + 1) x) ts
+      (statement_events (level_within level x) x (opened_by level x b2)))
       (for_parts a (optional_parts i d) (leaf j) (optional_parts (j + 1) e) (leaf k) (statement_node (k + 1) x))
-  complete_plain Goto u level zs at ts q h = handed_on p.Plain at level (leaf at ∷ leaf (at + 1) ∷ leaf (at + 1 + 1) ∷ []) zs (at + 1 + 1 + 1) any ts (Outside ∷ Outside ∷ Outside ∷ q) (follows_any false ts h)
-  complete_plain Break u level zs at ts q h = handed_on p.Plain at level (leaf at ∷ leaf (at + 1) ∷ []) zs (at + 1 + 1) any ts (Outside ∷ Outside ∷ q) (follows_any false ts h)
-  complete_plain Continue u level zs at ts q h = handed_on p.Plain at level (leaf at ∷ leaf (at + 1) ∷ []) zs (at + 1 + 1) any ts (Outside ∷ Outside ∷ q) (follows_any false ts h)
+  complete_plain Goto u level zs at ts q h = handed_on p.Plain at level (leaf at ∷ leaf (at + 1) ∷ leaf (at + 1 + 1) ∷ []) zs (at + 1 + 1 + 1) any ts
+      (Outside ∷ Outside ∷ Outside ∷ q) (follows_any false ts h)
+  complete_plain Break u level zs at ts q h = handed_on p.Plain at level (leaf at ∷ leaf (at + 1) ∷ []) zs (at + 1 + 1) any ts (Outside ∷ Outside ∷ q)
+      (follows_any false ts h)
+  complete_plain Continue u level zs at ts q h = handed_on p.Plain at level (leaf at ∷ leaf (at + 1) ∷ []) zs (at + 1 + 1) any ts
+      (Outside ∷ Outside ∷ q) (follows_any false ts h)
   complete_plain (Return e) u level zs at ts q h =
       complete_optional e u c.Semicolon semicolon_stop p.Plain at level (leaf at ∷ []) [] zs (at + 1) ts (Outside ∷ q)
-      ∙ handed_on p.Plain at level (leaf at ∷ optional_parts (at + 1) e ++ leaf (optional_end (at + 1) e) ∷ []) zs (optional_end (at + 1) e + 1) any ts (Outside ∷ optional_events e (Outside ∷ q)) (follows_any false ts h)
+      ∙ handed_on p.Plain at level (leaf at ∷ optional_parts (at + 1) e ++ leaf (optional_end (at + 1) e) ∷ []) zs (optional_end (at + 1) e + 1) any
+      ts (Outside ∷ optional_events e (Outside ∷ q)) (follows_any false ts h)

@@ -59,7 +59,8 @@ narrow f a t m e v =
     }
 
 -- each front of what derives is viable, by the same file
-abbrev front_of : (tokens : List Class) (x : Syntax) (a : List Class) (t : Class) (b : List Class) → tokens ++ c.End ∷ [] ≡ a ++ t ∷ b → Derives tokens x → Viable (a ++ t ∷ [])
+abbrev front_of : (tokens : List Class) (x : Syntax) (a : List Class) (t : Class) (b : List Class) → tokens ++ c.End ∷ [] ≡ a ++ t ∷ b →
+    Derives tokens x → Viable (a ++ t ∷ [])
 front_of tokens x a t b e d = record { file = d.file; more = b; formed = d.formed; begins = d.spelled ∙ e ∙ sym (append_assoc a (t ∷ []) b) }
 
 length_more : (f : List Class) (t : Class) → length (f ++ t ∷ []) ≡ length f + 1
@@ -96,7 +97,8 @@ pub one_unexpected : (l : List Class) (j k : ℕ) → IsUnexpected l j → IsUne
 one_unexpected l j k u y = same_by j k (earlier_unexpected l j k u y) (earlier_unexpected l k j y u)
 
 -- the token of the first of two faults over a limit stands in front of the second, or is it
-reaches : (l a : List Class) (t : Class) (b f : List Class) (y : Class) (r : List Class) → l ≡ a ++ t ∷ b → l ≡ f ++ y ∷ r → length a ≤ length f → (m : List Class) × (f ++ y ∷ [] ≡ a ++ t ∷ m)
+reaches : (l a : List Class) (t : Class) (b f : List Class) (y : Class) (r : List Class) → l ≡ a ++ t ∷ b → l ≡ f ++ y ∷ r → length a ≤ length f →
+    (m : List Class) × (f ++ y ∷ [] ≡ a ++ t ∷ m)
 reaches l a t b f y r e g h = cut a (f ++ y ∷ []) t b r (sym e ∙ g ∙ sym (append_assoc f (y ∷ []) r)) (let n = length_more f y in omega (arith, n, h))
 
 some_same : (o : Option ℕ) (j k : ℕ) → o ≡ Some j → o ≡ Some k → j ≡ k
@@ -111,7 +113,8 @@ earlier_too_many l j k u y h =
 -- and one first token over a limit
 pub one_too_many : (l : List Class) (j k : ℕ) → IsTooMany l j → IsTooMany l k → j ≡ k
 one_too_many l j k u y =
-    same_by j k (λ h. let e = earlier_too_many l j k u y (omega (arith, h)) in omega (arith, e, h)) (λ h. let e = earlier_too_many l k j y u (omega (arith, h)) in omega (arith, e, h))
+    same_by j k (λ h. let e = earlier_too_many l j k u y (omega (arith, h)) in omega (arith, e, h))
+    (λ h. let e = earlier_too_many l k j y u (omega (arith, h)) in omega (arith, e, h))
 
 before_some : (o : Option ℕ) (j k : ℕ) → NotBefore k o → o ≡ Some j → k ≤ j
 before_some o j k h e = subst (λ (x : Option ℕ). NotBefore k x) e h

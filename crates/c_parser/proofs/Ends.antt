@@ -34,7 +34,8 @@ not_lead o.Const = refl
 not_lead _ = refl
 
 -- The end begins nothing.
-begin_ended : (rule : Production) (first level : ℕ) (parts : List Syntax) (l : List Want) (x : Want) (z : Frames) (at : ℕ) → ((y : Lead) → x ≡ w.Optional y → ⊥) → IsEnded (begin rule first level parts l x z c.End at)
+begin_ended : (rule : Production) (first level : ℕ) (parts : List Syntax) (l : List Want) (x : Want) (z : Frames) (at : ℕ) →
+    ((y : Lead) → x ≡ w.Optional y → ⊥) → IsEnded (begin rule first level parts l x z c.End at)
 begin_ended rule first level parts l (w.Token x) z at h = rw (not_end x) tt
 begin_ended rule first level parts l (w.OptionalExpression x) z at h = rw (not_end x) tt
 begin_ended rule first level parts l (w.Optional x) z at h = absurd (h x refl)
@@ -43,7 +44,8 @@ begin_ended rule first level parts l (w.Next m.Enumerator) z at h = tt
 begin_ended rule first level parts l _ z at h = tt
 
 -- In front of the end a node is whole, or the end fits nowhere.
-feed_ended : (rule : Production) (first level : ℕ) (parts : List Syntax) (l : List Want) (z : Frames) (at : ℕ) (k : Syntax → Next) → ((x : Syntax) → IsEnded (k x)) → IsEnded (feed rule first level parts l z c.End at k)
+feed_ended : (rule : Production) (first level : ℕ) (parts : List Syntax) (l : List Want) (z : Frames) (at : ℕ) (k : Syntax → Next) →
+    ((x : Syntax) → IsEnded (k x)) → IsEnded (feed rule first level parts l z c.End at k)
 feed_ended rule first level parts [] z at k h = h _
 feed_ended rule first level parts (w.Optional x ∷ l) z at k h = rw (not_lead x) (feed_ended rule first level parts l z at k h)
 feed_ended rule first level parts (w.Base ∷ l) z at k h = feed_ended rule first level parts l z at k h

@@ -22,7 +22,8 @@ use Rattle.c_parser.proofs.Outcomes.{outcome_of, taken_viable}
 
 -- the machine accepts what derives, with its syntax and its events
 abbrev pub Completes : Type 0
-Completes = (file : List Top) → FitsFile file → logged start 0 (file_tokens file (c.End ∷ [])) [] ≡ Through (s.Accepted (file_node file) ∷ []) (Outside ∷ file_events file [])
+Completes = (file : List Top) → FitsFile file → logged start 0 (file_tokens file (c.End ∷ [])) [] ≡ Through (s.Accepted (file_node file) ∷ [])
+    (Outside ∷ file_events file [])
 
 -- ---- traces
 
@@ -41,7 +42,8 @@ over_outside None = refl
 over_outside (Some k) = refl
 
 -- what follows these frames and events, in a run that began with them
-behind : (front more : List Class) (z : Frames) (q : List Event) (x : Frames) (e : List Event) → logged start 0 front [] ≡ Through z q → logged start 0 (front ++ more) [] ≡ Through x e
+behind : (front more : List Class) (z : Frames) (q : List Event) (x : Frames) (e : List Event) → logged start 0 front [] ≡ Through z q →
+    logged start 0 (front ++ more) [] ≡ Through x e
     → logged z (length front + 0) more q ≡ Through x e
 behind front more z q x e h k =
     let y = halves front more start 0 [] x e k in
@@ -52,7 +54,8 @@ behind front more z q x e h k =
     ∙ y.second
 
 -- the same for a file
-behind_file : Completes → (file : List Top) → FitsFile file → (front more : List Class) → file_tokens file (c.End ∷ []) ≡ front ++ more → (z : Frames) (q : List Event) → logged start 0 front [] ≡ Through z q
+behind_file : Completes → (file : List Top) → FitsFile file → (front more : List Class) → file_tokens file (c.End ∷ []) ≡ front ++ more →
+    (z : Frames) (q : List Event) → logged start 0 front [] ≡ Through z q
     → logged z (length front + 0) more q ≡ Through (s.Accepted (file_node file) ∷ []) (Outside ∷ file_events file [])
 behind_file complete file w front more t z q h = behind front more z q _ _ h (ap (λ (l : List Class). logged start 0 l []) (sym t) ∙ complete file w)
 
@@ -62,11 +65,13 @@ sooner at None h = tt
 sooner at (Some k) h = omega (arith, h)
 
 -- The first token over a limit, where no token so far is, comes later.
-pub later : (ts : List Class) (z : Frames) (at : ℕ) (q : List Event) (x : Frames) (e : List Event) → first_over q ≡ None → number_of q ≡ at → logged z at ts q ≡ Through x e → NotBefore at (first_over e)
+pub later : (ts : List Class) (z : Frames) (at : ℕ) (q : List Event) (x : Frames) (e : List Event) → first_over q ≡ None → number_of q ≡ at →
+    logged z at ts q ≡ Through x e → NotBefore at (first_over e)
 later [] z at q x e h n k = subst (λ (o : Option ℕ). NotBefore at o) (sym h ∙ ap first_over (same_events z x q e k)) tt
 later (t ∷ ts) z at q x e h n k = go (step z t at) (λ y a. later ts y (at + 1) a x e) k
   where
-    deeper : (l : Load) (y : Frames) → ((y : Frames) (a : List Event) → first_over a ≡ None → number_of a ≡ at + 1 → logged y (at + 1) ts a ≡ Through x e → NotBefore (at + 1) (first_over e))
+    deeper : (l : Load) (y : Frames) → ((y : Frames) (a : List Event) → first_over a ≡ None → number_of a ≡ at + 1 →
+        logged y (at + 1) ts a ≡ Through x e → NotBefore (at + 1) (first_over e))
         → logged y (at + 1) ts (noted l q) ≡ Through x e → (b : Bool) → is_over l (count_of q) ≡ b → NotBefore at (first_over e)
     deeper l y f g true b =
         let o : first_over (noted l q) ≡ Some (number_of q) = over_noted l q h ∙ ap (λ (x : Bool). cond x (Some (number_of q)) None) b in
@@ -75,7 +80,8 @@ later (t ∷ ts) z at q x e h n k = go (step z t at) (λ y a. later ts y (at + 1
         let o : first_over (noted l q) ≡ None = over_noted l q h ∙ ap (λ (x : Bool). cond x (Some (number_of q)) None) b in
         sooner at (first_over e) (f y (noted l q) o (number_noted l q ∙ ap (λ (x : ℕ). x + 1) n) g)
 
-    go : (m : Next) → ((y : Frames) (a : List Event) → first_over a ≡ None → number_of a ≡ at + 1 → logged y (at + 1) ts a ≡ Through x e → NotBefore (at + 1) (first_over e))
+    go : (m : Next) → ((y : Frames) (a : List Event) → first_over a ≡ None → number_of a ≡ at + 1 → logged y (at + 1) ts a ≡ Through x e →
+        NotBefore (at + 1) (first_over e))
         → log_on m at q (λ y a. logged y (at + 1) ts a) ≡ Through x e → NotBefore at (first_over e)
     go Fails f g = absurd cc
     go (Takes l y) f g = deeper l y f g (is_over l (count_of q)) refl
@@ -95,7 +101,8 @@ sound complete tokens x h =
       formed = y.ready.1;
       spelled = sym t;
       syntax_of = same_file x (file_node file) y.events (Outside ∷ file_events file []) e;
-      within = sym (over_outside (first_too_many file)) ∙ ap first_over (sym (same_events (s.Accepted x ∷ []) (s.Accepted (file_node file) ∷ []) y.events (Outside ∷ file_events file []) e)) ∙ y.within;
+      within = sym (over_outside (first_too_many file)) ∙ ap first_over
+          (sym (same_events (s.Accepted x ∷ []) (s.Accepted (file_node file) ∷ []) y.events (Outside ∷ file_events file []) e)) ∙ y.within;
     }
 
 -- where the run refuses a token as one that fits nowhere, it is the first that no list that derives has there
@@ -112,7 +119,8 @@ first_fault complete tokens k h =
       viable = taken_viable y.front y.middle y.taken.ready;
       none =
           λ v. stuck (length y.front + 0) (step y.middle y.token (length y.front + 0)) (ap (step y.middle y.token) place ∙ y.fault) y.taken.events _ _ _
-          (behind_file complete v.file v.formed y.front (y.token ∷ v.more) (v.begins ∙ append_assoc y.front (y.token ∷ []) v.more) y.middle y.taken.events y.taken.through);
+          (behind_file complete v.file v.formed y.front (y.token ∷ v.more) (v.begins ∙ append_assoc y.front (y.token ∷ []) v.more) y.middle
+          y.taken.events y.taken.through);
       within =
           λ v. subst (λ (o : Option ℕ). NotBefore k o) (over_outside (first_too_many v.file))
           (subst (λ (n : ℕ). NotBefore n (first_over (Outside ∷ file_events v.file []))) place
@@ -120,7 +128,8 @@ first_fault complete tokens k h =
           (behind_file complete v.file v.formed y.front v.more v.begins y.middle y.taken.events y.taken.through)));
     }
   where
-    stuck : (at : ℕ) (n : Next) → n ≡ Fails → (q : List Event) (k : Frames → List Event → Trace) (x : Frames) (e : List Event) → log_on n at q k ≡ Through x e → ⊥
+    stuck : (at : ℕ) (n : Next) → n ≡ Fails → (q : List Event) (k : Frames → List Event → Trace) (x : Frames) (e : List Event) →
+        log_on n at q k ≡ Through x e → ⊥
     stuck at Fails f q k x e g = absurd cc
     stuck at (Takes l z) f q k x e g = absurd cc
 
@@ -147,7 +156,8 @@ first_too_many_is complete tokens k h =
           λ v. sym (over_outside (first_too_many v.file))
           ∙ stays v.more y.fault.after (length y.front + 0 + 1) k (noted y.fault.load y.taken.events) _ _ (over ∙ ap (λ (n : ℕ). Some n) number)
           (ap (λ (n : Next). log_on n (length y.front + 0) y.taken.events (λ a b. logged a (length y.front + 0 + 1) v.more b)) (sym takes)
-          ∙ behind_file complete v.file v.formed y.front (y.token ∷ v.more) (v.begins ∙ append_assoc y.front (y.token ∷ []) v.more) y.middle y.taken.events y.taken.through);
+          ∙ behind_file complete v.file v.formed y.front (y.token ∷ v.more) (v.begins ∙ append_assoc y.front (y.token ∷ []) v.more) y.middle
+          y.taken.events y.taken.through);
     }
   where
     taken_viable_by : (front : List Class) (t : Class) (z : Frames) → Ready z (λ r. front ++ t ∷ r) → Viable (front ++ t ∷ [])
@@ -168,8 +178,10 @@ pub left_accepted : (tokens : List Class) (z : Frames) → run start 0 0 (tokens
 left_accepted tokens z h =
     let y = outcome_of (tokens ++ c.End ∷ []) (Left z) h in
     let k = halves tokens (c.End ∷ []) start 0 [] z y.events y.through in
-    go (place_behind 0 tokens) (step k.middle c.End (place_behind 0 tokens)) (step_ended k.middle (place_behind 0 tokens)) k.events y.events k.second (λ l w. alone l z _ y.ready w)
+    go (place_behind 0 tokens) (step k.middle c.End (place_behind 0 tokens)) (step_ended k.middle (place_behind 0 tokens)) k.events y.events k.second
+    (λ l w. alone l z _ y.ready w)
   where
-    go : (at : ℕ) (n : Next) → IsEnded n → (q e : List Event) → log_on n at q (λ y a. Through y a) ≡ Through z e → ((l : Load) → IsEnded (Takes l z) → (x : Syntax) × (z ≡ s.Accepted x ∷ [])) → (x : Syntax) × (z ≡ s.Accepted x ∷ [])
+    go : (at : ℕ) (n : Next) → IsEnded n → (q e : List Event) → log_on n at q (λ y a. Through y a) ≡ Through z e →
+        ((l : Load) → IsEnded (Takes l z) → (x : Syntax) × (z ≡ s.Accepted x ∷ [])) → (x : Syntax) × (z ≡ s.Accepted x ∷ [])
     go at Fails w q e g f = absurd cc
     go at (Takes l y) w q e g f = f l (subst (λ (a : Frames). IsEnded (Takes l a)) (same_frames y z (noted l q) e g) w)

@@ -30,7 +30,8 @@ found_assignment at (Value d) = lift p.Assignment at (conditional_end at d) (fou
 -- behind these parts of an expression that begins at `first`
 abbrev pub found_expression : ℕ → List Syntax → ℕ → Expression → Found
 found_expression first parts at (One a) = commas first at (assignment_end at a) parts (found_assignment at a)
-found_expression first parts at (More a e) = found_expression first (parts ++ assignment_node at a ∷ leaf (assignment_end at a) ∷ []) (assignment_end at a + 1) e
+found_expression first parts at (More a e) = found_expression first (parts ++ assignment_node at a ∷ leaf (assignment_end at a) ∷ [])
+    (assignment_end at a + 1) e
 
 -- ---- as nodes
 
@@ -44,7 +45,8 @@ lift_binary (Lone t) at z = refl
 lift_binary (Whole x) at z = refl
 
 pub binary_solid : (b : Binary) (at : ℕ) → solid_binary at (binary_end at b) (found_binary at b) ≡ binary_node at b
-binary_solid (Single u) at = lift_binary (found_unary at u) at (unary_end at u) ∙ ap (λ (x : Syntax). node p.Binary at (unary_end at u) (x ∷ [])) (unary_solid u at)
+binary_solid (Single u) at = lift_binary (found_unary at u) at (unary_end at u) ∙
+    ap (λ (x : Syntax). node p.Binary at (unary_end at u) (x ∷ [])) (unary_solid u at)
 binary_solid (Both a m b) at = refl
 
 lift_conditional : (v : Found) (at z : ℕ) → solid_conditional at z (lift p.Conditional at z v) ≡ node p.Conditional at z (solid_binary at z v ∷ [])
@@ -53,7 +55,8 @@ lift_conditional (Whole x) at z = refl
 
 pub conditional_solid : (d : Conditional) (at : ℕ) → solid_conditional at (conditional_end at d) (found_conditional at d) ≡ conditional_node at d
 conditional_solid (Choose b e d) at = refl
-conditional_solid (Only b) at = lift_conditional (found_binary at b) at (binary_end at b) ∙ ap (λ (x : Syntax). node p.Conditional at (binary_end at b) (x ∷ [])) (binary_solid b at)
+conditional_solid (Only b) at = lift_conditional (found_binary at b) at (binary_end at b) ∙
+    ap (λ (x : Syntax). node p.Conditional at (binary_end at b) (x ∷ [])) (binary_solid b at)
 
 lift_assignment : (v : Found) (at z : ℕ) → solid_assignment at z (lift p.Assignment at z v) ≡ node p.Assignment at z (solid_conditional at z v ∷ [])
 lift_assignment (Lone t) at z = refl
@@ -61,21 +64,27 @@ lift_assignment (Whole x) at z = refl
 
 pub assignment_solid : (a : Assignment) (at : ℕ) → solid_assignment at (assignment_end at a) (found_assignment at a) ≡ assignment_node at a
 assignment_solid (To t m a) at = refl
-assignment_solid (Value d) at = lift_assignment (found_conditional at d) at (conditional_end at d) ∙ ap (λ (x : Syntax). node p.Assignment at (conditional_end at d) (x ∷ [])) (conditional_solid d at)
+assignment_solid (Value d) at = lift_assignment (found_conditional at d) at (conditional_end at d) ∙
+    ap (λ (x : Syntax). node p.Assignment at (conditional_end at d) (x ∷ [])) (conditional_solid d at)
 
 commas_none : (v : Found) (at z : ℕ) → solid_expression at z (commas at at z [] v) ≡ node p.Expression at z (solid_assignment at z v ∷ [])
 commas_none (Lone t) at z = refl
 commas_none (Whole x) at z = refl
 
-commas_some : (e : Expression) (first at : ℕ) (x : Syntax) (parts : List Syntax) → found_expression first (x ∷ parts) at e ≡ Whole (node p.Expression first (expression_end at e) ((x ∷ parts) ++ expression_parts at e))
-commas_some (One a) first at x parts = ap (λ (y : Syntax). Whole (node p.Expression first (assignment_end at a) ((x ∷ parts) ++ y ∷ []))) (assignment_solid a at)
+commas_some : (e : Expression) (first at : ℕ) (x : Syntax) (parts : List Syntax) →
+    found_expression first (x ∷ parts) at e ≡ Whole (node p.Expression first (expression_end at e) ((x ∷ parts) ++ expression_parts at e))
+commas_some (One a) first at x parts = ap (λ (y : Syntax). Whole (node p.Expression first (assignment_end at a) ((x ∷ parts) ++ y ∷ [])))
+    (assignment_solid a at)
 commas_some (More a e) first at x parts =
     commas_some e first (assignment_end at a + 1) x (parts ++ assignment_node at a ∷ leaf (assignment_end at a) ∷ [])
-    ∙ ap (λ (l : List Syntax). Whole (node p.Expression first (expression_end (assignment_end at a + 1) e) (x ∷ l))) (append_assoc parts (assignment_node at a ∷ leaf (assignment_end at a) ∷ []) (expression_parts (assignment_end at a + 1) e))
+    ∙ ap (λ (l : List Syntax). Whole (node p.Expression first (expression_end (assignment_end at a + 1) e) (x ∷ l)))
+    (append_assoc parts (assignment_node at a ∷ leaf (assignment_end at a) ∷ []) (expression_parts (assignment_end at a + 1) e))
 
 pub expression_solid : (e : Expression) (at : ℕ) → solid_expression at (expression_end at e) (found_expression at [] at e) ≡ expression_node at e
-expression_solid (One a) at = commas_none (found_assignment at a) at (assignment_end at a) ∙ ap (λ (x : Syntax). node p.Expression at (assignment_end at a) (x ∷ [])) (assignment_solid a at)
-expression_solid (More a e) at = ap (λ (v : Found). solid_expression at (expression_end (assignment_end at a + 1) e) v) (commas_some e at (assignment_end at a + 1) (assignment_node at a) (leaf (assignment_end at a) ∷ []))
+expression_solid (One a) at = commas_none (found_assignment at a) at (assignment_end at a) ∙
+    ap (λ (x : Syntax). node p.Expression at (assignment_end at a) (x ∷ [])) (assignment_solid a at)
+expression_solid (More a e) at = ap (λ (v : Found). solid_expression at (expression_end (assignment_end at a + 1) e) v)
+    (commas_some e at (assignment_end at a + 1) (assignment_node at a) (leaf (assignment_end at a) ∷ []))
 
 -- ---- what isn't a target alone is whole
 

@@ -36,7 +36,8 @@ IsFile P = (done : List Top) × FitsFile done × ((r : List Class) → P r ≡ f
 -- Values of what is left make a node of this rule, in front of which stands what the frames below say.
 abbrev pub Awaits : (Front → Type 0) → Bool → List Want → Production → Front → Type 0
 Awaits below d l rule Q =
-    (g : WantValues l → NodeOf rule) × (P0 : Front) × ((v : WantValues l) → FitsWants d l v → FitsNode rule (g v)) × ((v : WantValues l) (r : List Class) → Q (wants_tokens l v r) ≡ P0 (node_tokens rule (g v) r))
+    (g : WantValues l → NodeOf rule) × (P0 : Front) × ((v : WantValues l) → FitsWants d l v → FitsNode rule (g v)) ×
+    ((v : WantValues l) (r : List Class) → Q (wants_tokens l v r) ≡ P0 (node_tokens rule (g v) r))
     × ((v : WantValues l) → is_node_open rule (g v) ≡ ends d l v) × below P0
 
 abbrev mutual
@@ -44,7 +45,8 @@ abbrev mutual
   pub UnaryNext : Frames → Front → Type 0
   UnaryNext (s.Post first ∷ z) P = UnaryNext z P
   UnaryNext (s.Prefix first mark next ∷ z) P = (m : Class) × (P0 : Front) × (is_prefix m ≡ true) × ((r : List Class) → P r ≡ P0 (m ∷ r)) × UnaryNext z P0
-  UnaryNext (s.Cast first parts next ∷ z) P = (k : Option NumberType) × (P0 : Front) × ((r : List Class) → P r ≡ P0 (c.Open ∷ cast_tokens k (c.Close ∷ r))) × UnaryNext z P0
+  UnaryNext (s.Cast first parts next ∷ z) P = (k : Option NumberType) × (P0 : Front) ×
+      ((r : List Class) → P r ≡ P0 (c.Open ∷ cast_tokens k (c.Close ∷ r))) × UnaryNext z P0
   UnaryNext (s.Operand first ∷ z) P = BinaryNext z P
   UnaryNext _ P = ⊥
 
@@ -58,7 +60,8 @@ abbrev mutual
   -- a binary expression comes next, of which a unary one may be the first operand
   pub BinaryNext : Frames → Front → Type 0
   BinaryNext (s.Join first left mark next l ∷ z) P =
-      (a : Binary) × (m : Class) × (P0 : Front) × FitsBinary a × (level m ≡ l) × (0 < l) × (l ≤ root a) × ((r : List Class) → P r ≡ P0 (binary_tokens a (m ∷ r))) × BinaryNext z P0 × Under z l
+      (a : Binary) × (m : Class) × (P0 : Front) × FitsBinary a × (level m ≡ l) × (0 < l) × (l ≤ root a) ×
+      ((r : List Class) → P r ≡ P0 (binary_tokens a (m ∷ r))) × BinaryNext z P0 × Under z l
   BinaryNext (s.Choice first ∷ z) P = ConditionalNext z P
   BinaryNext _ P = ⊥
 
@@ -66,16 +69,19 @@ abbrev mutual
   pub ConditionalNext : Frames → Front → Type 0
   ConditionalNext (s.Assigns first ∷ z) P = AssignmentNext z P
   ConditionalNext (s.ChoiceElse first parts next ∷ z) P =
-      (b : Binary) × (e : Expression) × (P0 : Front) × FitsBinary b × FitsExpression e × ((r : List Class) → P r ≡ P0 (binary_tokens b (c.Question ∷ expression_tokens e (c.Colon ∷ r)))) × ConditionalNext z P0
+      (b : Binary) × (e : Expression) × (P0 : Front) × FitsBinary b × FitsExpression e ×
+      ((r : List Class) → P r ≡ P0 (binary_tokens b (c.Question ∷ expression_tokens e (c.Colon ∷ r)))) × ConditionalNext z P0
   ConditionalNext (s.Whole f.Conditional start ∷ z) P = ValueNext z (Of f.Conditional) P
   ConditionalNext _ P = ⊥
 
   -- an assignment comes next
   pub AssignmentNext : Frames → Front → Type 0
-  AssignmentNext (s.AssignsTo first parts next ∷ z) P = (x : Target) × (m : Class) × (P0 : Front) × FitsTarget x × (is_assign m ≡ true) × ((r : List Class) → P r ≡ P0 (target_tokens x (m ∷ r))) × AssignmentNext z P0
+  AssignmentNext (s.AssignsTo first parts next ∷ z) P = (x : Target) × (m : Class) × (P0 : Front) × FitsTarget x × (is_assign m ≡ true) ×
+      ((r : List Class) → P r ≡ P0 (target_tokens x (m ∷ r))) × AssignmentNext z P0
   AssignmentNext (s.Commas first at [] ∷ z) P = ExpressionNext z P
   AssignmentNext (s.Commas first at (x ∷ parts) ∷ z) P =
-      (g : Expression → Expression) × (P0 : Front) × ((e : Expression) → FitsExpression e → FitsExpression (g e) × (is_lone (g e) ≡ false)) × ((e : Expression) (r : List Class) → P (expression_tokens e r) ≡ P0 (expression_tokens (g e) r)) × ExpressionNext z P0
+      (g : Expression → Expression) × (P0 : Front) × ((e : Expression) → FitsExpression e → FitsExpression (g e) × (is_lone (g e) ≡ false)) ×
+      ((e : Expression) (r : List Class) → P (expression_tokens e r) ≡ P0 (expression_tokens (g e) r)) × ExpressionNext z P0
   AssignmentNext (s.ArgumentSeen first ∷ z) P = ArgumentNext z P
   AssignmentNext (s.Whole f.Assignment start ∷ z) P = ValueNext z (Of f.Assignment) P
   AssignmentNext _ P = ⊥
@@ -84,25 +90,29 @@ abbrev mutual
   pub ExpressionNext : Frames → Front → Type 0
   ExpressionNext (s.Indexed first parts next ∷ z) P = (P0 : Front) × ((r : List Class) → P r ≡ P0 (c.Name ∷ c.OpenIndex ∷ r)) × TargetNext z P0
   ExpressionNext (s.Bracketed first bracket next ∷ z) P = (P0 : Front) × ((r : List Class) → P r ≡ P0 (c.Open ∷ r)) × UnaryNext z P0 × TargetNext z P0
-  ExpressionNext (s.ChoiceThen first test question next ∷ z) P = (b : Binary) × (P0 : Front) × FitsBinary b × ((r : List Class) → P r ≡ P0 (binary_tokens b (c.Question ∷ r))) × ConditionalNext z P0
+  ExpressionNext (s.ChoiceThen first test question next ∷ z) P = (b : Binary) × (P0 : Front) × FitsBinary b ×
+      ((r : List Class) → P r ≡ P0 (binary_tokens b (c.Question ∷ r))) × ConditionalNext z P0
   ExpressionNext (s.Whole f.Expression start ∷ z) P = ValueNext z (Of f.Expression) P
   ExpressionNext _ P = ⊥
 
   -- an argument comes next
   pub ArgumentNext : Frames → Front → Type 0
   ArgumentNext (s.Arguments first parts ∷ z) P =
-      (g : Arguments → Arguments) × (P0 : Front) × ((xs : Arguments) → FitsArguments xs → FitsArguments (g xs)) × ((xs : Arguments) (r : List Class) → P (arguments_tokens xs r) ≡ P0 (c.Name ∷ c.Open ∷ arguments_tokens (g xs) r)) × UnaryNext z P0
+      (g : Arguments → Arguments) × (P0 : Front) × ((xs : Arguments) → FitsArguments xs → FitsArguments (g xs)) ×
+      ((xs : Arguments) (r : List Class) → P (arguments_tokens xs r) ≡ P0 (c.Name ∷ c.Open ∷ arguments_tokens (g xs) r)) × UnaryNext z P0
   ArgumentNext _ P = ⊥
 
   -- a value of this kind comes next
   pub ValueNext : Frames → Got → Front → Type 0
   ValueNext (s.Rest form ∷ z) x P =
-      (g : GotValue x → WantValues form.todo → NodeOf form.rule) × (P0 : Front) × ((a : GotValue x) (v : WantValues form.todo) → FitsGot x a → FitsWants (is_got_open x a) form.todo v → FitsNode form.rule (g a v))
+      (g : GotValue x → WantValues form.todo → NodeOf form.rule) × (P0 : Front) ×
+      ((a : GotValue x) (v : WantValues form.todo) → FitsGot x a → FitsWants (is_got_open x a) form.todo v → FitsNode form.rule (g a v))
       × ((a : GotValue x) (v : WantValues form.todo) (r : List Class) → P (got_tokens x a (wants_tokens form.todo v r)) ≡ P0 (node_tokens form.rule (g a v) r))
       × ((a : GotValue x) (v : WantValues form.todo) → is_node_open form.rule (g a v) ≡ ends (is_got_open x a) form.todo v) × ValueNext z (Node form.rule) P0
   ValueNext (s.CastType first bracket ∷ z) (Node p.NumberType) P = (P0 : Front) × ((r : List Class) → P r ≡ P0 (c.Open ∷ r)) × UnaryNext z P0
   ValueNext (s.TopType first parts start ∷ z) (Node p.NumberType) P =
-      (static : Bool) × (P0 : Front) × ((r : List Class) → P r ≡ P0 (word_tokens c.Static static r)) × ValueNext z (Node p.Declaration) P0 × ValueNext z (Node p.Function) P0
+      (static : Bool) × (P0 : Front) × ((r : List Class) → P r ≡ P0 (word_tokens c.Static static r)) × ValueNext z (Node p.Declaration) P0 ×
+      ValueNext z (Node p.Function) P0
   ValueNext (s.Tops parts ∷ []) (Node p.Enum) P = IsFile P
   ValueNext (s.Tops parts ∷ []) (Node p.Declaration) P = IsFile P
   ValueNext (s.Tops parts ∷ []) (Node p.Function) P = IsFile P
@@ -120,13 +130,16 @@ Ready (s.TargetNamed first name ∷ z) P = (P0 : Front) × ((r : List Class) →
 Ready (s.Called first name bracket ∷ z) P = (P0 : Front) × ((r : List Class) → P r ≡ P0 (c.Name ∷ c.Open ∷ r)) × UnaryNext z P0
 Ready (s.Texts first parts ∷ z) P = (n : Texts) × (P0 : Front) × ((r : List Class) → P r ≡ P0 (texts_tokens n r)) × ArgumentNext z P0
 Ready (s.Done (Lone v) ∷ z) P = (x : Target) × (P0 : Front) × FitsTarget x × ((r : List Class) → P r ≡ P0 (target_tokens x r)) × TargetNext z P0
-Ready (s.Done (Whole v) ∷ z) P = (u : Unary) × (P0 : Front) × FitsUnary u × (is_lone_unary u ≡ false) × ((r : List Class) → P r ≡ P0 (unary_tokens u r)) × UnaryNext z P0
+Ready (s.Done (Whole v) ∷ z) P = (u : Unary) × (P0 : Front) × FitsUnary u × (is_lone_unary u ≡ false) ×
+    ((r : List Class) → P r ≡ P0 (unary_tokens u r)) × UnaryNext z P0
 Ready (s.Rest form ∷ z) P = Awaits (ValueNext z (Node form.rule)) false form.todo form.rule P
 Ready (s.LabelOrName name mark form ∷ z) P = (P0 : Front) × ((r : List Class) → P r ≡ P0 (c.Name ∷ r)) × ValueNext (s.Rest form ∷ z) (Node p.Statement) P0
 Ready (s.External first parts ∷ z) P =
-    (static : Bool) × (P0 : Front) × ((r : List Class) → P r ≡ P0 (word_tokens c.Static static r)) × ValueNext z (Node p.Declaration) P0 × ValueNext z (Node p.Function) P0
+    (static : Bool) × (P0 : Front) × ((r : List Class) → P r ≡ P0 (word_tokens c.Static static r)) × ValueNext z (Node p.Declaration) P0 ×
+    ValueNext z (Node p.Function) P0
 Ready (s.TopName first parts start type name mark ∷ z) P =
-    (static : Bool) × (n : NumberType) × (P0 : Front) × ((r : List Class) → P r ≡ P0 (word_tokens c.Static static (type_tokens n (c.Name ∷ r)))) × ValueNext z (Node p.Declaration) P0 × ValueNext z (Node p.Function) P0
+    (static : Bool) × (n : NumberType) × (P0 : Front) × ((r : List Class) → P r ≡ P0 (word_tokens c.Static static (type_tokens n (c.Name ∷ r)))) ×
+    ValueNext z (Node p.Declaration) P0 × ValueNext z (Node p.Function) P0
 Ready (s.Tops parts ∷ []) P = IsFile P
 Ready (s.Accepted v ∷ []) P = (file : List Top) × FitsFile file × ((r : List Class) → P r ≡ file_tokens file (c.End ∷ r))
 Ready _ P = ⊥

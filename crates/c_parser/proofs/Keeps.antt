@@ -77,10 +77,18 @@ loose_single (_ ∷ zs) P i u = absurd i
 single_cap : (t : Class) (u : Unary) → level t ≤ root (Single u)
 single_cap t u = let h = level_below t in omega arith
 
-stepped : (zs : Frames) (P Q : Front) → UnaryNext zs P → (u : Unary) → FitsUnary u → ((r : List Class) → Q r ≡ P (unary_tokens u r)) → is_lone_unary u ≡ true → (w : Syntax) (t : Class) → is_step t ≡ true → Ready (s.Done (Whole w) ∷ zs) (λ r. Q (t ∷ r))
+stepped : (zs : Frames) (P Q : Front) → UnaryNext zs P → (u : Unary) → FitsUnary u → ((r : List Class) → Q r ≡ P (unary_tokens u r)) →
+    is_lone_unary u ≡ true → (w : Syntax) (t : Class) → is_step t ≡ true → Ready (s.Done (Whole w) ∷ zs) (λ r. Q (t ∷ r))
 stepped zs P Q i u f e k w t h =
-    let y = lone_unary u f k in
-    (StepAfter y.0, P, y.1, refl, (λ r. seen Q (λ q. P (unary_tokens u q)) e t c.Step (step_is t h) r ∙ ap (λ (z : Unary). P (unary_tokens z (c.Step ∷ r))) y.2), i)
+    let y = lone_unary u f k in (
+      StepAfter y.0,
+      P,
+      y.1,
+      refl,
+      (λ r. seen Q (λ q. P (unary_tokens u q)) e t c.Step (step_is t h) r ∙
+          ap (λ (z : Unary). P (unary_tokens z (c.Step ∷ r))) y.2),
+      i,
+    )
 
 texts_more : (n : Texts) (r : List Class) → texts_tokens n (c.Text ∷ r) ≡ texts_tokens (MoreTexts n) r
 texts_more OneText r = refl
@@ -96,17 +104,22 @@ both_fits a b m l w x e h i k = (w, x, omega arith, omega arith, omega arith)
 cap_of : (t l m : ℕ) → t ≤ l → m ≡ l → t ≤ m
 cap_of t l m h e = omega arith
 
-opened_kept : (f : ℕ) (bracket : Syntax) (next : ℕ) (zs : Frames) (P P0 : Front) → ((r : List Class) → P r ≡ P0 (c.Open ∷ r)) → UnaryNext zs P0 → TargetNext zs P0 → (t : Class) (at : ℕ) → Goes (at_opened f bracket next zs t at) (λ r. P (t ∷ r))
+opened_kept : (f : ℕ) (bracket : Syntax) (next : ℕ) (zs : Frames) (P P0 : Front) → ((r : List Class) → P r ≡ P0 (c.Open ∷ r)) → UnaryNext zs P0 →
+    TargetNext zs P0 → (t : Class) (at : ℕ) → Goes (at_opened f bracket next zs t at) (λ r. P (t ∷ r))
 opened_kept f bracket next zs P P0 e i j c.Char at = type_kept (s.CastType f bracket ∷ zs) P (P0, e, i) c.Char at
 opened_kept f bracket next zs P P0 e i j c.Int at = type_kept (s.CastType f bracket ∷ zs) P (P0, e, i) c.Int at
 opened_kept f bracket next zs P P0 e i j c.Long at = type_kept (s.CastType f bracket ∷ zs) P (P0, e, i) c.Long at
 opened_kept f bracket next zs P P0 e i j c.Signed at = type_kept (s.CastType f bracket ∷ zs) P (P0, e, i) c.Signed at
 opened_kept f bracket next zs P P0 e i j c.Unsigned at = type_kept (s.CastType f bracket ∷ zs) P (P0, e, i) c.Unsigned at
 opened_kept f bracket next zs P P0 e i j c.Void at = (P0, (λ r. e (c.Void ∷ r)), i)
-opened_kept f bracket next zs P P0 e i j t at = unary_kept (s.Operand at ∷ s.Choice at ∷ s.Assigns at ∷ s.Commas at at [] ∷ s.Bracketed f bracket next ∷ zs) P (P0, e, i, j) t at
+opened_kept f bracket next zs P P0 e i j t at = unary_kept (s.Operand at ∷ s.Choice at ∷ s.Assigns at ∷ s.Commas at at [] ∷ s.Bracketed f bracket
+    next ∷ zs) P (P0, e, i, j) t at
 
-type_end_kept : (f : ℕ) (bracket type : Syntax) (zs : Frames) (P P0 : Front) (k : Option NumberType) → ((r : List Class) → P r ≡ P0 (c.Open ∷ cast_tokens k r)) → UnaryNext zs P0 → (t : Class) (at : ℕ) → Goes (at_type_end f bracket type zs t at) (λ r. P (t ∷ r))
-type_end_kept f bracket type zs P P0 k e i t at = branch (is_close t) _ _ _ (λ h. (k, P0, seen P (λ r. P0 (c.Open ∷ cast_tokens k r)) e t c.Close (close_is t h), i)) (λ h. tt)
+type_end_kept : (f : ℕ) (bracket type : Syntax) (zs : Frames) (P P0 : Front) (k : Option NumberType) →
+    ((r : List Class) → P r ≡ P0 (c.Open ∷ cast_tokens k r)) → UnaryNext zs P0 → (t : Class) (at : ℕ) →
+    Goes (at_type_end f bracket type zs t at) (λ r. P (t ∷ r))
+type_end_kept f bracket type zs P P0 k e i t at = branch (is_close t)
+    _ _ _ (λ h. (k, P0, seen P (λ r. P0 (c.Open ∷ cast_tokens k r)) e t c.Close (close_is t h), i)) (λ h. tt)
 
 -- ---- files
 
@@ -133,34 +146,52 @@ top_kept parts P i c.Static at = (true, P, (λ r. refl), i, i)
 top_kept parts P i t at = top_external parts P i t at
 
 -- a statement that begins with a name is an expression
-named_statement : (form : Form) (zs : Frames) (P : Front) → ValueNext (s.Rest form ∷ zs) (Node p.Statement) P → ValueNext (rest p.Plain 0 form.level [] (want.Token c.Semicolon ∷ []) ∷ s.Rest form ∷ zs) (Of full.Expression) P
+named_statement : (form : Form) (zs : Frames) (P : Front) → ValueNext (s.Rest form ∷ zs) (Node p.Statement) P →
+    ValueNext (rest p.Plain 0 form.level [] (want.Token c.Semicolon ∷ []) ∷ s.Rest form ∷ zs) (Of full.Expression) P
 named_statement form zs P i = ((λ a v. Simple (Some a)), P, (λ a v u x. u), (λ a v r. refl), (λ a v. refl), unlabelled form zs P i)
 
 mutual
-  unary_given : (zs : Frames) (P Q : Front) → UnaryNext zs P → (u : Unary) → FitsUnary u → ((r : List Class) → Q r ≡ P (unary_tokens u r)) → (v : Found) → Looks v (is_lone_unary u) → (t : Class) (at : ℕ) → Goes (give zs v t at) (λ r. Q (t ∷ r))
-  unary_given (s.Post f ∷ zs) P Q i u w e (Lone x) k t at = branch (is_step t) _ _ _ (λ h. stepped zs P Q i u w e k x t h) (λ h. unary_given zs P Q i u w e (Lone x) k t at)
+  unary_given : (zs : Frames) (P Q : Front) → UnaryNext zs P → (u : Unary) → FitsUnary u → ((r : List Class) → Q r ≡ P (unary_tokens u r)) →
+      (v : Found) → Looks v (is_lone_unary u) → (t : Class) (at : ℕ) → Goes (give zs v t at) (λ r. Q (t ∷ r))
+  unary_given (s.Post f ∷ zs) P Q i u w e (Lone x) k t at = branch (is_step t) _ _ _ (λ h. stepped zs P Q i u w e k x t h)
+      (λ h. unary_given zs P Q i u w e (Lone x) k t at)
   unary_given (s.Post f ∷ zs) P Q i u w e (Whole x) k t at = unary_given zs P Q i u w e (Whole x) k t at
-  unary_given (s.Prefix f mark next ∷ zs) P Q i u w e v k t at = unary_given zs i.1 Q i.4 (Prefixed i.0 u) (i.2, w) (λ r. e r ∙ i.3 (unary_tokens u r)) (Whole _) refl t at
-  unary_given (s.Cast f parts next ∷ zs) P Q (Some n, P0, q, i) u w e v k t at = unary_given zs P0 Q i (CastTo n u) w (λ r. e r ∙ q (unary_tokens u r)) (Whole _) refl t at
-  unary_given (s.Cast f parts next ∷ zs) P Q (None, P0, q, i) u w e v k t at = unary_given zs P0 Q i (CastVoid u) w (λ r. e r ∙ q (unary_tokens u r)) (Whole _) refl t at
-  unary_given (s.Operand f ∷ zs) P Q i u w e v k t at = binary_given zs P Q i (Single u) w e (lift p.Binary f at v) (looks_lift v p.Binary f at (is_lone_unary u) k) t at (single_cap t u) (loose_single zs P i u)
+  unary_given (s.Prefix f mark next ∷ zs) P Q i u w e v k t at = unary_given zs i.1 Q i.4 (Prefixed i.0 u) (i.2, w)
+      (λ r. e r ∙ i.3 (unary_tokens u r)) (Whole _) refl t at
+  unary_given (s.Cast f parts next ∷ zs) P Q (Some n, P0, q, i) u w e v k t at =
+      unary_given zs P0 Q i (CastTo n u) w (λ r. e r ∙ q (unary_tokens u r)) (Whole _) refl t at
+  unary_given (s.Cast f parts next ∷ zs) P Q (None, P0, q, i) u w e v k t at =
+      unary_given zs P0 Q i (CastVoid u) w (λ r. e r ∙ q (unary_tokens u r)) (Whole _) refl t at
+  unary_given (s.Operand f ∷ zs) P Q i u w e v k t at = binary_given zs P Q i (Single u) w e (lift p.Binary f at v)
+      (looks_lift v p.Binary f at (is_lone_unary u) k) t at (single_cap t u) (loose_single zs P i u)
   unary_given [] P Q i u w e v k t at = absurd i
   unary_given (_ ∷ zs) P Q i u w e v k t at = absurd i
 
-  target_given : (zs : Frames) (P Q : Front) → TargetNext zs P → (x : Target) → FitsTarget x → ((r : List Class) → Q r ≡ P (target_tokens x r)) → (y : Syntax) (t : Class) (at : ℕ) → Goes (give zs (Lone y) t at) (λ r. Q (t ∷ r))
-  target_given (s.Post f ∷ zs) P Q i x w e y t at = branch (is_step t) _ _ _ (λ h. stepped zs P Q i (Place x) w e refl y t h) (λ h. unary_given zs P Q i (Place x) w e (Lone y) refl t at)
+  target_given : (zs : Frames) (P Q : Front) → TargetNext zs P → (x : Target) → FitsTarget x → ((r : List Class) → Q r ≡ P (target_tokens x r)) →
+      (y : Syntax) (t : Class) (at : ℕ) → Goes (give zs (Lone y) t at) (λ r. Q (t ∷ r))
+  target_given (s.Post f ∷ zs) P Q i x w e y t at = branch (is_step t) _ _ _ (λ h. stepped zs P Q i (Place x) w e refl y t h)
+      (λ h. unary_given zs P Q i (Place x) w e (Lone y) refl t at)
   target_given (s.Stepped f mark ∷ zs) P Q i x w e y t at = unary_given zs i.0 Q i.2 (StepTo x) w (λ r. e r ∙ i.1 (target_tokens x r)) (Whole _) refl t at
   target_given (s.Enclosed f bracket ∷ zs) P Q i x w e y t at =
-      branch (is_close t) _ _ _ (λ h. (Round x, i.0, w, (λ r. seen Q (λ q. P (target_tokens x q)) e t c.Close (close_is t h) r ∙ i.1 (target_tokens x (c.Close ∷ r))), i.2)) (λ h. tt)
+      branch (is_close t) _ _ _ (λ h. (
+        Round x,
+        i.0,
+        w,
+        (λ r. seen Q (λ q. P (target_tokens x q)) e t c.Close (close_is t h) r ∙
+            i.1 (target_tokens x (c.Close ∷ r))),
+        i.2,
+      )) (λ h. tt)
   target_given [] P Q i x w e y t at = absurd i
   target_given (_ ∷ zs) P Q i x w e y t at = absurd i
 
-  binary_given : (zs : Frames) (P Q : Front) → BinaryNext zs P → (b : Binary) → FitsBinary b → ((r : List Class) → Q r ≡ P (binary_tokens b r)) → (v : Found) → Looks v (is_lone_binary b) → (t : Class) (at : ℕ) → level t ≤ root b → Loose zs b → Goes (give zs v t at) (λ r. Q (t ∷ r))
+  binary_given : (zs : Frames) (P Q : Front) → BinaryNext zs P → (b : Binary) → FitsBinary b → ((r : List Class) → Q r ≡ P (binary_tokens b r)) →
+      (v : Found) → Looks v (is_lone_binary b) → (t : Class) (at : ℕ) → level t ≤ root b → Loose zs b → Goes (give zs v t at) (λ r. Q (t ∷ r))
   binary_given (s.Join f left mark next l ∷ zs) P Q i b w e v k t at cap loose =
       branch (nat_lt l (level t)) _ _ _
       (λ h. let lt = ltb-true l (level t) h in (b, t, P, w, refl, positive l (level t) lt, cap, (λ r. e (t ∷ r)), i, lt))
       (λ h. let le = ltb-false l (level t) h in
-      binary_given zs i.2 Q i.8 (Both i.0 i.1 b) (both_fits i.0 b i.1 l i.3 w i.4 i.5 i.6 loose) (λ r. e r ∙ i.7 (binary_tokens b r)) (Whole _) refl t at (cap_of (level t) l (level i.1) le i.4) (loose_both zs i.0 b i.1 l i.4 i.9))
+      binary_given zs i.2 Q i.8 (Both i.0 i.1 b) (both_fits i.0 b i.1 l i.3 w i.4 i.5 i.6 loose) (λ r. e r ∙ i.7 (binary_tokens b r)) (Whole _) refl t
+      at (cap_of (level t) l (level i.1) le i.4) (loose_both zs i.0 b i.1 l i.4 i.9))
   binary_given (s.Choice f ∷ zs) P Q i b w e v k t at cap loose =
       branch (nat_lt 0 (level t)) _ _ _
       (λ h. let lt = ltb-true 0 (level t) h in (b, t, P, w, refl, lt, cap, (λ r. e (t ∷ r)), i, tt))
@@ -170,77 +201,147 @@ mutual
   binary_given [] P Q i b w e v k t at cap loose = absurd i
   binary_given (_ ∷ zs) P Q i b w e v k t at cap loose = absurd i
 
-  conditional_given : (zs : Frames) (P Q : Front) → ConditionalNext zs P → (d : Conditional) → FitsConditional d → ((r : List Class) → Q r ≡ P (conditional_tokens d r)) → (v : Found) → Looks v (is_lone_conditional d) → (t : Class) (at : ℕ) → Goes (give zs v t at) (λ r. Q (t ∷ r))
+  conditional_given : (zs : Frames) (P Q : Front) → ConditionalNext zs P → (d : Conditional) → FitsConditional d →
+      ((r : List Class) → Q r ≡ P (conditional_tokens d r)) → (v : Found) → Looks v (is_lone_conditional d) → (t : Class) (at : ℕ) →
+      Goes (give zs v t at) (λ r. Q (t ∷ r))
   conditional_given (s.Assigns f ∷ zs) P Q i d w e (Lone x) k t at =
       branch (is_assign t) _ _ _
       (λ h. let y = lone_conditional d w k in (y.0, t, P, y.1, h, (λ r. e (t ∷ r) ∙ ap (λ (z : Conditional). P (conditional_tokens z (t ∷ r))) y.2), i))
       (λ h. assignment_given zs P Q i (Value d) w e (Lone x) k t at)
   conditional_given (s.Assigns f ∷ zs) P Q i d w e (Whole x) k t at = assignment_given zs P Q i (Value d) w e (Whole _) k t at
-  conditional_given (s.ChoiceElse f parts next ∷ zs) P Q i d w e v k t at = conditional_given zs i.2 Q i.6 (Choose i.0 i.1 d) (i.3, i.4, w) (λ r. e r ∙ i.5 (conditional_tokens d r)) (Whole _) refl t at
+  conditional_given (s.ChoiceElse f parts next ∷ zs) P Q i d w e v k t at =
+      conditional_given zs i.2 Q i.6 (Choose i.0 i.1 d) (i.3, i.4, w) (λ r. e r ∙ i.5 (conditional_tokens d r)) (Whole _) refl t at
   conditional_given (s.Whole full.Conditional start ∷ zs) P Q i d w e v k t at = value_given zs (Of full.Conditional) P Q i d w e _ t at (λ q. refl)
   conditional_given [] P Q i d w e v k t at = absurd i
   conditional_given (_ ∷ zs) P Q i d w e v k t at = absurd i
 
-  assignment_given : (zs : Frames) (P Q : Front) → AssignmentNext zs P → (a : Assignment) → FitsAssignment a → ((r : List Class) → Q r ≡ P (assignment_tokens a r)) → (v : Found) → Looks v (is_lone_assignment a) → (t : Class) (at : ℕ) → Goes (give zs v t at) (λ r. Q (t ∷ r))
-  assignment_given (s.AssignsTo f parts next ∷ zs) P Q i a w e v k t at = assignment_given zs i.2 Q i.6 (To i.0 i.1 a) (i.3, i.4, w) (λ r. e r ∙ i.5 (assignment_tokens a r)) (Whole _) refl t at
+  assignment_given : (zs : Frames) (P Q : Front) → AssignmentNext zs P → (a : Assignment) → FitsAssignment a →
+      ((r : List Class) → Q r ≡ P (assignment_tokens a r)) → (v : Found) → Looks v (is_lone_assignment a) → (t : Class) (at : ℕ) →
+      Goes (give zs v t at) (λ r. Q (t ∷ r))
+  assignment_given (s.AssignsTo f parts next ∷ zs) P Q i a w e v k t at =
+      assignment_given zs i.2 Q i.6 (To i.0 i.1 a) (i.3, i.4, w) (λ r. e r ∙ i.5 (assignment_tokens a r)) (Whole _) refl t at
   assignment_given (s.Commas f z [] ∷ zs) P Q i a w e v k t at =
       branch (is_comma t) _ _ _
-      (λ h. ((λ x. More a x), P, (λ x y. ((w, y), refl)), (λ x r. seen Q (λ q. P (assignment_tokens a q)) e t c.Comma (comma_is t h) (expression_tokens x r)), i))
+      (λ h. (
+        (λ x. More a x),
+        P,
+        (λ x y. ((w, y), refl)),
+        (λ x r. seen Q (λ q. P (assignment_tokens a q)) e t c.Comma (comma_is t h)
+            (expression_tokens x r)),
+        i,
+      ))
       (λ h. expression_given zs P Q i (One a) w e (commas f z at [] v) (looks_commas v f z at (is_lone_assignment a) k) t at)
   assignment_given (s.Commas f z (y ∷ parts) ∷ zs) P Q i a w e v k t at =
       branch (is_comma t) _ _ _
-      (λ h. ((λ x. i.0 (More a x)), i.1, (λ x y. i.2 (More a x) (w, y)), (λ x r. seen Q (λ q. P (assignment_tokens a q)) e t c.Comma (comma_is t h) (expression_tokens x r) ∙ i.3 (More a x) r), i.4))
+      (λ h. (
+        (λ x. i.0 (More a x)),
+        i.1,
+        (λ x y. i.2 (More a x) (w, y)),
+        (λ x r. seen Q (λ q. P (assignment_tokens a q)) e t c.Comma (comma_is t h) (expression_tokens x r) ∙ i.3 (More a x) r),
+        i.4,
+      ))
       (λ h. expression_given zs i.1 Q i.4 (i.0 (One a)) (i.2 (One a) w).0 (λ r. e r ∙ i.3 (One a) r) (Whole _) (i.2 (One a) w).1 t at)
   assignment_given (s.ArgumentSeen f ∷ zs) P Q i a w e v k t at = argument_given zs P Q i (Given a) w e _ t at
   assignment_given (s.Whole full.Assignment start ∷ zs) P Q i a w e v k t at = value_given zs (Of full.Assignment) P Q i a w e _ t at (λ q. refl)
   assignment_given [] P Q i a w e v k t at = absurd i
   assignment_given (_ ∷ zs) P Q i a w e v k t at = absurd i
 
-  expression_given : (zs : Frames) (P Q : Front) → ExpressionNext zs P → (x : Expression) → FitsExpression x → ((r : List Class) → Q r ≡ P (expression_tokens x r)) → (v : Found) → Looks v (is_lone x) → (t : Class) (at : ℕ) → Goes (give zs v t at) (λ r. Q (t ∷ r))
+  expression_given : (zs : Frames) (P Q : Front) → ExpressionNext zs P → (x : Expression) → FitsExpression x →
+      ((r : List Class) → Q r ≡ P (expression_tokens x r)) → (v : Found) → Looks v (is_lone x) → (t : Class) (at : ℕ) → Goes (give zs v t at) (λ r. Q (t ∷ r))
   expression_given (s.Indexed f parts next ∷ zs) P Q i x w e v k t at =
-      branch (is_close_index t) _ _ _ (λ h. (Cell x, i.0, w, (λ r. seen Q (λ q. P (expression_tokens x q)) e t c.CloseIndex (close_index_is t h) r ∙ i.1 (expression_tokens x (c.CloseIndex ∷ r))), i.2)) (λ h. tt)
+      branch (is_close_index t) _ _ _ (λ h. (
+        Cell x,
+        i.0,
+        w,
+        (λ r. seen Q (λ q. P (expression_tokens x q)) e t c.CloseIndex (close_index_is t h) r ∙
+            i.1 (expression_tokens x (c.CloseIndex ∷ r))),
+        i.2,
+      )) (λ h. tt)
   expression_given (s.Bracketed f bracket next ∷ zs) P Q i x w e (Lone y) k t at =
       branch (is_close t) _ _ _
-      (λ h. let z = lone_expression x w k in
-      (Round z.0, i.0, z.1, (λ r. seen Q (λ q. P (expression_tokens x q)) e t c.Close (close_is t h) r ∙ i.1 (expression_tokens x (c.Close ∷ r)) ∙ ap (λ (n : Expression). i.0 (c.Open ∷ expression_tokens n (c.Close ∷ r))) z.2), i.3))
+      (λ h. let z = lone_expression x w k in (
+        Round z.0,
+        i.0,
+        z.1,
+        (λ r. seen Q (λ q. P (expression_tokens x q)) e t c.Close (close_is t h) r ∙ i.1 (expression_tokens x (c.Close ∷ r)) ∙
+            ap (λ (n : Expression). i.0 (c.Open ∷ expression_tokens n (c.Close ∷ r))) z.2),
+        i.3,
+      ))
       (λ h. tt)
   expression_given (s.Bracketed f bracket next ∷ zs) P Q i x w e (Whole y) k t at =
-      branch (is_close t) _ _ _ (λ h. (Within x, i.0, (k, w), refl, (λ r. seen Q (λ q. P (expression_tokens x q)) e t c.Close (close_is t h) r ∙ i.1 (expression_tokens x (c.Close ∷ r))), i.2)) (λ h. tt)
+      branch (is_close t) _ _ _ (λ h. (
+        Within x,
+        i.0,
+        (k, w),
+        refl,
+        (λ r. seen Q (λ q. P (expression_tokens x q)) e t c.Close (close_is t h) r ∙ i.1 (expression_tokens x (c.Close ∷ r))),
+        i.2,
+      )) (λ h. tt)
   expression_given (s.ChoiceThen f test question next ∷ zs) P Q i x w e v k t at =
-      branch (is_colon t) _ _ _ (λ h. (i.0, x, i.1, i.2, w, (λ r. seen Q (λ q. P (expression_tokens x q)) e t c.Colon (colon_is t h) r ∙ i.3 (expression_tokens x (c.Colon ∷ r))), i.4)) (λ h. tt)
+      branch (is_colon t) _ _ _ (λ h. (
+        i.0,
+        x,
+        i.1,
+        i.2,
+        w,
+        (λ r. seen Q (λ q. P (expression_tokens x q)) e t c.Colon (colon_is t h) r ∙
+            i.3 (expression_tokens x (c.Colon ∷ r))),
+        i.4,
+      )) (λ h. tt)
   expression_given (s.Whole full.Expression start ∷ zs) P Q i x w e v k t at = value_given zs (Of full.Expression) P Q i x w e _ t at (λ q. refl)
   expression_given [] P Q i x w e v k t at = absurd i
   expression_given (_ ∷ zs) P Q i x w e v k t at = absurd i
 
-  argument_given : (zs : Frames) (P Q : Front) → ArgumentNext zs P → (x : Argument) → FitsArgument x → ((r : List Class) → Q r ≡ P (argument_tokens x r)) → (y : Syntax) (t : Class) (at : ℕ) → Goes (give zs (Whole y) t at) (λ r. Q (t ∷ r))
+  argument_given : (zs : Frames) (P Q : Front) → ArgumentNext zs P → (x : Argument) → FitsArgument x →
+      ((r : List Class) → Q r ≡ P (argument_tokens x r)) → (y : Syntax) (t : Class) (at : ℕ) → Goes (give zs (Whole y) t at) (λ r. Q (t ∷ r))
   argument_given (s.Arguments f parts ∷ zs) P Q i x w e y t at =
       branch (is_comma t) _ _ _
-      (λ h. ((λ z. i.0 (Then x z)), i.1, (λ z n. i.2 (Then x z) (w, n)), (λ z r. seen Q (λ q. P (argument_tokens x q)) e t c.Comma (comma_is t h) (arguments_tokens z r) ∙ i.3 (Then x z) r), i.4))
+      (λ h. (
+        (λ z. i.0 (Then x z)),
+        i.1,
+        (λ z n. i.2 (Then x z) (w, n)),
+        (λ z r. seen Q (λ q. P (argument_tokens x q)) e t c.Comma (comma_is t h) (arguments_tokens z r) ∙ i.3 (Then x z) r),
+        i.4,
+      ))
       (λ h. branch (is_close t) _ _ _
-      (λ q. (CallWith (i.0 (Last x)), i.1, i.2 (Last x) w, refl, (λ r. seen Q (λ z. P (argument_tokens x z)) e t c.Close (close_is t q) r ∙ i.3 (Last x) (c.Close ∷ r)), i.4))
+      (λ q. (
+        CallWith (i.0 (Last x)),
+        i.1,
+        i.2 (Last x) w,
+        refl,
+        (λ r. seen Q (λ z. P (argument_tokens x z)) e t c.Close (close_is t q) r ∙ i.3 (Last x) (c.Close ∷ r)),
+        i.4,
+      ))
       (λ q. tt))
   argument_given [] P Q i x w e y t at = absurd i
   argument_given (_ ∷ zs) P Q i x w e y t at = absurd i
 
-  value_given : (zs : Frames) (x : Got) (P Q : Front) → ValueNext zs x P → (a : GotValue x) → FitsGot x a → ((r : List Class) → Q r ≡ P (got_tokens x a r)) → (y : Syntax) (t : Class) (at : ℕ) → Calm (is_got_open x a) t → Goes (give zs (Whole y) t at) (λ r. Q (t ∷ r))
+  value_given : (zs : Frames) (x : Got) (P Q : Front) → ValueNext zs x P → (a : GotValue x) → FitsGot x a →
+      ((r : List Class) → Q r ≡ P (got_tokens x a r)) → (y : Syntax) (t : Class) (at : ℕ) → Calm (is_got_open x a) t →
+      Goes (give zs (Whole y) t at) (λ r. Q (t ∷ r))
   value_given (s.Rest form ∷ zs) x P Q i a w e y t at k =
       feeds form.rule form.first form.level (form.parts ++ y ∷ []) form.todo zs t at (λ v. give zs (Whole v) t at) (is_got_open x a) Q
       ((λ v. i.0 a v), i.1, (λ v u. i.2 a v w u), (λ v r. e (wants_tokens form.todo v r) ∙ i.3 a v r), (λ v. i.4 a v), i.5) k
       (λ v P0 b fits calm eq j. value_given zs (Node form.rule) P0 Q j b fits eq v t at calm)
-  value_given (s.CastType f bracket ∷ zs) (Node p.NumberType) P Q i a w e y t at k = type_end_kept f bracket y zs Q i.0 (Some a) (λ r. e r ∙ i.1 (type_tokens a r)) i.2 t at
+  value_given (s.CastType f bracket ∷ zs) (Node p.NumberType) P Q i a w e y t at k =
+      type_end_kept f bracket y zs Q i.0 (Some a) (λ r. e r ∙ i.1 (type_tokens a r)) i.2 t at
   value_given (s.TopType first parts start ∷ zs) (Node p.NumberType) P Q i a w e y t at k =
-      branch (same c.Name t) _ _ _ (λ h. (i.0, a, i.1, (λ r. put Q t c.Name (same_is c.Name t h) r ∙ e (c.Name ∷ r) ∙ i.2 (type_tokens a (c.Name ∷ r))), i.3, i.4)) (λ h. tt)
+      branch (same c.Name t) _ _ _ (λ h.
+      (i.0, a, i.1, (λ r. put Q t c.Name (same_is c.Name t h) r ∙ e (c.Name ∷ r) ∙ i.2 (type_tokens a (c.Name ∷ r))), i.3, i.4)) (λ h. tt)
   value_given (s.Tops parts ∷ []) (Node p.Enum) P Q i a w e y t at k = top_kept (parts ++ y ∷ []) Q (one_more P Q i (OfEnum a) w e) t at
   value_given (s.Tops parts ∷ []) (Node p.Declaration) P Q i a w e y t at k = top_kept (parts ++ y ∷ []) Q (one_more P Q i (OfDeclaration a) w e) t at
   value_given (s.Tops parts ∷ []) (Node p.Function) P Q i a w e y t at k = top_kept (parts ++ y ∷ []) Q (one_more P Q i (OfFunction a) w e) t at
   value_given [] x P Q i a w e y t at k = absurd i
   value_given (_ ∷ zs) x P Q i a w e y t at k = absurd i
 
-index_kept : (f : ℕ) (name : Syntax) (zs : Frames) (P P0 : Front) → ((r : List Class) → P r ≡ P0 (c.Name ∷ r)) → TargetNext zs P0 → (t : Class) (at : ℕ) → Goes (at_index f name zs t at) (λ r. P (t ∷ r))
+index_kept : (f : ℕ) (name : Syntax) (zs : Frames) (P P0 : Front) → ((r : List Class) → P r ≡ P0 (c.Name ∷ r)) → TargetNext zs P0 →
+    (t : Class) (at : ℕ) → Goes (at_index f name zs t at) (λ r. P (t ∷ r))
 index_kept f name zs P P0 e j t at =
-    branch (is_open_index t) _ _ _ (λ q. (P0, seen P (λ r. P0 (c.Name ∷ r)) e t c.OpenIndex (open_index_is t q), j)) (λ q. target_given zs P0 P j Variable tt e _ t at)
+    branch (is_open_index t) _ _ _ (λ q. (P0, seen P (λ r. P0 (c.Name ∷ r)) e t c.OpenIndex (open_index_is t q), j))
+    (λ q. target_given zs P0 P j Variable tt e _ t at)
 
-named_kept : (f : ℕ) (name : Syntax) (zs : Frames) (P P0 : Front) → ((r : List Class) → P r ≡ P0 (c.Name ∷ r)) → UnaryNext zs P0 → TargetNext zs P0 → (t : Class) (at : ℕ) → Goes (at_named f name zs t at) (λ r. P (t ∷ r))
+named_kept : (f : ℕ) (name : Syntax) (zs : Frames) (P P0 : Front) → ((r : List Class) → P r ≡ P0 (c.Name ∷ r)) → UnaryNext zs P0 → TargetNext zs P0 →
+    (t : Class) (at : ℕ) → Goes (at_named f name zs t at) (λ r. P (t ∷ r))
 named_kept f name zs P P0 e i j t at =
     branch (is_open t) _ _ _ (λ h. (P0, seen P (λ r. P0 (c.Name ∷ r)) e t c.Open (open_is t h), i)) (λ h. index_kept f name zs P P0 e j t at)
 
@@ -257,7 +358,13 @@ keeps (s.Called f name bracket ∷ zs) P i t at =
     branch (is_close t) _ _ _ (λ h. (CallNone, i.0, tt, refl, seen P (λ r. i.0 (c.Name ∷ c.Open ∷ r)) i.1 t c.Close (close_is t h), i.2))
     (λ h. argument_kept (s.Arguments f _ ∷ zs) P ((λ x. x), i.0, (λ x w. w), (λ x r. i.1 (arguments_tokens x r)), i.2) t at)
 keeps (s.Texts f parts ∷ zs) P i t at =
-    branch (is_text t) _ _ _ (λ h. (MoreTexts i.0, i.1, (λ r. seen P (λ q. i.1 (texts_tokens i.0 q)) i.2 t c.Text (text_is t h) r ∙ ap i.1 (texts_more i.0 r)), i.3))
+    branch (is_text t) _ _ _ (λ h. (
+      MoreTexts i.0,
+      i.1,
+      (λ r. seen P (λ q. i.1 (texts_tokens i.0 q)) i.2 t c.Text (text_is t h) r ∙
+          ap i.1 (texts_more i.0 r)),
+      i.3,
+    ))
     (λ h. argument_given zs i.1 P i.3 (Written i.0) tt i.2 _ t at)
 keeps (s.Done (Lone v) ∷ zs) P i t at = target_given zs i.1 P i.4 i.0 i.2 i.3 v t at
 keeps (s.Done (Whole v) ∷ zs) P i t at = unary_given zs i.1 P i.5 i.0 i.2 i.4 (Whole v) i.3 t at
@@ -266,13 +373,15 @@ keeps (s.Rest form ∷ zs) P i t at =
     (λ v P0 b fits calm eq j. value_given zs (Node form.rule) P0 P j b fits eq v t at calm)
 keeps (s.LabelOrName name mark form ∷ zs) P i t at =
     branch (same c.Colon t) _ _ _ (λ h. named_label form zs i.0 _ i.2 (λ r. put P t c.Colon (same_is c.Colon t h) r ∙ i.1 (c.Colon ∷ r)))
-    (λ h. named_kept name mark (s.Post name ∷ s.Operand name ∷ s.Choice name ∷ s.Assigns name ∷ s.Commas name name [] ∷ s.Whole full.Expression name ∷ rest p.Plain name form.level [] (want.Token c.Semicolon ∷ []) ∷ s.Rest form ∷ zs) P i.0 i.1
+    (λ h. named_kept name mark (s.Post name ∷ s.Operand name ∷ s.Choice name ∷ s.Assigns name ∷ s.Commas name name [] ∷ s.Whole full.Expression
+    name ∷ rest p.Plain name form.level [] (want.Token c.Semicolon ∷ []) ∷ s.Rest form ∷ zs) P i.0 i.1
     (named_statement form zs i.0 i.2) (named_statement form zs i.0 i.2) t at)
 keeps (s.External first parts ∷ zs) P i t at = external_kept first parts i.0 zs i.1 P i.2 i.3 i.4 t at
 keeps (s.TopName first parts start type name mark ∷ zs) P i t at =
     branch (same c.Open t) _ _ _
     (λ h. ((λ v. Defined i.0 (Some i.1) v.0 v.1.1.0), i.2, (λ v u. (u.0, u.1.1.0)), (λ v r. put P t c.Open (same_is c.Open t h) _ ∙ i.3 _), (λ v. refl), i.5))
-    (λ h. feeds p.Declarator name 0 (mark ∷ []) (want.Optional lead.Size ∷ want.Optional lead.Value ∷ []) (declared first parts start type zs) t at (λ v. give (declared first parts start type zs) (Whole v) t at) false P (
+    (λ h. feeds p.Declarator name 0 (mark ∷ []) (want.Optional lead.Size ∷ want.Optional lead.Value ∷ []) (declared first parts start type zs) t at
+    (λ v. give (declared first parts start type zs) (Whole v) t at) false P (
       (λ v. Declared v.0 v.1.0),
       (λ r. i.2 (word_tokens c.Static i.0 (type_tokens i.1 r))),
       (λ v u. (u.0, u.1.0)),

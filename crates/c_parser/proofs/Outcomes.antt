@@ -59,7 +59,8 @@ taken_behind z at q P t l y e ts x k =
       ready = k.ready;
     }
 
-halted_behind : (F : Frames → List Event → Class → Type 0) (z : Frames) (at : ℕ) (q : List Event) (P : Front) (t : Class) (l : Load) (y : Frames) → step z t at ≡ Takes l y
+halted_behind : (F : Frames → List Event → Class → Type 0) (z : Frames) (at : ℕ) (q : List Event) (P : Front) (t : Class) (l : Load) (y : Frames) →
+    step z t at ≡ Takes l y
     → (ts : List Class) (k : ℕ) → Halted F y (at + 1) (noted l q) (λ r. P (t ∷ r)) ts k → Halted F z at q P (t ∷ ts) k
 halted_behind F z at q P t l y e ts k h =
     record {
@@ -83,12 +84,14 @@ abbrev taken_none : (z : Frames) (at : ℕ) (q : List Event) (P : Front) → fir
 taken_none z at q P h n i = record { events = q; through = refl; within = h; number = omega (arith, n); ready = i }
 
 -- what each run has done
-pub outcome : (ts : List Class) (z : Frames) (at : ℕ) (q : List Event) (P : Front) → first_over q ≡ None → number_of q ≡ at → Ready z P → Outcome z at q P ts (run z (count_of q) at ts)
+pub outcome : (ts : List Class) (z : Frames) (at : ℕ) (q : List Event) (P : Front) → first_over q ≡ None → number_of q ≡ at → Ready z P →
+    Outcome z at q P ts (run z (count_of q) at ts)
 outcome [] z at q P h n i = taken_none z at q P h n i
 outcome (t ∷ ts) z at q P h n i = go (step z t at) refl (keeps z P i t at) (λ y a. outcome ts y (at + 1) a (λ r. P (t ∷ r)))
   where
     deeper : (l : Load) (y : Frames) → step z t at ≡ Takes l y → Ready y (λ r. P (t ∷ r))
-        → ((y : Frames) (a : List Event) → first_over a ≡ None → number_of a ≡ at + 1 → Ready y (λ r. P (t ∷ r)) → Outcome y (at + 1) a (λ r. P (t ∷ r)) ts (run y (count_of a) (at + 1) ts))
+        → ((y : Frames) (a : List Event) → first_over a ≡ None → number_of a ≡ at + 1 → Ready y (λ r. P (t ∷ r)) →
+        Outcome y (at + 1) a (λ r. P (t ∷ r)) ts (run y (count_of a) (at + 1) ts))
         → (b : Bool) → is_over l (count_of q) ≡ b → Outcome z at q P (t ∷ ts) (cond b (TooMany at) (run y (count_behind l.role (count_of q)) (at + 1) ts))
     deeper l y e g f true b =
         record {
@@ -107,7 +110,8 @@ outcome (t ∷ ts) z at q P h n i = go (step z t at) refl (keeps z P i t at) (λ
         subst (λ (x : ℕ). Outcome z at q P (t ∷ ts) (run y x (at + 1) ts)) (count_noted l q) (outcome_behind z at q P t l y e ts _ (f y (noted l q) w m g))
 
     go : (x : Next) → step z t at ≡ x → Goes x (λ r. P (t ∷ r))
-        → ((y : Frames) (a : List Event) → first_over a ≡ None → number_of a ≡ at + 1 → Ready y (λ r. P (t ∷ r)) → Outcome y (at + 1) a (λ r. P (t ∷ r)) ts (run y (count_of a) (at + 1) ts))
+        → ((y : Frames) (a : List Event) → first_over a ≡ None → number_of a ≡ at + 1 → Ready y (λ r. P (t ∷ r)) →
+        Outcome y (at + 1) a (λ r. P (t ∷ r)) ts (run y (count_of a) (at + 1) ts))
         → Outcome z at q P (t ∷ ts) (go_on x at (count_of q) (λ y m. run y m (at + 1) ts))
     go Fails e g f =
         record {

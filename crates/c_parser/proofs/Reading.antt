@@ -35,7 +35,8 @@ pub reads : (text : List ℕ) (tokens : List Token) (result : Result Syntax Read
 reads text tokens result g = by_outcome (run start 0 0 (classes_of text tokens ++ c.End ∷ [])) (says (classes_of text tokens)) result g
   where
     by_outcome : (o : Ran) → Says (classes_of text tokens) o → (r : Result Syntax ReadStop) → Gives (λ x. x) r (answer text tokens o) → Reads text tokens r
-    by_outcome (Left z) i (Ok x) g = subst (λ (y : Syntax). Derives (classes_of text tokens) y) (same_syntax (whole text (accepted z)) i.0 x (whole_of text z i.0 i.1) g) i.2
+    by_outcome (Left z) i (Ok x) g = subst (λ (y : Syntax). Derives (classes_of text tokens) y)
+        (same_syntax (whole text (accepted z)) i.0 x (whole_of text z i.0 i.1) g) i.2
     by_outcome (Left z) i (Err (stops.Refused y)) g = absurd (not_both (whole text (accepted z)) i.0 y (whole_of text z i.0 i.1) g)
     by_outcome (Unexpected k) i (Ok x) g = absurd (not_both (answer text tokens (Unexpected k)) x (refusal_of 10 text (offset_of text tokens k)) g refl)
     by_outcome (Unexpected k) i (Err (stops.Refused y)) g =

@@ -31,37 +31,44 @@ offset_at_end text (x ∷ tokens) = offset_at_end text tokens
 
 -- ---- the run, in front of token i
 
-stops_by : (stop : ReadStop) (refusal : Refusal) (text : List ℕ) (tokens : List Token) → stop ≡ stops.Refused refusal → parsed text tokens ≡ Err refusal → Stops stop (parsed text tokens)
+stops_by : (stop : ReadStop) (refusal : Refusal) (text : List ℕ) (tokens : List Token) → stop ≡ stops.Refused refusal →
+    parsed text tokens ≡ Err refusal → Stops stop (parsed text tokens)
 stops_by stop refusal text tokens e h = subst (λ x. Stops x (parsed text tokens)) (sym e) h
 
 -- the answer to what is left of the tokens is that to all of them
 abbrev pub Goes : List ℕ → List Token → Frames → ℕ → ℕ → Type 0
 Goes text tokens z n i = parsed text tokens ≡ answer text tokens (run z n i (classes_of text (drop i tokens) ++ c.End ∷ []))
 
-goes_at : (text : List ℕ) (tokens : List Token) (z : Frames) (n i : ℕ) (d : Token) (t : Class) → i < length tokens → t ≡ class_of text (get_or tokens i d) → Goes text tokens z n i
+goes_at : (text : List ℕ) (tokens : List Token) (z : Frames) (n i : ℕ) (d : Token) (t : Class) → i < length tokens →
+    t ≡ class_of text (get_or tokens i d) → Goes text tokens z n i
     → parsed text tokens ≡ answer text tokens (go_on (step z t i) i n (λ x m. run x m (i + 1) (classes_of text (drop (i + 1) tokens) ++ c.End ∷ [])))
 goes_at text tokens z n i d t h e goes =
     goes
     ∙ at_drop_more (λ l. answer text tokens (run z n i (classes_of text l ++ c.End ∷ []))) tokens i d h
     ∙ ap (λ (x : Class). answer text tokens (go_on (step z x i) i n (λ x m. run x m (i + 1) (classes_of text (drop (i + 1) tokens) ++ c.End ∷ [])))) (sym e)
 
-pub stops_unexpected : (text : List ℕ) (tokens : List Token) (z : Frames) (n i : ℕ) (d : Token) (t : Class) → i < length tokens → t ≡ class_of text (get_or tokens i d) → Goes text tokens z n i
+pub stops_unexpected : (text : List ℕ) (tokens : List Token) (z : Frames) (n i : ℕ) (d : Token) (t : Class) → i < length tokens →
+    t ≡ class_of text (get_or tokens i d) → Goes text tokens z n i
     → (o : Option Load) (w : Frames) → Steps (step z t i) (Ok o) w → o ≡ None
     → (stop : ReadStop) → stop ≡ stops.Refused (refusal_of 10 text (get_or tokens i d).start) → Stops stop (parsed text tokens)
 stops_unexpected text tokens z n i d t h e goes o w steps is stop by =
     stops_by stop _ text tokens by
     (goes_at text tokens z n i d t h e goes
-    ∙ ap (λ (x : Next). answer text tokens (go_on x i n (λ x m. run x m (i + 1) (classes_of text (drop (i + 1) tokens) ++ c.End ∷ [])))) (steps_failed _ o w steps is)
+    ∙ ap (λ (x : Next). answer text tokens (go_on x i n (λ x m. run x m (i + 1) (classes_of text (drop (i + 1) tokens) ++ c.End ∷ []))))
+    (steps_failed _ o w steps is)
     ∙ ap (λ (k : ℕ). Err (refusal_of 10 text k)) (offset_at text tokens i d h))
 
-pub stops_over : (text : List ℕ) (tokens : List Token) (z : Frames) (n i : ℕ) (d : Token) (t : Class) → i < length tokens → t ≡ class_of text (get_or tokens i d) → Goes text tokens z n i
+pub stops_over : (text : List ℕ) (tokens : List Token) (z : Frames) (n i : ℕ) (d : Token) (t : Class) → i < length tokens →
+    t ≡ class_of text (get_or tokens i d) → Goes text tokens z n i
     → (o : Option Load) (w : Frames) → Steps (step z t i) (Ok o) w → (l : Load) → o ≡ Some l → is_over l n ≡ true
     → (stop : ReadStop) → stop ≡ stops.Refused (refusal_of 11 text (get_or tokens i d).start) → Stops stop (parsed text tokens)
 stops_over text tokens z n i d t h e goes o w steps l is over stop by =
     stops_by stop _ text tokens by
     (goes_at text tokens z n i d t h e goes
-    ∙ ap (λ (x : Next). answer text tokens (go_on x i n (λ x m. run x m (i + 1) (classes_of text (drop (i + 1) tokens) ++ c.End ∷ [])))) (steps_taken _ o l w steps is)
-    ∙ ap (λ (b : Bool). answer text tokens (cond b (TooMany i) (run w (count_behind l.role n) (i + 1) (classes_of text (drop (i + 1) tokens) ++ c.End ∷ [])))) over
+    ∙ ap (λ (x : Next). answer text tokens (go_on x i n (λ x m. run x m (i + 1) (classes_of text (drop (i + 1) tokens) ++ c.End ∷ []))))
+    (steps_taken _ o l w steps is)
+    ∙ ap (λ (b : Bool). answer text tokens
+    (cond b (TooMany i) (run w (count_behind l.role n) (i + 1) (classes_of text (drop (i + 1) tokens) ++ c.End ∷ [])))) over
     ∙ ap (λ (k : ℕ). Err (refusal_of 11 text k)) (offset_at text tokens i d h))
 
 -- ---- the run, in front of the end

@@ -68,19 +68,22 @@ over_stays l q k h = by_role l.role l.opens q (λ n. by_opens n q h)
     by_opens None q h = h
     by_opens (Some n) q h = ap (λ o. earlier o (over (Opened n) q)) h
 
-    by_role : (x : Role) (n : Option ℕ) (q : List Event) → ((n : Option ℕ) → first_over (opened_event n q) ≡ Some k) → first_over (token_event x ∷ opened_event n q) ≡ Some k
+    by_role : (x : Role) (n : Option ℕ) (q : List Event) → ((n : Option ℕ) → first_over (opened_event n q) ≡ Some k) →
+        first_over (token_event x ∷ opened_event n q) ≡ Some k
     by_role x n q h = ap (λ o. earlier o (over (token_event x) (opened_event n q))) (h n)
 
 -- a token goes over a limit exactly if the run says so
 pub over_noted : (l : Load) (q : List Event) → first_over q ≡ None → first_over (noted l q) ≡ cond (is_over l (count_of q)) (Some (number_of q)) None
 over_noted l q h = go l.opens l.role
   where
-    shallow : (o : Option ℕ) (x : Role) → o ≡ None → (n : ℕ) (m : ℕ) → earlier o (over (token_event x) q) ≡ cond (is_long x (count_of q)) (Some (number_of q)) None
+    shallow : (o : Option ℕ) (x : Role) → o ≡ None → (n : ℕ) (m : ℕ) →
+        earlier o (over (token_event x) q) ≡ cond (is_long x (count_of q)) (Some (number_of q)) None
     shallow o role.Counted e n m = ap (λ a. earlier a (over Counted q)) e
     shallow o role.Uncounted e n m = ap (λ a. earlier a None) e
     shallow o role.Outside e n m = ap (λ a. earlier a None) e
 
-    deep : (b : Bool) (n : ℕ) (x : Role) (o : Option ℕ) → o ≡ None → earlier (earlier o (cond b (Some (number_of q)) None)) (over (token_event x) (Opened n ∷ q)) ≡ cond (b || is_long x (count_of q)) (Some (number_of q)) None
+    deep : (b : Bool) (n : ℕ) (x : Role) (o : Option ℕ) → o ≡ None → earlier (earlier o (cond b (Some (number_of q)) None))
+        (over (token_event x) (Opened n ∷ q)) ≡ cond (b || is_long x (count_of q)) (Some (number_of q)) None
     deep true n x o e = ap (λ a. earlier (earlier a (Some (number_of q))) (over (token_event x) (Opened n ∷ q))) e
     deep false n role.Counted o e = ap (λ a. earlier (earlier a None) (over Counted (Opened n ∷ q))) e
     deep false n role.Uncounted o e = ap (λ a. earlier (earlier a None) None) e
@@ -108,7 +111,8 @@ pub record Halves (z : Frames) (at : ℕ) (front more : List Class) (q : List Ev
   pub first : logged z at front q ≡ Through middle events
   pub second : logged middle (place_behind at front) more events ≡ Through x e
 
-pub halves : (front more : List Class) (z : Frames) (at : ℕ) (q : List Event) (x : Frames) (e : List Event) → logged z at (front ++ more) q ≡ Through x e → Halves z at front more q x e
+pub halves : (front more : List Class) (z : Frames) (at : ℕ) (q : List Event) (x : Frames) (e : List Event) →
+    logged z at (front ++ more) q ≡ Through x e → Halves z at front more q x e
 halves [] more z at q x e h = record { middle = z; events = q; first = refl; second = h }
 halves (t ∷ front) more z at q x e h = go (step z t at) refl (λ y a. halves front more y (at + 1) a x e) h
   where
@@ -117,9 +121,15 @@ halves (t ∷ front) more z at q x e h = go (step z t at) refl (λ y a. halves f
     go Fails s f g = absurd cc
     go (Takes l y) s f g =
         let k = f y (noted l q) g in
-        record { middle = k.middle; events = k.events; first = ap (λ (n : Next). log_on n at q (λ y a. logged y (at + 1) front a)) s ∙ k.first; second = k.second }
+        record {
+          middle = k.middle;
+          events = k.events;
+          first = ap (λ (n : Next). log_on n at q (λ y a. logged y (at + 1) front a)) s ∙ k.first;
+          second = k.second;
+        }
 
-pub stays : (ts : List Class) (z : Frames) (at k : ℕ) (q : List Event) (x : Frames) (e : List Event) → first_over q ≡ Some k → logged z at ts q ≡ Through x e → first_over e ≡ Some k
+pub stays : (ts : List Class) (z : Frames) (at k : ℕ) (q : List Event) (x : Frames) (e : List Event) → first_over q ≡ Some k →
+    logged z at ts q ≡ Through x e → first_over e ≡ Some k
 stays [] z at k q x e o h = go q o h
   where
     go : (a : List Event) → first_over a ≡ Some k → Through z a ≡ Through x e → first_over e ≡ Some k

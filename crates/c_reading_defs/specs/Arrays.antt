@@ -24,4 +24,5 @@ pub data ArrayBreaks (typing : Typing) (env : Env) (local : Bool) : Size → Ini
   -- a variable that is no array
   list_of_number : {ts : List Term} → ArrayBreaks typing env local NoSize (ValueList ts)
   more_values : {size : Size} {ts : List Term} (n : ℕ) → HasCells typing env size ts n → n < length ts → ArrayBreaks typing env local size (ValueList ts)
-  long_local : {size : Size} {ts : List Term} (n : ℕ) → local ≡ true → HasCells typing env size ts n → 1024 < n → ArrayBreaks typing env local size (ValueList ts)
+  long_local : {size : Size} {ts : List Term} (n : ℕ) → local ≡ true → HasCells typing env size ts n → 1024 < n →
+      ArrayBreaks typing env local size (ValueList ts)

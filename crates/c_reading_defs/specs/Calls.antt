@@ -30,11 +30,15 @@ WantsNumber _ = Unit {0}
 pub data ArgumentBreaks (env : Env) (x : Term) : Want → Fault → Type 0 where
   void_handed : {w : Want} (n : Node) → Means env x (Void n) → ArgumentBreaks env x w (broken (first_of x) 24)
   array_for_number : {w : Want} (a : ArrayName) → WantsNumber w → Means env x (Array a) → ArgumentBreaks env x w (broken (first_of x) 22)
-  number_for_array : {kind : IntKind} {constant external : Bool} (v : Valued) → Means env x (Value v) → ArgumentBreaks env x (want.Array kind constant external) (broken (first_of x) 22)
-  other_kind : {kind : IntKind} {constant external : Bool} (a : ArrayName) → Means env x (Array a) → a.kind ≢ kind → ArgumentBreaks env x (want.Array kind constant external) (broken (first_of x) 22)
-  const_handed : {kind : IntKind} {external : Bool} (a : ArrayName) → Means env x (Array a) → a.constant ≡ true → ArgumentBreaks env x (want.Array kind false external) (broken a.token 26)
+  number_for_array : {kind : IntKind} {constant external : Bool} (v : Valued) → Means env x (Value v) →
+      ArgumentBreaks env x (want.Array kind constant external) (broken (first_of x) 22)
+  other_kind : {kind : IntKind} {constant external : Bool} (a : ArrayName) → Means env x (Array a) → a.kind ≢ kind →
+      ArgumentBreaks env x (want.Array kind constant external) (broken (first_of x) 22)
+  const_handed : {kind : IntKind} {external : Bool} (a : ArrayName) → Means env x (Array a) → a.constant ≡ true →
+      ArgumentBreaks env x (want.Array kind false external) (broken a.token 26)
   -- to a function without a body in the file
-  array_given_away : {kind : IntKind} {constant : Bool} (a : ArrayName) → Means env x (Array a) → ArgumentBreaks env x (want.Array kind constant true) (broken (first_of x) 38)
+  array_given_away : {kind : IntKind} {constant : Bool} (a : ArrayName) → Means env x (Array a) →
+      ArgumentBreaks env x (want.Array kind constant true) (broken (first_of x) 38)
   -- for a conversion of `printf`
   other_size : {wide : Bool} (v : Valued) → Means env x (Value v) → is_wide v.kind ≢ wide → ArgumentBreaks env x (want.Sized wide) (broken (first_of x) 40)
 
@@ -68,10 +72,13 @@ pub data CalledBreaks (env : Env) (at : ℕ) : Binding → Terms → Fault → T
   -- the call fits, and an argument breaks a rule
   argument : {s : Signature} {xs : Terms} {v : Fault} → length s.wants ≡ count xs → SomeArgumentBreaks env s.wants xs v → CalledBreaks env at (Function s) xs v
   no_format : {xs : Terms} → HasNoFormat env xs → CalledBreaks env at Printf xs (broken at 40)
-  other_conversion : {f : Term} {xs : Terms} (bytes : List ℕ) → Means env f (Text bytes) → ((ws : List Want) → IsFormat bytes ws → ⊥) → CalledBreaks env at Printf (Then f xs) (broken at 40)
-  other_count : {f : Term} {xs : Terms} (bytes : List ℕ) (ws : List Want) → Means env f (Text bytes) → IsFormat bytes ws → length ws ≢ count xs → CalledBreaks env at Printf (Then f xs) (broken at 40)
+  other_conversion : {f : Term} {xs : Terms} (bytes : List ℕ) → Means env f (Text bytes) → ((ws : List Want) → IsFormat bytes ws → ⊥) →
+      CalledBreaks env at Printf (Then f xs) (broken at 40)
+  other_count : {f : Term} {xs : Terms} (bytes : List ℕ) (ws : List Want) → Means env f (Text bytes) → IsFormat bytes ws → length ws ≢ count xs →
+      CalledBreaks env at Printf (Then f xs) (broken at 40)
   -- an argument of `printf` breaks what its format wants
-  printed : {f : Term} {xs : Terms} {v : Fault} (bytes : List ℕ) (ws : List Want) → Means env f (Text bytes) → IsFormat bytes ws → length ws ≡ count xs → SomeArgumentBreaks env ws xs v
+  printed : {f : Term} {xs : Terms} {v : Fault} (bytes : List ℕ) (ws : List Want) → Means env f (Text bytes) → IsFormat bytes ws →
+      length ws ≡ count xs → SomeArgumentBreaks env ws xs v
       → CalledBreaks env at Printf (Then f xs) v
   text_printed : {f : Term} {xs : Terms} {v : Fault} → HasText env xs v → CalledBreaks env at Printf (Then f xs) v
 

@@ -37,7 +37,8 @@ pub data LocalBreaks (typing : Typing) (f : InFunction) (p : Place) (d : Declara
 
 -- at one name: its length, its declarator and its values
 abbrev pub DeclaratorBreaks : Typing → InFunction → Place → Declarator → Fault → Type 0
-DeclaratorBreaks typing f p d v = SizeBreaks (names_behind f p d.name) d.size v ⊎ (LocalBreaks typing f p d v ⊎ InitialiserBreaks (names f p) NeedsValue d.value v)
+DeclaratorBreaks typing f p d v = SizeBreaks (names_behind f p d.name) d.size v ⊎
+    (LocalBreaks typing f p d v ⊎ InitialiserBreaks (names f p) NeedsValue d.value v)
 
 abbrev pub DeclarationBreaks : Typing → InFunction → Place → Declaration → Fault → Type 0
 DeclarationBreaks typing f p d v = SomeOf (λ x. DeclaratorBreaks typing f p x v) d.names

@@ -16,7 +16,8 @@ pub data MayBe (k : Class) : List Symbol → Bool → Type 0 where
 -- { "," .. }
 pub data AreMore {W : Type 0} (Is : ℕ → List Symbol → W → Type 0) : ℕ → List Symbol → List W → Type 0 where
   none : {at : ℕ} → AreMore Is at [] []
-  more : {at : ℕ} {xs ys : List Symbol} {w : W} {ws : List W} → Is (at + 1) xs w → AreMore Is (token_behind (at + 1) xs) ys ws → AreMore Is at (Outside c.Comma ∷ xs ++ ys) (w ∷ ws)
+  more : {at : ℕ} {xs ys : List Symbol} {w : W} {ws : List W} → Is (at + 1) xs w → AreMore Is (token_behind (at + 1) xs) ys ws →
+      AreMore Is at (Outside c.Comma ∷ xs ++ ys) (w ∷ ws)
 
 -- .. { "," .. }
 pub data AreEach {W : Type 0} (Is : ℕ → List Symbol → W → Type 0) : ℕ → List Symbol → List W → Type 0 where
@@ -28,7 +29,8 @@ pub data AreEach {W : Type 0} (Is : ℕ → List Symbol → W → Type 0) : ℕ 
 pub data IsSize : ℕ → List Symbol → s.Size → Type 0 where
   no_size : {at : ℕ} → IsSize at [] s.NoSize
   unsized : {at : ℕ} → IsSize at (Outside c.OpenIndex ∷ Outside c.CloseIndex ∷ []) s.Unsized
-  sized : {at : ℕ} {xs : List Symbol} {f : Form} → IsConditional (at + 1) xs f → IsSize at (Outside c.OpenIndex ∷ xs ++ Outside c.CloseIndex ∷ []) (s.Sized (At (at + 1) f))
+  sized : {at : ℕ} {xs : List Symbol} {f : Form} → IsConditional (at + 1) xs f →
+      IsSize at (Outside c.OpenIndex ∷ xs ++ Outside c.CloseIndex ∷ []) (s.Sized (At (at + 1) f))
 
 pub data IsValue : ℕ → List Symbol → Term → Type 0 where
   value : {at : ℕ} {xs : List Symbol} {f : Form} → IsAssignment at xs f → IsValue at xs (At at f)
@@ -51,7 +53,8 @@ pub data IsDeclarator : ℕ → List Symbol → s.Declarator → Type 0 where
 
 -- local = [ "const" ] number-type declarator { "," declarator } ";"
 pub data IsDeclaration : ℕ → List Symbol → s.Declaration → Type 0 where
-  declares : {at : ℕ} {xs ys zs : List Symbol} {constant : Bool} {ds : List s.Declarator} → MayBe c.Const xs constant → IsType ys → AreEach IsDeclarator (token_behind (token_behind at xs) ys) zs ds
+  declares : {at : ℕ} {xs ys zs : List Symbol} {constant : Bool} {ds : List s.Declarator} → MayBe c.Const xs constant → IsType ys →
+      AreEach IsDeclarator (token_behind (token_behind at xs) ys) zs ds
       → IsDeclaration at (xs ++ ys ++ zs ++ Outside c.Semicolon ∷ []) (record { constant = constant; words = numbers_of (token_behind at xs) ys; names = ds })
 
 -- ---- statements
@@ -64,7 +67,8 @@ pub data IsOptional : ℕ → List Symbol → Option Term → Type 0 where
 -- label = name ":" | "case" conditional ":" | "default" ":"
 pub data IsLabel : ℕ → List Symbol → s.Label → Type 0 where
   named : {at : ℕ} → IsLabel at (Uncounted c.Name ∷ Outside c.Colon ∷ []) (s.Named at (at + 1 + 1))
-  case : {at : ℕ} {xs : List Symbol} {f : Form} → IsConditional (at + 1) xs f → IsLabel at (Outside c.Case ∷ xs ++ Outside c.Colon ∷ []) (s.Case at (token_behind (at + 1) xs + 1) (At (at + 1) f))
+  case : {at : ℕ} {xs : List Symbol} {f : Form} → IsConditional (at + 1) xs f →
+      IsLabel at (Outside c.Case ∷ xs ++ Outside c.Colon ∷ []) (s.Case at (token_behind (at + 1) xs + 1) (At (at + 1) f))
   default : {at : ℕ} → IsLabel at (Outside c.Default ∷ Outside c.Colon ∷ []) (s.Default at (at + 1 + 1))
 
 -- the first part of a `for`: local | [ expression ] ";"
@@ -75,7 +79,8 @@ pub data IsStart : ℕ → List Symbol → s.Start → Type 0 where
 
 -- an expression in brackets, behind a word
 pub data IsTested (k : Class) : ℕ → List Symbol → Term → Type 0 where
-  tested : {at : ℕ} {xs : List Symbol} {f : Form} → IsExpression (at + 1 + 1) xs f → IsTested k at (Outside k ∷ Outside c.Open ∷ xs ++ Outside c.Close ∷ []) (At (at + 1 + 1) f)
+  tested : {at : ℕ} {xs : List Symbol} {f : Form} → IsExpression (at + 1 + 1) xs f →
+      IsTested k at (Outside k ∷ Outside c.Open ∷ xs ++ Outside c.Close ∷ []) (At (at + 1 + 1) f)
 
 -- these, with a level of nesting of their own
 abbrev pub nested : List Symbol → List Symbol
@@ -91,13 +96,17 @@ mutual
     no_item : {at : ℕ} → AreItems at [] s.NoItem
     local : {at : ℕ} {xs ys : List Symbol} {d : s.Declaration} {is : s.Items} → IsDeclaration at xs d → AreItems (token_behind at xs) ys is
         → AreItems at (xs ++ ys) (s.Then (s.Declares at (token_behind at xs) d) is)
-    statement : {at : ℕ} {dangling : Bool} {xs ys : List Symbol} {i : s.Item} {is : s.Items} → IsStatement dangling at xs i → AreItems (token_behind at xs) ys is → AreItems at (xs ++ ys) (s.Then i is)
+    statement : {at : ℕ} {dangling : Bool} {xs ys : List Symbol} {i : s.Item} {is : s.Items} → IsStatement dangling at xs i →
+        AreItems (token_behind at xs) ys is → AreItems at (xs ++ ys) (s.Then i is)
 
   -- statement = { label } plain; of a dangling one an `else` behind it would be a part
   pub data IsStatement : Bool → ℕ → List Symbol → s.Item → Type 0 where
-    block_alone : {at : ℕ} {xs : List Symbol} {b : s.Body} → IsBlock at xs b → IsStatement false at xs (s.States [] (s.From at (token_behind at xs) (s.Block b)))
-    unlabelled : {at : ℕ} {dangling : Bool} {xs : List Symbol} {p : s.Statement} → IsPlain dangling at xs p → IsStatement dangling at xs (s.States [] (s.From at (token_behind at xs) p))
-    labelled : {at : ℕ} {dangling : Bool} {xs ys : List Symbol} {l : s.Label} {ls : List s.Label} {p : s.Plain} → IsLabel at xs l → IsStatement dangling (token_behind at xs) ys (s.States ls p)
+    block_alone : {at : ℕ} {xs : List Symbol} {b : s.Body} → IsBlock at xs b →
+        IsStatement false at xs (s.States [] (s.From at (token_behind at xs) (s.Block b)))
+    unlabelled : {at : ℕ} {dangling : Bool} {xs : List Symbol} {p : s.Statement} → IsPlain dangling at xs p →
+        IsStatement dangling at xs (s.States [] (s.From at (token_behind at xs) p))
+    labelled : {at : ℕ} {dangling : Bool} {xs ys : List Symbol} {l : s.Label} {ls : List s.Label} {p : s.Plain} → IsLabel at xs l →
+        IsStatement dangling (token_behind at xs) ys (s.States ls p)
         → IsStatement dangling at (xs ++ ys) (s.States (l ∷ ls) p)
 
   -- the list of a construct: a block alone is its own list
@@ -105,7 +114,8 @@ mutual
     block_list : {at : ℕ} {xs : List Symbol} {b : s.Body} → IsBlock at xs b → IsBody false at xs b
     unlabelled_list : {at : ℕ} {dangling : Bool} {xs : List Symbol} {p : s.Statement} → IsPlain dangling at xs p
         → IsBody dangling at (nested xs) (s.Lone at (token_behind at xs) (s.States [] (s.From at (token_behind at xs) p)))
-    labelled_list : {at : ℕ} {dangling : Bool} {xs ys : List Symbol} {l : s.Label} {ls : List s.Label} {p : s.Plain} → IsLabel at xs l → IsStatement dangling (token_behind at xs) ys (s.States ls p)
+    labelled_list : {at : ℕ} {dangling : Bool} {xs ys : List Symbol} {l : s.Label} {ls : List s.Label} {p : s.Plain} → IsLabel at xs l →
+        IsStatement dangling (token_behind at xs) ys (s.States ls p)
         → IsBody dangling at (nested (xs ++ ys)) (s.Lone at (token_behind at (xs ++ ys)) (s.States (l ∷ ls) p))
 
   -- plain = [ expression ] ";" | "if" "(" expression ")" statement [ "else" statement ] | "while" "(" expression ")" statement
@@ -114,18 +124,26 @@ mutual
   pub data IsPlain : Bool → ℕ → List Symbol → s.Statement → Type 0 where
     null : {at : ℕ} → IsPlain false at (Outside c.Semicolon ∷ []) s.Null
     evaluate : {at : ℕ} {xs : List Symbol} {f : Form} → IsExpression at xs f → IsPlain false at (xs ++ Outside c.Semicolon ∷ []) (s.Evaluate (At at f))
-    if_alone : {at : ℕ} {dangling : Bool} {xs ys : List Symbol} {t : Term} {b : s.Body} → IsTested c.If at xs t → IsBody dangling (token_behind at xs) ys b → IsPlain true at (xs ++ ys) (s.If t b)
+    if_alone : {at : ℕ} {dangling : Bool} {xs ys : List Symbol} {t : Term} {b : s.Body} → IsTested c.If at xs t →
+        IsBody dangling (token_behind at xs) ys b → IsPlain true at (xs ++ ys) (s.If t b)
     -- the `else` belongs to the nearest `if`
-    if_else : {at : ℕ} {dangling : Bool} {xs ys zs : List Symbol} {t : Term} {b d : s.Body} → IsTested c.If at xs t → IsBody false (token_behind at xs) ys b → IsBody dangling (token_behind (token_behind at xs) ys + 1) zs d
+    if_else : {at : ℕ} {dangling : Bool} {xs ys zs : List Symbol} {t : Term} {b d : s.Body} → IsTested c.If at xs t →
+        IsBody false (token_behind at xs) ys b → IsBody dangling (token_behind (token_behind at xs) ys + 1) zs d
         → IsPlain dangling at (xs ++ ys ++ Outside c.Else ∷ zs) (s.IfElse t b d)
-    while : {at : ℕ} {dangling : Bool} {xs ys : List Symbol} {t : Term} {b : s.Body} → IsTested c.While at xs t → IsBody dangling (token_behind at xs) ys b → IsPlain dangling at (xs ++ ys) (s.While t b)
-    do_while : {at : ℕ} {dangling : Bool} {xs ys : List Symbol} {t : Term} {b : s.Body} → IsBody dangling (at + 1) xs b → IsTested c.While (token_behind (at + 1) xs) ys t
+    while : {at : ℕ} {dangling : Bool} {xs ys : List Symbol} {t : Term} {b : s.Body} → IsTested c.While at xs t →
+        IsBody dangling (token_behind at xs) ys b → IsPlain dangling at (xs ++ ys) (s.While t b)
+    do_while : {at : ℕ} {dangling : Bool} {xs ys : List Symbol} {t : Term} {b : s.Body} → IsBody dangling (at + 1) xs b →
+        IsTested c.While (token_behind (at + 1) xs) ys t
         → IsPlain false at (Outside c.Do ∷ xs ++ ys ++ Outside c.Semicolon ∷ []) (s.DoWhile b t)
-    for : {at : ℕ} {dangling : Bool} {xs ys zs ws : List Symbol} {i : s.Start} {t u : Option Term} {b : s.Body} → IsStart (at + 1 + 1) xs i → IsOptional (token_behind (at + 1 + 1) xs) ys t
-        → IsOptional (token_behind (token_behind (at + 1 + 1) xs) ys + 1) zs u → IsBody dangling (token_behind (token_behind (token_behind (at + 1 + 1) xs) ys + 1) zs + 1) ws b
+    for : {at : ℕ} {dangling : Bool} {xs ys zs ws : List Symbol} {i : s.Start} {t u : Option Term} {b : s.Body} → IsStart (at + 1 + 1) xs i →
+        IsOptional (token_behind (at + 1 + 1) xs) ys t
+        → IsOptional (token_behind (token_behind (at + 1 + 1) xs) ys + 1) zs u →
+        IsBody dangling (token_behind (token_behind (token_behind (at + 1 + 1) xs) ys + 1) zs + 1) ws b
         → IsPlain dangling at (Outside c.For ∷ Outside c.Open ∷ xs ++ ys ++ Outside c.Semicolon ∷ zs ++ Outside c.Close ∷ ws) (s.For i t u b)
-    switch : {at : ℕ} {dangling : Bool} {xs ys : List Symbol} {t : Term} {b : s.Body} → IsTested c.Switch at xs t → IsBody dangling (token_behind at xs) ys b → IsPlain dangling at (xs ++ ys) (s.Switch t b)
+    switch : {at : ℕ} {dangling : Bool} {xs ys : List Symbol} {t : Term} {b : s.Body} → IsTested c.Switch at xs t →
+        IsBody dangling (token_behind at xs) ys b → IsPlain dangling at (xs ++ ys) (s.Switch t b)
     goto : {at : ℕ} → IsPlain false at (Outside c.Goto ∷ Outside c.Name ∷ Outside c.Semicolon ∷ []) (s.Goto (at + 1))
     break : {at : ℕ} → IsPlain false at (Outside c.Break ∷ Outside c.Semicolon ∷ []) s.Break
     continue : {at : ℕ} → IsPlain false at (Outside c.Continue ∷ Outside c.Semicolon ∷ []) s.Continue
-    return : {at : ℕ} {xs : List Symbol} {t : Option Term} → IsOptional (at + 1) xs t → IsPlain false at (Outside c.Return ∷ xs ++ Outside c.Semicolon ∷ []) (s.Return t)
+    return : {at : ℕ} {xs : List Symbol} {t : Option Term} → IsOptional (at + 1) xs t →
+        IsPlain false at (Outside c.Return ∷ xs ++ Outside c.Semicolon ∷ []) (s.Return t)

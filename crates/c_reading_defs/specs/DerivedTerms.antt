@@ -57,32 +57,39 @@ mutual
 
   -- conditional = binary [ "?" expression ":" conditional ]
   pub data IsConditional : ℕ → List Symbol → Form → Type 0 where
-    choose : {at k : ℕ} {xs ys zs : List Symbol} {f g h : Form} → IsBinary k at xs f → IsExpression (token_behind at xs + 1) ys g → IsConditional (token_behind (token_behind at xs + 1) ys + 1) zs h
-        → IsConditional at (xs ++ Counted c.Question ∷ ys ++ Uncounted c.Colon ∷ zs) (Choice (At at f) (At (token_behind at xs + 1) g) (At (token_behind (token_behind at xs + 1) ys + 1) h))
+    choose : {at k : ℕ} {xs ys zs : List Symbol} {f g h : Form} → IsBinary k at xs f → IsExpression (token_behind at xs + 1) ys g →
+        IsConditional (token_behind (token_behind at xs + 1) ys + 1) zs h
+        → IsConditional at (xs ++ Counted c.Question ∷ ys ++ Uncounted c.Colon ∷ zs)
+        (Choice (At at f) (At (token_behind at xs + 1) g) (At (token_behind (token_behind at xs + 1) ys + 1) h))
     only : {at k : ℕ} {xs : List Symbol} {f : Form} → IsBinary k at xs f → IsConditional at xs f
 
   -- of the level of its loosest mark: to the left of one stands what binds as tightly, to the right what binds more tightly
   pub data IsBinary : ℕ → ℕ → List Symbol → Form → Type 0 where
     single : {at : ℕ} {xs : List Symbol} {f : Form} → IsUnary at xs f → IsBinary 14 at xs f
-    both : {at k l : ℕ} {xs ys : List Symbol} {f g : Form} → IsBinary k at xs f → (m : Class) → IsBinary l (token_behind at xs + 1) ys g → 0 < level m → level m ≤ k → level m < l
+    both : {at k l : ℕ} {xs ys : List Symbol} {f g : Form} → IsBinary k at xs f → (m : Class) → IsBinary l (token_behind at xs + 1) ys g →
+        0 < level m → level m ≤ k → level m < l
         → IsBinary (level m) at (xs ++ Counted m ∷ ys) (Binary (token_behind at xs) (At at f) (At (token_behind at xs + 1) g))
 
   -- unary = ( "+" | "-" | "!" | "~" ) unary | ( "++" | "--" ) target | "(" ( number-type | "void" ) ")" unary | postfix
   -- postfix = target [ "++" | "--" ] | name "(" [ argument { "," argument } ] ")" | number | character | "(" expression ")"
   pub data IsUnary : ℕ → List Symbol → Form → Type 0 where
-    prefixed : {at : ℕ} {xs : List Symbol} {f : Form} {m : Class} → is_prefix m ≡ true → IsUnary (at + 1) xs f → IsUnary at (Counted m ∷ xs) (Prefix at (At (at + 1) f))
+    prefixed : {at : ℕ} {xs : List Symbol} {f : Form} {m : Class} → is_prefix m ≡ true → IsUnary (at + 1) xs f →
+        IsUnary at (Counted m ∷ xs) (Prefix at (At (at + 1) f))
     step_to : {at : ℕ} {xs : List Symbol} {f : Form} → IsTarget (at + 1) xs f → IsUnary at (Counted c.Step ∷ xs) (Prefix at (At (at + 1) f))
     cast_to : {at : ℕ} {xs ys : List Symbol} {f : Form} → IsType xs → IsUnary (token_behind (at + 1) xs + 1) ys f
         → IsUnary at (Counted c.Open ∷ xs ++ Uncounted c.Close ∷ ys) (CastTo (numbers_of (at + 1) xs) (At (token_behind (at + 1) xs + 1) f))
-    cast_void : {at : ℕ} {xs : List Symbol} {f : Form} → IsUnary (at + 1 + 1 + 1) xs f → IsUnary at (Counted c.Open ∷ Uncounted c.Void ∷ Uncounted c.Close ∷ xs) (CastVoid (At (at + 1 + 1 + 1) f))
+    cast_void : {at : ℕ} {xs : List Symbol} {f : Form} → IsUnary (at + 1 + 1 + 1) xs f →
+        IsUnary at (Counted c.Open ∷ Uncounted c.Void ∷ Uncounted c.Close ∷ xs) (CastVoid (At (at + 1 + 1 + 1) f))
     place : {at : ℕ} {xs : List Symbol} {f : Form} → IsTarget at xs f → IsUnary at xs f
     step_after : {at : ℕ} {xs : List Symbol} {f : Form} → IsTarget at xs f → IsUnary at (xs ++ Counted c.Step ∷ []) (Suffix (token_behind at xs) (At at f))
     call_none : {at : ℕ} → IsUnary at (Uncounted c.Name ∷ Counted c.Open ∷ Uncounted c.Close ∷ []) (Call at NoTerm)
-    call : {at : ℕ} {xs : List Symbol} {ts : Terms} → AreArguments (at + 1 + 1) xs ts → IsUnary at (Uncounted c.Name ∷ Counted c.Open ∷ xs ++ Uncounted c.Close ∷ []) (Call at ts)
+    call : {at : ℕ} {xs : List Symbol} {ts : Terms} → AreArguments (at + 1 + 1) xs ts →
+        IsUnary at (Uncounted c.Name ∷ Counted c.Open ∷ xs ++ Uncounted c.Close ∷ []) (Call at ts)
     number : {at : ℕ} → IsUnary at (Uncounted c.Number ∷ []) (Constant at)
     character : {at : ℕ} → IsUnary at (Uncounted c.Character ∷ []) (Constant at)
     -- the brackets are not written; those round a target are a target's
-    within : {at : ℕ} {xs : List Symbol} {f : Form} → is_target f ≡ false → IsExpression (at + 1) xs f → IsUnary at (Counted c.Open ∷ xs ++ Uncounted c.Close ∷ []) f
+    within : {at : ℕ} {xs : List Symbol} {f : Form} → is_target f ≡ false → IsExpression (at + 1) xs f →
+        IsUnary at (Counted c.Open ∷ xs ++ Uncounted c.Close ∷ []) f
 
   -- target = name | name "[" expression "]" | "(" target ")"
   pub data IsTarget : ℕ → List Symbol → Form → Type 0 where

@@ -11,7 +11,8 @@ use Rattle.c_reading_defs.specs.DerivedItems.{MayBe, AreEach, IsSize, IsDeclarat
 -- enumerator = name [ "=" conditional ]
 pub data IsEnumerator : ℕ → List Symbol → s.Enumerator → Type 0 where
   alone : {at : ℕ} → IsEnumerator at (Outside c.Name ∷ []) (record { name = at; value = None })
-  given : {at : ℕ} {xs : List Symbol} {f : Form} → IsConditional (at + 1 + 1) xs f → IsEnumerator at (Outside c.Name ∷ Outside c.Equals ∷ xs) (record { name = at; value = Some (At (at + 1 + 1) f) })
+  given : {at : ℕ} {xs : List Symbol} {f : Form} → IsConditional (at + 1 + 1) xs f →
+      IsEnumerator at (Outside c.Name ∷ Outside c.Equals ∷ xs) (record { name = at; value = Some (At (at + 1 + 1) f) })
 
 -- [ name ]
 pub data IsNamed : ℕ → List Symbol → Option ℕ → Type 0 where
@@ -20,8 +21,10 @@ pub data IsNamed : ℕ → List Symbol → Option ℕ → Type 0 where
 
 -- param = [ "const" ] number-type [ name ] [ "[" [ conditional ] "]" ]
 pub data IsParameter : ℕ → List Symbol → s.Parameter → Type 0 where
-  parameter : {at : ℕ} {xs ys zs ws : List Symbol} {constant : Bool} {n : Option ℕ} {z : Size} → MayBe c.Const xs constant → IsType ys → IsNamed (token_behind (token_behind at xs) ys) zs n
-      → IsSize (token_behind (token_behind (token_behind at xs) ys) zs) ws z → IsParameter at (xs ++ ys ++ zs ++ ws) (record { first = at; constant = constant; words = numbers_of (token_behind at xs) ys; name = n; size = z })
+  parameter : {at : ℕ} {xs ys zs ws : List Symbol} {constant : Bool} {n : Option ℕ} {z : Size} → MayBe c.Const xs constant → IsType ys →
+      IsNamed (token_behind (token_behind at xs) ys) zs n
+      → IsSize (token_behind (token_behind (token_behind at xs) ys) zs) ws z →
+      IsParameter at (xs ++ ys ++ zs ++ ws) (record { first = at; constant = constant; words = numbers_of (token_behind at xs) ys; name = n; size = z })
 
 -- params = [ "void" ] | param { "," param }
 pub data AreParameters : ℕ → List Symbol → List s.Parameter → Type 0 where
@@ -42,7 +45,8 @@ pub data IsDefined : ℕ → List Symbol → Option Body → Type 0 where
 -- function = [ "static" ] ( number-type | "void" ) name "(" params ")" ( ";" | block )
 pub data IsFunction : ℕ → List Symbol → s.Function → Type 0 where
   function : {at : ℕ} {xs ys zs ws : List Symbol} {static : Bool} {r : Option (List ℕ)} {ps : List s.Parameter} {b : Option Body}
-      → MayBe c.Static xs static → IsResult (token_behind at xs) ys r → AreParameters (token_behind (token_behind at xs) ys + 1 + 1) zs ps → IsDefined (token_behind (token_behind (token_behind at xs) ys + 1 + 1) zs + 1) ws b
+      → MayBe c.Static xs static → IsResult (token_behind at xs) ys r → AreParameters (token_behind (token_behind at xs) ys + 1 + 1) zs ps →
+      IsDefined (token_behind (token_behind (token_behind at xs) ys + 1 + 1) zs + 1) ws b
       → IsFunction at (xs ++ ys ++ Outside c.Name ∷ Outside c.Open ∷ zs ++ Outside c.Close ∷ ws) (record {
         static = static;
         words = r;
@@ -58,10 +62,12 @@ pub data IsTop : ℕ → List Symbol → s.Form → Type 0 where
   line : {at : ℕ} → IsTop at (Outside c.Directive ∷ []) s.Line
   enum : {at : ℕ} {xs ys : List Symbol} {es : List s.Enumerator} {trailing : Bool} → AreEach IsEnumerator (at + 1 + 1) xs es → MayBe c.Comma ys trailing
       → IsTop at (Outside c.Enum ∷ Outside c.OpenBlock ∷ xs ++ ys ++ Outside c.CloseBlock ∷ Outside c.Semicolon ∷ []) (s.Enum es)
-  globals : {at : ℕ} {xs ys : List Symbol} {static : Bool} {d : Declaration} → MayBe c.Static xs static → IsDeclaration (token_behind at xs) ys d → IsTop at (xs ++ ys) (s.Globals static d)
+  globals : {at : ℕ} {xs ys : List Symbol} {static : Bool} {d : Declaration} → MayBe c.Static xs static → IsDeclaration (token_behind at xs) ys d →
+      IsTop at (xs ++ ys) (s.Globals static d)
   defines : {at : ℕ} {xs : List Symbol} {f : s.Function} → IsFunction at xs f → IsTop at xs (s.Defines f)
 
 -- file = { directive | enum | declaration | function }
 pub data IsFile : ℕ → List Symbol → List s.Top → Type 0 where
   no_top : {at : ℕ} → IsFile at [] []
-  top : {at : ℕ} {xs ys : List Symbol} {f : s.Form} {ts : List s.Top} → IsTop at xs f → IsFile (token_behind at xs) ys ts → IsFile at (xs ++ ys) (s.From at (token_behind at xs) f ∷ ts)
+  top : {at : ℕ} {xs ys : List Symbol} {f : s.Form} {ts : List s.Top} → IsTop at xs f → IsFile (token_behind at xs) ys ts →
+      IsFile at (xs ++ ys) (s.From at (token_behind at xs) f ∷ ts)

@@ -51,10 +51,12 @@ pub data ReadBreaks (env : Env) : Form → Fault → Type 0 where
 pub data WriteBreaks (env : Env) : Form → Fault → Type 0 where
   undeclared : {at : ℕ} → IsUnbound (env.word at) env.scopes → WriteBreaks env (Variable at) (broken at 20)
   no_number : {at : ℕ} (b : Binding) → IsBoundTo (env.word at) b env.scopes → is_number_variable b ≡ false → WriteBreaks env (Variable at) (broken at 22)
-  const : {at : ℕ} (b : Binding) → IsBoundTo (env.word at) b env.scopes → is_number_variable b ≡ true → is_const b ≡ true → WriteBreaks env (Variable at) (broken at 26)
+  const : {at : ℕ} (b : Binding) → IsBoundTo (env.word at) b env.scopes → is_number_variable b ≡ true → is_const b ≡ true →
+      WriteBreaks env (Variable at) (broken at 26)
   undeclared_array : {at : ℕ} {i : Term} → IsUnbound (env.word at) env.scopes → WriteBreaks env (Cell at i) (broken at 20)
   no_array : {at : ℕ} {i : Term} (b : Binding) → IsBoundTo (env.word at) b env.scopes → is_array_binding b ≡ false → WriteBreaks env (Cell at i) (broken at 22)
-  const_cell : {at : ℕ} {i : Term} (b : Binding) → IsBoundTo (env.word at) b env.scopes → is_array_binding b ≡ true → is_const b ≡ true → WriteBreaks env (Cell at i) (broken at 26)
+  const_cell : {at : ℕ} {i : Term} (b : Binding) → IsBoundTo (env.word at) b env.scopes → is_array_binding b ≡ true → is_const b ≡ true →
+      WriteBreaks env (Cell at i) (broken at 26)
 
 -- ---- what an expression is used for
 

@@ -73,10 +73,13 @@ IsDefinedIn word name (From first after _ ∷ xs) = IsDefinedIn word name xs
 -- the name of a function, behind these of the file, where these scopes are round it
 pub data FunctionNameBreaks (file : File) (before : List Top) (ss : List Scope) (f : Function) : Fault → Type 0 where
   known_function : is_known (file.word f.name) ≡ true → FunctionNameBreaks file before ss f (broken f.name 21)
-  no_function : IsDeclared (file.word f.name) ss → ((s : Signature) → IsDeclaredAs (file.word f.name) (binding.Function s) ss → ⊥) → FunctionNameBreaks file before ss f (broken f.name 21)
-  second_body : (s : Signature) → IsDeclaredAs (file.word f.name) (binding.Function s) ss → has_body f ≡ true → IsDefinedIn file.word (file.word f.name) before → FunctionNameBreaks file before ss f (broken f.name 21)
+  no_function : IsDeclared (file.word f.name) ss → ((s : Signature) → IsDeclaredAs (file.word f.name) (binding.Function s) ss → ⊥) →
+      FunctionNameBreaks file before ss f (broken f.name 21)
+  second_body : (s : Signature) → IsDeclaredAs (file.word f.name) (binding.Function s) ss → has_body f ≡ true →
+      IsDefinedIn file.word (file.word f.name) before → FunctionNameBreaks file before ss f (broken f.name 21)
   other_main : file.word f.name ≡ codes "main" → is_main_form file.word f ≡ false → FunctionNameBreaks file before ss f (broken f.name 36)
-  disagrees : (s : Signature) → IsDeclaredAs (file.word f.name) (binding.Function s) ss → same_signature s (signature_in file.bodies file.word f) ≡ false → FunctionNameBreaks file before ss f (broken f.name 37)
+  disagrees : (s : Signature) → IsDeclaredAs (file.word f.name) (binding.Function s) ss →
+      same_signature s (signature_in file.bodies file.word f) ≡ false → FunctionNameBreaks file before ss f (broken f.name 37)
 
 -- ---- files
 
@@ -84,7 +87,8 @@ pub data FunctionNameBreaks (file : File) (before : List Top) (ss : List Scope) 
 abbrev pub FormBreaks : Typing → File → List (List Identifier) → List Top → Form → Fault → Type 0
 FormBreaks typing file scopes before (Enum es) v = SomeBehind (λ front e. ConstantBreaks typing file.word scopes front e v) es
 FormBreaks typing file scopes before (Globals static d) v = SomeOf (λ x. VariableBreaks typing file.word scopes x v) d.names
-FormBreaks typing file scopes before (Defines f) v = FunctionNameBreaks file before (scopes_at scopes f.name) f v ⊎ FunctionBreaks typing file.flat file.word file.notes f scopes v
+FormBreaks typing file scopes before (Defines f) v = FunctionNameBreaks file before (scopes_at scopes f.name) f v ⊎ FunctionBreaks typing file.flat
+    file.word file.notes f scopes v
 FormBreaks typing file scopes before _ v = ⊥
 
 abbrev pub TopBreaks : Typing → File → List (List Identifier) → List Top → Top → Fault → Type 0

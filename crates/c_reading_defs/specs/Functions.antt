@@ -40,8 +40,10 @@ OutermostBreaks typing f p (Braces first after xs) v = ListBreaks typing f p xs 
 OutermostBreaks typing f p (Lone first after x) v = ItemBreaks typing f p x v
 
 -- a function that is too tangled; `flat` gives counts for a body with jumps, and none for another
-pub data Tangled (typing : Typing) (flat : FlatCounts) (word : ℕ → List ℕ) (notes : Anchor → List (List ℕ)) (f : Function) (b : Body) (scopes : List (List Identifier)) : Fault → Type 0 where
-  tangled : (counts : ℕ × ℕ) → flat (outermost_items typing (known word notes f) b (inside word notes f scopes)) ≡ Some counts → is_tangled (measures word f b counts) ≡ true → Tangled typing flat word notes f b scopes (broken f.name 39)
+pub data Tangled (typing : Typing) (flat : FlatCounts) (word : ℕ → List ℕ) (notes : Anchor → List (List ℕ)) (f : Function) (b : Body)
+    (scopes : List (List Identifier)) : Fault → Type 0 where
+  tangled : (counts : ℕ × ℕ) → flat (outermost_items typing (known word notes f) b (inside word notes f scopes)) ≡ Some counts →
+      is_tangled (measures word f b counts) ≡ true → Tangled typing flat word notes f b scopes (broken f.name 39)
 
 -- the labels, the statements and the size of a function with a body
 abbrev pub DefinitionBreaks : Typing → FlatCounts → (ℕ → List ℕ) → (Anchor → List (List ℕ)) → Function → List (List Identifier) → Option Body → Fault → Type 0
@@ -53,4 +55,5 @@ DefinitionBreaks typing flat word notes f scopes (Some b) v =
 
 -- in a function, which these scopes are round
 abbrev pub FunctionBreaks : Typing → FlatCounts → (ℕ → List ℕ) → (Anchor → List (List ℕ)) → Function → List (List Identifier) → Fault → Type 0
-FunctionBreaks typing flat word notes f scopes v = ParametersBreak (known word notes f) (inside word notes f scopes) (is_some f.body) f.parameters v ⊎ DefinitionBreaks typing flat word notes f scopes f.body v
+FunctionBreaks typing flat word notes f scopes v = ParametersBreak (known word notes f) (inside word notes f scopes) (is_some f.body) f.parameters v ⊎
+    DefinitionBreaks typing flat word notes f scopes f.body v

@@ -36,7 +36,11 @@ start_items typing f (StartNames d) p = declaration_items typing f d p
 
 -- a section with these labels, and these items behind them
 abbrev pub section_with : Typing → InFunction → Place → List Label → List item.Item → Reading
-section_with typing f p ls xs = record { cases = section_cases typing (names f p) ls; default = has_default ls; list = notes_at f (AtSection (first_label ls)) ++ section_marks f ls ++ xs }
+section_with typing f p ls xs = record {
+  cases = section_cases typing (names f p) ls;
+  default = has_default ls;
+  list = notes_at f (AtSection (first_label ls)) ++ section_marks f ls ++ xs;
+}
 
 -- a section in front of these: one with an empty list and no end gives its cases and its default to the next, if there is one
 abbrev pub in_front : Section → List Section → List Section
@@ -67,7 +71,8 @@ abbrev mutual
   statement_items typing f (DoWhile b t) p = item.Do (body_items typing f b p) (test_at typing (names f p) t) ∷ []
   statement_items typing f (For start t u b) p =
       let inner = within_for f start p in
-      item.For (start_items typing f start inner) (option_map (value_at typing (names f inner)) t) (option_map (dropped_at typing (names f inner)) u) (body_items typing f b inner) ∷ []
+      item.For (start_items typing f start inner) (option_map (value_at typing (names f inner)) t) (option_map (dropped_at typing (names f inner)) u)
+      (body_items typing f b inner) ∷ []
   statement_items typing f (Switch t b) p = item.Switch (selector.Source (value_at typing (names f p) t)) (passed_on (switch_sections typing f b p)) ∷ []
   statement_items typing f (Block b) p = item.Block (body_items typing f b p) ∷ []
   statement_items typing f (Goto at) p = item.Goto (label_number f.labels (f.word at)) ∷ []
@@ -87,7 +92,8 @@ abbrev mutual
   -- the sections of a switch, and what stands in front of them
   pub switch_sections : Typing → InFunction → Body → Place → List Section
   switch_sections typing f (Braces first after xs) p =
-      let inner = within f (Braces first after xs) p in front (outside_items typing f xs inner) ++ map ended (list_sections typing f xs (notes_at f (AtEnd first)) inner)
+      let inner = within f (Braces first after xs) p in front (outside_items typing f xs inner) ++ map ended
+      (list_sections typing f xs (notes_at f (AtEnd first)) inner)
   switch_sections typing f (Lone first after x) p =
       let inner = within f (Lone first after x) p in
       front (outside_item typing f x inner) ++ map ended (item_sections typing f x (notes_at f (AtEnd first)) inner)

@@ -73,7 +73,8 @@ pub data AreHanded : List Want → List Typed → List Expression → Type 0 whe
 abbrev pub IsCall : List ℕ → Binding → List Typed → Typed → Type 0
 IsCall name (binding.Function s) xs y = (es : List Expression) × AreHanded s.wants xs es × (y ≡ of_result s.result (node.Call name es))
 IsCall name binding.Printf (Text bytes ∷ xs) y =
-    (ws : List Want) × (es : List Expression) × IsFormat bytes ws × AreHanded ws xs es × (y ≡ of_kind Int (node.Call name (expression_of None (node.Text bytes) ∷ es)))
+    (ws : List Want) × (es : List Expression) × IsFormat bytes ws × AreHanded ws xs es ×
+    (y ≡ of_kind Int (node.Call name (expression_of None (node.Text bytes) ∷ es)))
 IsCall name _ xs y = ⊥
 
 -- ---- commas (6.5.17)
@@ -81,7 +82,8 @@ IsCall name _ xs y = ⊥
 -- operands with commas between them: the value or the void of all that stands in front of the last is dropped
 pub data AreCommas : List Typed → Typed → Type 0 where
   one : {x : Typed} → AreCommas (x ∷ []) x
-  more : {xs : List Typed} {x : Typed} (y : Typed) {e f : Expression} → AreCommas xs x → dropped x ≡ Some e → dropped y ≡ Some f → AreCommas (xs ++ y ∷ []) (with_left e y)
+  more : {xs : List Typed} {x : Typed} (y : Typed) {e f : Expression} → AreCommas xs x → dropped x ≡ Some e → dropped y ≡ Some f →
+      AreCommas (xs ++ y ∷ []) (with_left e y)
 
 -- ---- expressions
 
@@ -98,18 +100,21 @@ abbrev mutual
   FormMeans env (Cell at i) x = (n : Valued) × (y : Target) × Means env i (Value n) × IsCell env at n y × (x ≡ of_kind y.kind (node.Read y.place))
   -- `++` and `--` (6.5.3.1), and `+ - ! ~` (6.5.3.3)
   FormMeans env (Prefix m a) x =
-      ((up : Bool) × (y : Target) × (step_of (mark_of (env.word m)) ≡ Some up) × MeansTarget env a y × (y.constant ≡ false) × (x ≡ of_kind y.kind (node.Count y.place up false)))
+      ((up : Bool) × (y : Target) × (step_of (mark_of (env.word m)) ≡ Some up) × MeansTarget env a y × (y.constant ≡ false) ×
+      (x ≡ of_kind y.kind (node.Count y.place up false)))
       ⊎ ((v : Valued) × (step_of (mark_of (env.word m)) ≡ None) × Means env a (Value v)
       × (x ≡ of_kind (unary_kind (unary_op (mark_of (env.word m))) v.kind) (node.Unary (unary_op (mark_of (env.word m))) (expression v))))
   -- 6.5.2.4
-  FormMeans env (Suffix m a) x = (y : Target) × MeansTarget env a y × (y.constant ≡ false) × (x ≡ of_kind y.kind (node.Count y.place (counts_up (mark_of (env.word m))) true))
+  FormMeans env (Suffix m a) x = (y : Target) × MeansTarget env a y × (y.constant ≡ false) ×
+      (x ≡ of_kind y.kind (node.Count y.place (counts_up (mark_of (env.word m))) true))
   -- 6.5.4
   FormMeans env (CastTo words a) x = (v : Valued) × Means env a (Value v) × (x ≡ of_kind (kind_of env.word words) (node.Cast (expression v)))
   FormMeans env (CastVoid a) x = (y : Typed) × (e : Expression) × Means env a y × (dropped y ≡ Some e) × (x ≡ Void (node.Cast e))
   -- 6.5.5 to 6.5.14
   FormMeans env (Binary m a b) x =
       (v w : Valued) × Means env a (Value v) × Means env b (Value w)
-      × (x ≡ of_kind (binary_kind (binary_op (mark_of (env.word m))) v.kind w.kind) (node.Binary (binary_op (mark_of (env.word m))) (expression v) (expression w)))
+      × (x ≡ of_kind (binary_kind (binary_op (mark_of (env.word m))) v.kind w.kind)
+      (node.Binary (binary_op (mark_of (env.word m))) (expression v) (expression w)))
   -- 6.5.15
   FormMeans env (Choice a b c) x =
       (u v w : Valued) × Means env a (Value u) × Means env b (Value v) × Means env c (Value w)

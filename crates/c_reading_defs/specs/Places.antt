@@ -49,7 +49,14 @@ start_identifiers f (StartNames d) = declared f d
 start_identifiers f _ = []
 
 abbrev pub parameter_identifier : InFunction → Parameter → List Identifier
-parameter_identifier f x = elim x.name [ Some at ↦ record { at = at; name = f.word at; binding = Local (variable_number f.variables x.first) (parameter_shape f.word x) } ∷ [] | None ↦ [] ]
+parameter_identifier f x = elim x.name [
+  | Some at ↦ record {
+    at = at;
+    name = f.word at;
+    binding = Local (variable_number f.variables x.first) (parameter_shape f.word x);
+  } ∷ []
+  | None ↦ []
+]
 
 -- ---- into a construct
 
@@ -73,4 +80,7 @@ outermost_identifiers f (Some b) = list_identifiers f (items_in b)
 
 -- the parameters of a function and its outermost list are one scope
 abbrev pub within_function : InFunction → Function → List (List Identifier) → Place
-within_function f fn scopes = record { scopes = (flat_map (parameter_identifier f) fn.parameters ++ outermost_identifiers f fn.body) ∷ scopes; around = no_construct }
+within_function f fn scopes = record {
+  scopes = (flat_map (parameter_identifier f) fn.parameters ++ outermost_identifiers f fn.body) ∷ scopes;
+  around = no_construct;
+}

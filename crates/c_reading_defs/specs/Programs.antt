@@ -34,7 +34,11 @@ enum_item typing word scopes front e = record {
 
 abbrev pub global : Typing → (ℕ → List ℕ) → List (List Identifier) → Bool → Kinded → Declarator → tree_top.Top
 global typing word scopes static k d =
-    top.Global (record { slot = slot_of typing (names_at word scopes d.name) k d; init = initial (constant_at typing (names_for word scopes)) d.value; file_only = static })
+    top.Global (record {
+      slot = slot_of typing (names_at word scopes d.name) k d;
+      init = initial (constant_at typing (names_for word scopes)) d.value;
+      file_only = static;
+    })
 
 abbrev pub form_tops : Typing → File → List (List Identifier) → ℕ → Form → List tree_top.Top
 form_tops typing file scopes first Line = top.Include (file.word first) ∷ []

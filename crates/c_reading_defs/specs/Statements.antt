@@ -70,7 +70,8 @@ abbrev mutual
   InStatement typing f p (DoWhile b t) v = BodyBreaks typing f (within_loop p) b v ⊎ ExpressionBreaks (names f p t) NeedsValue t v
   InStatement typing f p (For start t u b) v =
       let inner = within_for f start p in
-      StartBreaks typing f inner start v ⊎ (OptionBreaks (names f inner) NeedsValue t v ⊎ (OptionBreaks (names f inner) MayBeVoid u v ⊎ BodyBreaks typing f (within_loop inner) b v))
+      StartBreaks typing f inner start v ⊎
+      (OptionBreaks (names f inner) NeedsValue t v ⊎ (OptionBreaks (names f inner) MayBeVoid u v ⊎ BodyBreaks typing f (within_loop inner) b v))
   InStatement typing f p (Switch t b) v =
       ExpressionBreaks (names f p t) NeedsValue t v
       ⊎ (BodyBreaks typing f (within_switch p) b v

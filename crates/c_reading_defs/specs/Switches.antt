@@ -70,7 +70,8 @@ HasDefault (Other at ∷ es) = Unit {0}
 
 -- a label of a switch on a value of the kind, behind these of its labels; of a selector without a value nothing is compared
 pub data EntryBreaks (selector : Option IntKind) (before : List Entry) : Entry → Fault → Type 0 where
-  equal_cases : {at : ℕ} {n : ℤ} (kind : IntKind) → selector ≡ Some kind → HasCase (promoted kind) n before → EntryBreaks selector before (Value at n) (broken at 30)
+  equal_cases : {at : ℕ} {n : ℤ} (kind : IntKind) → selector ≡ Some kind → HasCase (promoted kind) n before →
+      EntryBreaks selector before (Value at n) (broken at 30)
   second_default : {at : ℕ} → HasDefault before → EntryBreaks selector before (Other at) (broken at 31)
 
 abbrev pub EntriesBreak : Option IntKind → List Entry → Fault → Type 0

@@ -97,7 +97,11 @@ abbrev mutual
   after_percent (b ∷ bs) =
       elim (b == 37) [
         | true ↦ wanted bs
-        | false ↦ elim (b == 108) [ true ↦ after_l bs | false ↦ elim (b == 100 || b == 117 || b == 120 || b == 99) [ true ↦ option_map (λ ws. false ∷ ws) (wanted bs) | false ↦ None ] ]
+        | false ↦ elim (b == 108) [
+          | true ↦ after_l bs
+          | false ↦ elim (b == 100 || b == 117 || b == 120 || b == 99)
+              [ true ↦ option_map (λ ws. false ∷ ws) (wanted bs) | false ↦ None ]
+        ]
       ]
 
   pub after_l : List ℕ → Option (List Bool)

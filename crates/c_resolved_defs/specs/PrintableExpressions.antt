@@ -85,7 +85,8 @@ abbrev mutual
   node_counted (t.Read p) = place_counted p
   node_counted (t.Unary op a) = counted a + bracket_count (level_of a) 14 + 1
   node_counted (t.Cast a) = counted a + bracket_count (level_of a) 14 + 1
-  node_counted (t.Binary op a b) = counted a + bracket_count (level_of a) (level_of (Typed None (t.Binary op a b))) + 1 + (counted b + bracket_count (level_of b) (level_of (Typed None (t.Binary op a b)) + 1))
+  node_counted (t.Binary op a b) = counted a + bracket_count (level_of a)
+      (level_of (Typed None (t.Binary op a b))) + 1 + (counted b + bracket_count (level_of b) (level_of (Typed None (t.Binary op a b)) + 1))
   node_counted (t.Conditional a b c) = counted a + bracket_count (level_of a) 4 + 1 + counted b + (counted c + bracket_count (level_of c) 3)
   node_counted (t.Assign p a) = place_counted p + 1 + (counted a + bracket_count (level_of a) 2)
   node_counted (t.Update op p a) = place_counted p + 1 + (counted a + bracket_count (level_of a) 2)

@@ -105,7 +105,8 @@ abbrev mutual
 
   pub SectionsAreBound : List Slot → List Scope → Sections → Type 0
   SectionsAreBound slots ss NoSection = Unit {0}
-  SectionsAreBound slots ss (Section cases default a ends c) = Each (IsBound slots ss) cases × AreBound slots ss a × SectionsAreBound slots (behind_all slots ss a) c
+  SectionsAreBound slots ss (Section cases default a ends c) = Each (IsBound slots ss) cases × AreBound slots ss a × SectionsAreBound slots
+      (behind_all slots ss a) c
 
 -- ---- functions: the parameters and the outermost list are one scope
 

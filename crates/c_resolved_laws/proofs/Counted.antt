@@ -45,7 +45,8 @@ mutual
 mutual
   jumps_left : (a : Forest) → total jumps_of (without_strays a) ≡ total jumps_of a
   jumps_left Nil = refl
-  jumps_left (Then x a) = let e = total-join jumps_of (without_stray x) (without_strays a) in let i = jumps_left_of x in let j = jumps_left a in omega (arith, e, i, j)
+  jumps_left (Then x a) = let e = total-join jumps_of (without_stray x) (without_strays a) in let i = jumps_left_of x in let j = jumps_left a in
+      omega (arith, e, i, j)
 
   jumps_left_of : (x : Tree) → total jumps_of (without_stray x) ≡ total_of jumps_of x
   jumps_left_of (If t c d) = let i = jumps_left c in let j = jumps_left d in omega (arith, i, j)
@@ -107,7 +108,8 @@ once_each named (l ∷ ls) once =
     and-true false = refl
 
 -- the labels of the flat form, where a label and a default count as often as they stand
-pub labels_stand : (body : Forest) → length (marks (measured_form body)) ≡ summed (each_label (is_named body)) (is_named body) false body + total (named_bit (is_named body)) body
+pub labels_stand : (body : Forest) → length (marks (measured_form body)) ≡ summed (each_label (is_named body)) (is_named body) false body + total
+    (named_bit (is_named body)) body
 labels_stand body =
     let p = coded constant [] (length (marks body)) body in
     let q = numbered (marks (flat p (first_here 0) Stays Stays NoArrival body)) p in
@@ -118,7 +120,9 @@ labels_stand body =
 labels_are : (n : ℕ) (body : Forest) → HasOwnLabels n body → labels_of body ≡ length (marks (measured_form body))
 labels_are n body own =
     let named = is_named body in
-    let once : (l : ℕ) → count_in l (marks body) ≤ 1 = λ l. let e = ap (count_in l) (marks_gathered body) in let f = counted l body in let o = own.once l in omega (arith, e, f, o) in
+    let once : (l : ℕ) → count_in l (marks body) ≤ 1 = λ l. let e = ap (count_in l) (marks_gathered body) in let f = counted l body in let o =
+    own.once
+    l in omega (arith, e, f, o) in
     let e = once_each named (marks body) once in
     let f = marks_named named body in
     let g = all_as_many named false body own.cases in
@@ -126,7 +130,8 @@ labels_are n body own =
     omega (arith, e, f, g, h)
 
 -- a resolved function is measured by all gotos and labels of its flat form
-pub counted_plainly : (counts : FlatCounts) (ts : List Top) (f : Function) → IsResolvedFunction counts ts f → flat_counts (body_of f) ≡ cond (has_jumps (body_of f)) (Some (counts_of (measured_form (body_of f)))) None
+pub counted_plainly : (counts : FlatCounts) (ts : List Top) (f : Function) → IsResolvedFunction counts ts f →
+    flat_counts (body_of f) ≡ cond (has_jumps (body_of f)) (Some (counts_of (measured_form (body_of f)))) None
 counted_plainly counts ts f r =
     let body = body_of f in
     let gotos = sym (gotos_are [] (length (marks body)) body) in

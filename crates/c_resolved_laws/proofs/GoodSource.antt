@@ -51,7 +51,8 @@ entered (Section cases default a ends c) h = (h.0, entered c h.4)
 
 pub all_pairs : {A : Type 0} (xs : List A) → AllDiffer xs → AllPairs (λ m n. m ≢ n) xs
 all_pairs [] h = λ i j d b k. absurd (omega (arith, b, k))
-all_pairs (x ∷ xs) h = AllPairs-cons (λ m n. m ≢ n) x xs (All-from_recursion (λ y. x ≢ y) xs (each_map (λ y. y ≢ x) (λ y. x ≢ y) (λ y d e. d (sym e)) xs h.0)) (all_pairs xs h.1)
+all_pairs (x ∷ xs) h = AllPairs-cons (λ m n. m ≢ n) x xs (All-from_recursion (λ y. x ≢ y) xs
+    (each_map (λ y. y ≢ x) (λ y. x ≢ y) (λ y d e. d (sym e)) xs h.0)) (all_pairs xs h.1)
 
 pub same_cases : (c : Sections) → is_scattered c ≡ false → cases_among (switch_labels c) ≡ all_cases c
 same_cases c e = sym (cases_same (switch_labels c)) ∙ ap P.cases_among (sym (labels_same c)) ∙ unscattered_cases c e
@@ -65,7 +66,9 @@ good_cases k c e h =
     let same = same_cases c e in
     record {
       constant = subst (All IsConstant) same (All-from_recursion IsConstant es (each_map IsConstantValue IsConstant (λ x i. i.constant) es h.constant));
-      untrapped = subst (All (λ x. IsSome (constant_value x))) same (All-from_recursion (λ x. IsSome (constant_value x)) es (each_map IsConstantValue (λ x. IsSome (constant_value x)) (λ x i. i.untrapped) es h.constant));
+      untrapped = subst (All (λ x. IsSome (constant_value x))) same
+          (All-from_recursion (λ x. IsSome (constant_value x)) es
+          (each_map IsConstantValue (λ x. IsSome (constant_value x)) (λ x i. i.untrapped) es h.constant));
       distinct = subst (λ xs. AllPairs (λ m n. m ≢ n) (map (case_number k) xs)) same (all_pairs (map (case_number k) es) h.distinct);
       few = subst (λ xs. length xs < 2147483648) same h.few;
     }
@@ -162,7 +165,8 @@ number_there l i (suc n) h k = by_test (eqb l i) refl (λ j. number_there l (suc
         let d : l ≢ i = λ q. true≢false (sym (eq-eqb l i q) ∙ e) in
         let m = g (further l i h d) in omega (arith, m)
 
-label_stands : (counts : FlatCounts) (ts : List Top) (f : Function) → IsResolvedFunction counts ts f → (l : ℕ) → is_named (body_of f) l ≡ true → 0 < total (mark_bit l) (body_of f)
+label_stands : (counts : FlatCounts) (ts : List Top) (f : Function) → IsResolvedFunction counts ts f → (l : ℕ) → is_named (body_of f) l ≡ true →
+    0 < total (mark_bit l) (body_of f)
 label_stands counts ts f r l e =
     let one = goto_there f l (body_of f) r.form.items (some_there (total (gotos_to l) (body_of f)) e) in
     let there = number_there l 0 (length f.labels) (omega arith) (omega (arith, one)) in
@@ -172,7 +176,8 @@ label_stands counts ts f r l e =
 
 pub good_source : (counts : FlatCounts) (ts : List Top) (f : Function) → IsResolvedFunction counts ts f → IsGoodSource (length f.labels) (body_of f)
 good_source counts ts f r = record {
-  items = everywhere_map (λ x. HasSourceForm f x × HasCases x) IsPlainItem (plain_item f) (body_of f) (everywhere_both (HasSourceForm f) HasCases (body_of f) r.form.items r.cases);
+  items = everywhere_map (λ x. HasSourceForm f x × HasCases x) IsPlainItem (plain_item f) (body_of f)
+      (everywhere_both (HasSourceForm f) HasCases (body_of f) r.form.items r.cases);
   own = function_labels counts ts f r;
   stand = label_stands counts ts f r;
   cases = function_calm counts ts f r;

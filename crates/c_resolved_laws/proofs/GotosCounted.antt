@@ -149,7 +149,8 @@ module _ (k : IntKind) where
     test_gotos : (e : ExpressionTree) → gotos (test_for number k v n e) ≡ cond (is_some (case_number k e)) 1 0
     test_gotos e = at (case_number k e)
       where
-        at : (o : Option ℤ) → gotos (option_map_or (λ z. one (If (Source (is_number k v (number k z))) (one (Goto (n (Some e)))) Nil)) o Nil) ≡ cond (is_some o) 1 0
+        at : (o : Option ℤ) → gotos (option_map_or (λ z. one (If (Source (is_number k v (number k z))) (one (Goto (n (Some e)))) Nil)) o Nil) ≡ cond
+            (is_some o) 1 0
         at None = refl
         at (Some z) = refl
 
@@ -251,7 +252,8 @@ module _ (p : Plan) where
 
   -- ---- a loop
 
-  within_loop : (j : Bool) (a : Forest) (l m x : ℕ) → x ≡ given (is_moved (aim j (continues a) m)) a + exits (aim j (breaks a) l) (breaks a) + exits (aim j (continues a) m) (continues a)
+  within_loop : (j : Bool) (a : Forest) (l m x : ℕ) → x ≡ given (is_moved (aim j (continues a) m)) a + exits (aim j (breaks a) l) (breaks a) + exits
+      (aim j (continues a) m) (continues a)
       → x ≡ cond j (breaks a + continues a) 0 + given j a
   within_loop j a l m x e =
       let f = ap (λ z. given z a) (aim_moved j (continues a) m) in
@@ -260,14 +262,16 @@ module _ (p : Plan) where
       let i = cond_sum j (breaks a) (continues a) in
       omega (arith, e, f, g, h, i)
 
-  by_ending : (e : Ending) (a xs ys : Forest) (b : Aim) (n : ℕ) → (e ≡ Breaks → gotos xs ≡ n + exits b (breaks (trimmed p.live a))) → gotos ys ≡ n + exits b (breaks a)
+  by_ending : (e : Ending) (a xs ys : Forest) (b : Aim) (n : ℕ) → (e ≡ Breaks → gotos xs ≡ n + exits b (breaks (trimmed p.live a))) →
+      gotos ys ≡ n + exits b (breaks a)
       → gotos (if_breaks e xs ys) ≡ n + exits b (breaks (section_list p.live a e))
   by_ending Breaks a xs ys b n f g = f refl
   by_ending Gone a xs ys b n f g = g
   by_ending Jumps a xs ys b n f g = g
   by_ending Otherwise a xs ys b n f g = g
 
-  by_gone : (q : Bool) (x : Tree) (a xs ys : Forest) (b : Aim) (n : ℕ) → (q ≡ true → gotos xs ≡ n + exits b (breaks (trimmed_item p.live x))) → (q ≡ false → gotos ys ≡ n + exits b (breaks_of x + breaks (trimmed p.live a)))
+  by_gone : (q : Bool) (x : Tree) (a xs ys : Forest) (b : Aim) (n : ℕ) → (q ≡ true → gotos xs ≡ n + exits b (breaks (trimmed_item p.live x))) →
+      (q ≡ false → gotos ys ≡ n + exits b (breaks_of x + breaks (trimmed p.live a)))
       → gotos (cond q xs ys) ≡ n + exits b (breaks (cond q (trimmed_item p.live x) (Then x (trimmed p.live a))))
   by_gone true x a xs ys b n f g = f refl
   by_gone false x a xs ys b n f g = g refl
@@ -277,7 +281,8 @@ module _ (p : Plan) where
   by_scattered false a b m n z e f = f
 
   mutual
-    pub flat_gotos : (h : Here) (b c : Aim) (r : Arrivals) (a : Forest) → gotos (flat p h b c r a) ≡ given (is_moved c) a + exits b (breaks a) + exits c (continues a)
+    pub flat_gotos : (h : Here) (b c : Aim) (r : Arrivals) (a : Forest) →
+        gotos (flat p h b c r a) ≡ given (is_moved c) a + exits b (breaks a) + exits c (continues a)
     flat_gotos h b c r Nil = let e = exits_none b in let f = exits_none c in omega (arith, e, f)
     flat_gotos h b c r (Then x a) =
         let e = both (flat_item p h b c r x) (flat p (past_item x h) b c r a) in
@@ -287,7 +292,8 @@ module _ (p : Plan) where
         let j = flat_gotos (past_item x h) b c r a in
         omega (arith, e, f, g, i, j)
 
-    item_gotos : (h : Here) (b c : Aim) (r : Arrivals) (x : Tree) → gotos (flat_item p h b c r x) ≡ given_of (is_moved c) x + exits b (breaks_of x) + exits c (continues_of x)
+    item_gotos : (h : Here) (b c : Aim) (r : Arrivals) (x : Tree) → gotos (flat_item p h b c r x) ≡ given_of (is_moved c) x + exits b
+        (breaks_of x) + exits c (continues_of x)
     item_gotos h b c r (If t x y) =
         let f = exits_sum b (breaks x) (breaks y) in
         let g = exits_sum c (continues x) (continues y) in
@@ -299,7 +305,8 @@ module _ (p : Plan) where
         let B = aim q (breaks a) (p.break_label h.construct) in
         let C = aim q (continues a) (p.continue_label h.construct) in
         let e = both (flat p (inside (While t a) h) B C r a) (mark_of C) in
-        let i = within_loop q a (p.break_label h.construct) (p.continue_label h.construct) (gotos (flat p (inside (While t a) h) B C r a)) (flat_gotos (inside (While t a) h) B C r a) in
+        let i = within_loop q a (p.break_label h.construct) (p.continue_label h.construct) (gotos (flat p (inside (While t a) h) B C r a))
+        (flat_gotos (inside (While t a) h) B C r a) in
         let j = no_mark B in
         let k = no_mark C in
         let l = exits_none b in
@@ -310,7 +317,8 @@ module _ (p : Plan) where
         let B = aim q (breaks a) (p.break_label h.construct) in
         let C = aim q (continues a) (p.continue_label h.construct) in
         let e = both (flat p (inside (Do a t) h) B C r a) (mark_of C) in
-        let i = within_loop q a (p.break_label h.construct) (p.continue_label h.construct) (gotos (flat p (inside (Do a t) h) B C r a)) (flat_gotos (inside (Do a t) h) B C r a) in
+        let i = within_loop q a (p.break_label h.construct) (p.continue_label h.construct) (gotos (flat p (inside (Do a t) h) B C r a))
+        (flat_gotos (inside (Do a t) h) B C r a) in
         let j = no_mark B in
         let k = no_mark C in
         let l = exits_none b in
@@ -357,14 +365,17 @@ module _ (p : Plan) where
         let o = exits_none b in
         let stays = Then (Switch s (flat_sections p S j B c d)) (mark_of B) in
         let scattered = tested (switch_kind s) (cases_among (switch_labels d)) + 1 + section_ends d + breaks_in d in
-        let all = by_scattered (is_scattered d) (dissolved p h s d y) stays scattered (cond j (kept_breaks p.live d) 0) (given_in (is_moved c) d + exits c (continues_in d)) (omega (arith, e, f, g, i)) (omega (arith, k, l, m)) in
+        let all = by_scattered (is_scattered d) (dissolved p h s d y) stays scattered (cond j (kept_breaks p.live d) 0)
+        (given_in (is_moved c) d + exits c (continues_in d)) (omega (arith, e, f, g, i)) (omega (arith, k, l, m)) in
         omega (arith, all, o)
     item_gotos h b c r x = let l = exits_none b in let m = exits_none c in omega (arith, l, m)
 
-    last_gotos : (h : Here) (b c : Aim) (r : Arrivals) (a : Forest) → ending p.live a ≡ Breaks → gotos (flat_last p h b c r a) ≡ given (is_moved c) a + exits c (continues a) + exits b (breaks (trimmed p.live a))
+    last_gotos : (h : Here) (b c : Aim) (r : Arrivals) (a : Forest) → ending p.live a ≡ Breaks →
+        gotos (flat_last p h b c r a) ≡ given (is_moved c) a + exits c (continues a) + exits b (breaks (trimmed p.live a))
     last_gotos h b c r Nil e = cc
     last_gotos h b c r (Then x a) e =
-        by_gone (is_gone (ending p.live a)) x a (flat_last_item p h b c r x) (join (flat_item p h b c r x) (flat_last p (past_item x h) b c r a)) b (given (is_moved c) (Then x a) + exits c (continues (Then x a)))
+        by_gone (is_gone (ending p.live a)) x a (flat_last_item p h b c r x) (join (flat_item p h b c r x) (flat_last p (past_item x h) b c r a)) b
+        (given (is_moved c) (Then x a) + exits c (continues (Then x a)))
         (λ q.
         let two = later_last (ending p.live a) (ending_of p.live x) Breaks e q in
         let i = last_item_gotos h b c r x two.1 in
@@ -381,7 +392,8 @@ module _ (p : Plan) where
         let m = exits_sum b (breaks_of x) (breaks (trimmed p.live a)) in
         omega (arith, i, j, k, l, m))
 
-    last_item_gotos : (h : Here) (b c : Aim) (r : Arrivals) (x : Tree) → ending_of p.live x ≡ Breaks → gotos (flat_last_item p h b c r x) ≡ given_of (is_moved c) x + exits c (continues_of x) + exits b (breaks (trimmed_item p.live x))
+    last_item_gotos : (h : Here) (b c : Aim) (r : Arrivals) (x : Tree) → ending_of p.live x ≡ Breaks →
+        gotos (flat_last_item p h b c r x) ≡ given_of (is_moved c) x + exits c (continues_of x) + exits b (breaks (trimmed_item p.live x))
     last_item_gotos h b c r (Block a) e =
         let i = last_gotos h b c r a e in
         let j : breaks (trimmed_item p.live (Block a)) ≡ breaks (trimmed p.live a) = omega arith in
@@ -395,18 +407,21 @@ module _ (p : Plan) where
     last_item_gotos h b c r (Goto l) e = cc
     last_item_gotos h b c r _ e = cc
 
-    sections_gotos : (h : Here) (j : Bool) (b c : Aim) (d : Sections) → total_in (weight 1 0) (flat_sections p h j b c d) ≡ given_in (is_moved c) d + exits b (kept_breaks p.live d) + exits c (continues_in d)
+    sections_gotos : (h : Here) (j : Bool) (b c : Aim) (d : Sections) →
+        total_in (weight 1 0) (flat_sections p h j b c d) ≡ given_in (is_moved c) d + exits b (kept_breaks p.live d) + exits c (continues_in d)
     sections_gotos h j b c NoSection = let e = exits_none b in let f = exits_none c in omega (arith, e, f)
     sections_gotos h j b c (Section cases default a ends d) =
         let f = flat_gotos h b c NoArrival a in
         let z = given (is_moved c) a + exits c (continues a) in
-        let i = by_ending (ending p.live a) a (flat_last p h b c NoArrival a) (flat p h b c NoArrival a) b z (λ e. last_gotos h b c NoArrival a e) (omega (arith, f)) in
+        let i = by_ending (ending p.live a) a (flat_last p h b c NoArrival a) (flat p h b c NoArrival a) b z (λ e. last_gotos h b c NoArrival a e)
+        (omega (arith, f)) in
         let k = sections_gotos (past a h) j b c d in
         let l = exits_sum b (breaks (section_list p.live a (ending p.live a))) (kept_breaks p.live d) in
         let m = exits_sum c (continues a) (continues_in d) in
         omega (arith, i, k, l, m)
 
-    spread_gotos : (h : Here) (b c : Aim) (n : Names) (d : Sections) → gotos (spread p h b c n d) ≡ given_in (is_moved c) d + exits b (breaks_in d + section_ends d) + exits c (continues_in d)
+    spread_gotos : (h : Here) (b c : Aim) (n : Names) (d : Sections) →
+        gotos (spread p h b c n d) ≡ given_in (is_moved c) d + exits b (breaks_in d + section_ends d) + exits c (continues_in d)
     spread_gotos h b c n NoSection = let e = exits_none b in let f = exits_none c in let g = no_mark b in omega (arith, e, f, g)
     spread_gotos h b c n (Section cases default a ends d) =
         let y = flat p h b c (Arrives n) a in

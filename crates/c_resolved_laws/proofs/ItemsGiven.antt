@@ -116,7 +116,8 @@ module _ (counts : FlatCounts) (p : Program) (r : IsResolvedWith counts p) where
     };
   }
 
-  tops_ready : (names : Function → List (List ℕ)) → HaveNames names → (ts : List Top) → Each (IsResolvedTop counts p.tops) ts → Each (IsTopReady (code_of p) names) ts
+  tops_ready : (names : Function → List (List ℕ)) → HaveNames names → (ts : List Top) → Each (IsResolvedTop counts p.tops) ts →
+      Each (IsTopReady (code_of p) names) ts
   tops_ready given h [] g = tt
   tops_ready given h (T.Function f ∷ ts) g = (function_ready given f (h f) g.0, tops_ready given h ts g.1)
   tops_ready given h (T.Include bytes ∷ ts) g = (tt, tops_ready given h ts g.1)

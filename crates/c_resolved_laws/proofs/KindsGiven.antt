@@ -79,7 +79,8 @@ slot_kind [] x = refl
 slot_kind (s ∷ ss) zero = refl
 slot_kind (s ∷ ss) (suc x) = slot_kind ss x
 
-one_global : (g : GlobalVariable) (v : Variable) (o : Option Slot) → kind_held v ≡ kind_or o → (b : Bool) → kind_held (cond b (initial_variable g) v) ≡ kind_or (cond b (Some g.slot) o)
+one_global : (g : GlobalVariable) (v : Variable) (o : Option Slot) → kind_held v ≡ kind_or o → (b : Bool) →
+    kind_held (cond b (initial_variable g) v) ≡ kind_or (cond b (Some g.slot) o)
 one_global g v o e true = refl
 one_global g v o e false = e
 
@@ -95,7 +96,8 @@ abbrev tree_or : Option Function → FunctionTree
 tree_or None = undeclared
 tree_or (Some f) = function_tree f
 
-one_function : (f : Function) (v : Option FunctionTree) (o : Option Function) → v ≡ option_map function_tree o → (b : Bool) → cond b (Some (function_tree f)) v ≡ option_map function_tree (cond b (Some f) o)
+one_function : (f : Function) (v : Option FunctionTree) (o : Option Function) → v ≡ option_map function_tree o → (b : Bool) →
+    cond b (Some (function_tree f)) v ≡ option_map function_tree (cond b (Some f) o)
 one_function f v o e true = refl
 one_function f v o e false = e
 
@@ -116,8 +118,10 @@ the_function_there : (m : List ℕ) (ts : List Top) → function_named m ts ≡ 
 the_function_there m ts =
     let a = first_function (λ f. is_some f.body) m ts in
     let b = first_function (λ f. true) m ts in
-    subst (λ (o : Option FunctionTree). first_of o (function_in (λ f. true) m ts) undeclared ≡ tree_or (option_or a b)) (sym (function_there (λ f. is_some f.body) m ts))
-    (subst (λ (o : Option FunctionTree). first_of (option_map function_tree a) o undeclared ≡ tree_or (option_or a b)) (sym (function_there (λ f. true) m ts)) (first_there a b))
+    subst (λ (o : Option FunctionTree). first_of o (function_in (λ f. true) m ts) undeclared ≡ tree_or (option_or a b))
+    (sym (function_there (λ f. is_some f.body) m ts))
+    (subst (λ (o : Option FunctionTree). first_of (option_map function_tree a) o undeclared ≡ tree_or (option_or a b))
+    (sym (function_there (λ f. true) m ts)) (first_there a b))
 
 -- ---- no function of the file has the name of one of the library
 
@@ -147,12 +151,14 @@ gives_no_int m e =
     let e1 = or_right g _ e in
     let e2 = or_right c _ e1 in
     or_false (bytes_eq m (codes "getchar")) (bytes_eq m (codes "putchar") || bytes_eq m (codes "printf")) (turned (codes "getchar") m (or_left g _ e))
-    (or_false (bytes_eq m (codes "putchar")) (bytes_eq m (codes "printf")) (turned (codes "putchar") m (or_left c _ e1)) (turned (codes "printf") m (or_left f _ e2)))
+    (or_false (bytes_eq m (codes "putchar")) (bytes_eq m (codes "printf")) (turned (codes "putchar") m (or_left c _ e1))
+    (turned (codes "printf") m (or_left f _ e2)))
 
 pub unknown_named : (ts : List Top) → NamesAreBound ts → (m : List ℕ) → IfSome (the_function m ts) (λ f. gives_int m ≡ false)
 unknown_named ts h m =
     each (the_function m ts)
-    (either_unknown m (first_function (λ f. is_some f.body) m ts) (first_function (λ f. true) m ts) (first_unknown (λ f. is_some f.body) m ts at_start h) (first_unknown (λ f. true) m ts at_start h))
+    (either_unknown m (first_function (λ f. is_some f.body) m ts) (first_function (λ f. true) m ts)
+    (first_unknown (λ f. is_some f.body) m ts at_start h) (first_unknown (λ f. true) m ts at_start h))
   where
     each : (o : Option Function) → IsUnknown m o → IfSome o (λ f. gives_int m ≡ false)
     each None i = tt
@@ -167,7 +173,8 @@ unary_same Plus (Some k) h = refl
 unary_same Minus (Some k) h = refl
 unary_same Flip (Some k) h = refl
 
-binary_same : (op : BinaryOp) (o u : Option IntKind) → HasKind o → HasKind u → of_both (binary_kind op) o u ≡ Some (K.binary_kind op (operand_kind o) (operand_kind u))
+binary_same : (op : BinaryOp) (o u : Option IntKind) → HasKind o → HasKind u →
+    of_both (binary_kind op) o u ≡ Some (K.binary_kind op (operand_kind o) (operand_kind u))
 binary_same op None u h k = absurd h
 binary_same op (Some i) None h k = absurd k
 binary_same (Arith o) (Some i) (Some j) h k = refl
@@ -223,7 +230,8 @@ module _ (p : Program) (ss : List Slot) (unknown : (m : List ℕ) → IfSome (th
     of_format : FormatFits xs → KindedArguments code ss [] xs
 
   library_call : (a b c d e : Bool) (kind : Option IntKind) (xs : Arguments) → Given xs
-      → CallFits names kind (cond a (library (Some Int) []) (cond b (library (Some Int) (an_int ∷ [])) (cond c Printf (cond d (library None (an_int ∷ [])) (cond e (library None []) Unknown))))) xs
+      → CallFits names kind (cond a (library (Some Int) []) (cond b (library (Some Int) (an_int ∷ []))
+      (cond c Printf (cond d (library None (an_int ∷ [])) (cond e (library None []) Unknown))))) xs
       → (kind ≡ cond (a || (b || c)) (Some Int) None) × KindedArguments code ss [] xs
   library_call true b c d e kind xs g h = (h.0, g.of_library [] h.1)
   library_call false true c d e kind xs g h = (h.0, g.of_library (an_int ∷ []) h.1)
@@ -232,13 +240,16 @@ module _ (p : Program) (ss : List Slot) (unknown : (m : List ℕ) → IfSome (th
   library_call false false false false true kind xs g h = (h.0, g.of_library [] h.1)
   library_call false false false false false kind xs g h = absurd h
 
-  called : (m : List ℕ) (kind : Option IntKind) (xs : Arguments) → Given xs → (o : Option Function) → IfSome o (λ f. gives_int m ≡ false) → CallFits names kind (declared_or (known m) o) xs
+  called : (m : List ℕ) (kind : Option IntKind) (xs : Arguments) → Given xs → (o : Option Function) → IfSome o (λ f. gives_int m ≡ false) →
+      CallFits names kind (declared_or (known m) o) xs
       → (kind ≡ kind_called m (tree_or o).body (tree_or o).result) × KindedArguments code ss (tree_or o).slots xs
   called m kind xs g (Some f) u h = (h.0 ∙ sym (file_call m f u f.body), g.of_function (is_some f.body) f.params f.slots h.1)
   called m kind xs g None u h =
-      library_call (bytes_eq m (codes "getchar")) (bytes_eq m (codes "putchar")) (bytes_eq m (codes "printf")) (bytes_eq m (codes "exit")) (bytes_eq m (codes "abort")) kind xs g h
+      library_call (bytes_eq m (codes "getchar")) (bytes_eq m (codes "putchar")) (bytes_eq m (codes "printf")) (bytes_eq m (codes "exit"))
+      (bytes_eq m (codes "abort")) kind xs g h
 
-  call_kinded : (m : List ℕ) (kind : Option IntKind) (xs : Arguments) → Given xs → CallFits names kind (callee names m) xs → Kinded code ss (Typed kind (Call m xs))
+  call_kinded : (m : List ℕ) (kind : Option IntKind) (xs : Arguments) → Given xs → CallFits names kind (callee names m) xs →
+      Kinded code ss (Typed kind (Call m xs))
   call_kinded m kind xs g h =
       let c = called m kind xs g (the_function m p.tops) (unknown m) h in
       let e = sym (the_function_there m p.tops) in
@@ -247,7 +258,8 @@ module _ (p : Program) (ss : List Slot) (unknown : (m : List ℕ) → IfSome (th
       subst (λ i. Kinded code ss (Typed i (Call m xs))) (sym k) (k_call m xs a)
 
   -- an array for a parameter
-  array_argument : (d : Bool) (t : Slot) (ts : List Slot) (x : ExpressionTree) (xs : Arguments) → IsArrayFor names d t x → KindedArguments code ss ts xs → KindedArguments code ss (t ∷ ts) (Argument x xs)
+  array_argument : (d : Bool) (t : Slot) (ts : List Slot) (x : ExpressionTree) (xs : Arguments) → IsArrayFor names d t x →
+      KindedArguments code ss ts xs → KindedArguments code ss (t ∷ ts) (Argument x xs)
   array_argument d t ts (Typed kind (Array h)) xs i rest =
       let v = the_some _ (variable names h) i.1 in
       k_array (t ∷ ts) kind h xs (is_home _ h i.1) (grind (arith)) (sym (kind_is h v.0 v.1) ∙ v.2.0) rest
@@ -271,11 +283,13 @@ module _ (p : Program) (ss : List Slot) (unknown : (m : List ℕ) → IfSome (th
     pub kinded : (x : ExpressionTree) → IsOperand x → Within (KindAgrees names) x → Kinded code ss x
     kinded (Typed (Some k) (Number z)) o h = k_number (Some k) z h.0
     kinded (Typed None (Number z)) o h = absurd h.0
-    kinded (Typed kind (Character b)) o h = k_character kind b (of_int kind (converted Char (pos b)) h.0 (char_is_int (converted Char (pos b)) (converted-in_range Char (pos b))))
+    kinded (Typed kind (Character b)) o h = k_character kind b
+        (of_int kind (converted Char (pos b)) h.0 (char_is_int (converted Char (pos b)) (converted-in_range Char (pos b))))
     kinded (Typed kind (EnumName m z)) o h = k_enum kind m z (of_int kind z h.0.0 h.0.1)
     kinded (Typed kind (Text bs)) o h = absurd o
     kinded (Typed kind (Array a)) o h = absurd o
-    kinded (Typed kind (Read at)) o h = subst (λ i. Kinded code ss (Typed i (Read at))) (sym (place_kind_is kind at h.0)) (k_read at (place_kinded at kind h.0 h.1))
+    kinded (Typed kind (Read at)) o h = subst (λ i. Kinded code ss (Typed i (Read at))) (sym (place_kind_is kind at h.0))
+        (k_read at (place_kinded at kind h.0 h.1))
     kinded (Typed kind (Unary op a)) o h =
         subst (λ i. Kinded code ss (Typed i (Unary op a))) (sym (h.0.1 ∙ unary_same op (kind_of a) h.0.0.kind)) (k_unary op a (kinded a h.0.0.operand h.1))
     kinded (Typed (Some k) (Cast a)) o h = k_cast (Some k) a (kinded a h.0.operand h.1)
@@ -283,12 +297,16 @@ module _ (p : Program) (ss : List Slot) (unknown : (m : List ℕ) → IfSome (th
     kinded (Typed kind (Binary op a b)) o h =
         subst (λ i. Kinded code ss (Typed i (Binary op a b))) (sym (h.0.2 ∙ binary_same op (kind_of a) (kind_of b) h.0.0.kind h.0.1.kind))
         (k_binary op a b (kinded a h.0.0.operand h.1.0) (kinded b h.0.1.operand h.1.1))
-    kinded (Typed kind (Conditional a b c)) o h = k_conditional kind a b c (kinded a h.0.0.operand h.1.0) (kinded b h.0.1.operand h.1.1) (kinded c h.0.2.operand h.1.2)
+    kinded (Typed kind (Conditional a b c)) o h = k_conditional kind a b c (kinded a h.0.0.operand h.1.0) (kinded b h.0.1.operand h.1.1)
+        (kinded c h.0.2.operand h.1.2)
     kinded (Typed kind (Assign at a)) o h =
-        subst (λ i. Kinded code ss (Typed i (Assign at a))) (sym (place_kind_is kind at h.0.0)) (k_assign at a (place_kinded at kind h.0.0 h.1.0) (kinded a h.0.1.operand h.1.1))
+        subst (λ i. Kinded code ss (Typed i (Assign at a))) (sym (place_kind_is kind at h.0.0))
+        (k_assign at a (place_kinded at kind h.0.0 h.1.0) (kinded a h.0.1.operand h.1.1))
     kinded (Typed kind (Update op at a)) o h =
-        subst (λ i. Kinded code ss (Typed i (Update op at a))) (sym (place_kind_is kind at h.0.0)) (k_update op at a (place_kinded at kind h.0.0 h.1.0) (kinded a h.0.1.operand h.1.1))
-    kinded (Typed kind (Count at up after)) o h = subst (λ i. Kinded code ss (Typed i (Count at up after))) (sym (place_kind_is kind at h.0)) (k_count at up after (place_kinded at kind h.0 h.1))
+        subst (λ i. Kinded code ss (Typed i (Update op at a))) (sym (place_kind_is kind at h.0.0))
+        (k_update op at a (place_kinded at kind h.0.0 h.1.0) (kinded a h.0.1.operand h.1.1))
+    kinded (Typed kind (Count at up after)) o h = subst (λ i. Kinded code ss (Typed i (Count at up after))) (sym (place_kind_is kind at h.0))
+        (k_count at up after (place_kinded at kind h.0 h.1))
     kinded (Typed kind (Comma a b)) o h =
         subst (λ i. Kinded code ss (Typed i (Comma a b))) (sym h.0.2) (k_comma a b (kinded a h.0.0 h.1.0) (kinded b h.0.1 h.1.1))
     kinded (Typed kind (Call m xs)) o h =
@@ -302,13 +320,16 @@ module _ (p : Program) (ss : List Slot) (unknown : (m : List ℕ) → IfSome (th
     place_kinded (Var h) kind i w = k_var h (is_home _ h i)
     place_kinded (Cell h a) kind i w = k_cell h a (is_home _ h i.0) (kinded a i.1.operand w)
 
-    function_arguments : (xs : Arguments) (d : Bool) (k : ℕ) (ts : List Slot) → ArgumentsFit names d (take k ts) xs → ArgumentsWithin (KindAgrees names) xs → KindedArguments code ss ts xs
+    function_arguments : (xs : Arguments) (d : Bool) (k : ℕ) (ts : List Slot) → ArgumentsFit names d (take k ts) xs →
+        ArgumentsWithin (KindAgrees names) xs → KindedArguments code ss ts xs
     function_arguments NoArgument d k ts h w = k_none ts
     function_arguments (Argument x xs) d zero ts h w = absurd h
     function_arguments (Argument x xs) d (suc k) [] h w = absurd h
-    function_arguments (Argument x xs) d (suc k) (t ∷ ts) h w = one_argument d t ts x xs t.cells h.0 (λ o. kinded x o w.0) (function_arguments xs d k ts h.1 w.1)
+    function_arguments (Argument x xs) d (suc k) (t ∷ ts) h w = one_argument d t ts x xs t.cells h.0 (λ o. kinded x o w.0)
+        (function_arguments xs d k ts h.1 w.1)
 
-    library_arguments : (xs : Arguments) (ts : List Slot) → ArgumentsFit names false ts xs → ArgumentsWithin (KindAgrees names) xs → KindedArguments code ss [] xs
+    library_arguments : (xs : Arguments) (ts : List Slot) → ArgumentsFit names false ts xs → ArgumentsWithin (KindAgrees names) xs →
+        KindedArguments code ss [] xs
     library_arguments NoArgument ts h w = k_none []
     library_arguments (Argument x xs) [] h w = absurd h
     library_arguments (Argument x xs) (t ∷ ts) h w = library_argument t x xs t.cells h.0 (λ o. kinded x o w.0) (library_arguments xs ts h.1 w.1)

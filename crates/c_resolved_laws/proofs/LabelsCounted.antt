@@ -42,7 +42,8 @@ named_bit live _ = 0
 
 -- the labels that are made, where a default counts as often as it stands
 abbrev pub each_label : (ℕ → Bool) → Bool → Tree → ℕ
-each_label named in_jumpy (Switch s c) = cond (is_scattered c) (length (switch_labels c) + cond (leaves c) 1 0) (cond (is_jumpy named in_jumpy c) (one_for (kept_breaks named c)) 0)
+each_label named in_jumpy (Switch s c) = cond (is_scattered c) (length (switch_labels c) + cond (leaves c) 1 0)
+    (cond (is_jumpy named in_jumpy c) (one_for (kept_breaks named c)) 0)
 each_label named in_jumpy x = labels_in named in_jumpy x
 
 -- the nested case labels of a scattered switch
@@ -117,7 +118,8 @@ case_labels n [] true = refl
 case_labels n [] false = refl
 case_labels n (e ∷ es) default = let h = case_labels n es default in omega (arith, h)
 
-for_labels : (j : Bool) (t u : Option ExpressionTree) (a : Forest) (b c : Aim) → labels (flat_for j t u a b c) ≡ labels a + labels (mark_of b) + labels (mark_of c)
+for_labels : (j : Bool) (t u : Option ExpressionTree) (a : Forest) (b c : Aim) →
+    labels (flat_for j t u a b c) ≡ labels a + labels (mark_of b) + labels (mark_of c)
 for_labels true t u a b c =
     let e = both a (join (mark_of c) (third_items u)) in
     let f = both (mark_of c) (third_items u) in
@@ -137,7 +139,8 @@ module _ (number : IntKind → ℤ → ExpressionTree) (k : IntKind) (v : ℕ) (
 
   no_tests_for : (es : List ExpressionTree) → labels (tests_for number k v n es) ≡ 0
   no_tests_for [] = refl
-  no_tests_for (e ∷ es) = let f = both (test_for number k v n e) (tests_for number k v n es) in let g = no_test e in let h = no_tests_for es in omega (arith, f, g, h)
+  no_tests_for (e ∷ es) = let f = both (test_for number k v n e) (tests_for number k v n es) in let g = no_test e in let h = no_tests_for es in
+      omega (arith, f, g, h)
 
   mutual
     no_tests : (a : Forest) → labels (tests number k v n a) ≡ 0
@@ -205,7 +208,8 @@ module _ (p : Plan) where
   -- ---- a loop
 
   within_loop : (j : Bool) (a : Forest) (l m x z : ℕ) → x ≡ given (is_moved (aim j (continues a) m)) a + z
-      → x + labels (mark_of (aim j (breaks a) l)) + labels (mark_of (aim j (continues a) m)) ≡ cond j (one_for (breaks a) + one_for (continues a)) 0 + given j a + z
+      → x + labels (mark_of (aim j (breaks a) l)) + labels (mark_of (aim j (continues a) m)) ≡ cond j (one_for (breaks a) + one_for (continues a))
+      0 + given j a + z
   within_loop j a l m x z e =
       let f = ap (λ q. given q a) (aim_moved j (continues a) m) in
       let g = aim_label j (breaks a) l in
@@ -237,7 +241,8 @@ module _ (p : Plan) where
         let j = flat_labels (past_item x h) b c r a in
         omega (arith, e, f, i, j)
 
-    item_labels : (h : Here) (b c : Aim) (r : Arrivals) (x : Tree) → labels (flat_item p h b c r x) ≡ given_of (is_moved c) x + arrived r (length (arrivals_in x))
+    item_labels : (h : Here) (b c : Aim) (r : Arrivals) (x : Tree) → labels (flat_item p h b c r x) ≡ given_of (is_moved c) x + arrived r
+        (length (arrivals_in x))
     item_labels h b c r (If t x y) =
         let f = arrived_both r (arrivals x) (arrivals y) in
         let i = flat_labels h b c r x in
@@ -249,7 +254,8 @@ module _ (p : Plan) where
         let C = aim q (continues a) (p.continue_label h.construct) in
         let y = flat p (inside (While t a) h) B C r a in
         let e = both y (mark_of C) in
-        let i = within_loop q a (p.break_label h.construct) (p.continue_label h.construct) (labels y) (arrived r (length (arrivals a))) (flat_labels (inside (While t a) h) B C r a) in
+        let i = within_loop q a (p.break_label h.construct) (p.continue_label h.construct) (labels y) (arrived r (length (arrivals a)))
+        (flat_labels (inside (While t a) h) B C r a) in
         omega (arith, e, i)
     item_labels h b c r (Do a t) =
         let q = holds_jump p.live a in
@@ -257,7 +263,8 @@ module _ (p : Plan) where
         let C = aim q (continues a) (p.continue_label h.construct) in
         let y = flat p (inside (Do a t) h) B C r a in
         let e = both y (mark_of C) in
-        let i = within_loop q a (p.break_label h.construct) (p.continue_label h.construct) (labels y) (arrived r (length (arrivals a))) (flat_labels (inside (Do a t) h) B C r a) in
+        let i = within_loop q a (p.break_label h.construct) (p.continue_label h.construct) (labels y) (arrived r (length (arrivals a)))
+        (flat_labels (inside (Do a t) h) B C r a) in
         omega (arith, e, i)
     item_labels h b c r (For first t u a) =
         let q = holds_jump p.live a in
@@ -267,7 +274,8 @@ module _ (p : Plan) where
         let y = flat p (past first s) B C r a in
         let e = both (flat p s b c NoArrival first) (flat_for q t u y B C) in
         let f = for_labels q t u y B C in
-        let i = within_loop q a (p.break_label h.construct) (p.continue_label h.construct) (labels y) (arrived r (length (arrivals a))) (flat_labels (past first s) B C r a) in
+        let i = within_loop q a (p.break_label h.construct) (p.continue_label h.construct) (labels y) (arrived r (length (arrivals a)))
+        (flat_labels (past first s) B C r a) in
         let j = flat_labels s b c NoArrival first in
         omega (arith, e, f, i, j)
     item_labels h b c r (Block a) = let i = flat_labels h b c r a in omega (arith, i)
@@ -297,14 +305,16 @@ module _ (p : Plan) where
         let m = arrived_none r in
         let stays = Then (Switch s (flat_sections p S j B c d)) (mark_of B) in
         let scattered = length (switch_labels d) + cond (leaves d) 1 0 in
-        let all = by_scattered (is_scattered d) (dissolved p h s d y) stays scattered (cond j (one_for (kept_breaks p.live d)) 0) (given_in (is_moved c) d) (omega (arith, e, f, g, i)) (omega (arith, k, l)) in
+        let all = by_scattered (is_scattered d) (dissolved p h s d y) stays scattered (cond j (one_for (kept_breaks p.live d)) 0)
+        (given_in (is_moved c) d) (omega (arith, e, f, g, i)) (omega (arith, k, l)) in
         omega (arith, all, m)
     item_labels h b c r x = let f = arrived_none r in omega (arith, f)
 
     last_labels : (h : Here) (b c : Aim) (a : Forest) → ending p.live a ≡ Breaks → labels (flat_last p h b c NoArrival a) ≡ given (is_moved c) a
     last_labels h b c Nil e = cc
     last_labels h b c (Then x a) e =
-        by_gone (is_gone (ending p.live a)) (flat_last_item p h b c NoArrival x) (join (flat_item p h b c NoArrival x) (flat_last p (past_item x h) b c NoArrival a)) (given (is_moved c) (Then x a))
+        by_gone (is_gone (ending p.live a)) (flat_last_item p h b c NoArrival x)
+        (join (flat_item p h b c NoArrival x) (flat_last p (past_item x h) b c NoArrival a)) (given (is_moved c) (Then x a))
         (λ q.
         let two = later_last (ending p.live a) (ending_of p.live x) Breaks e q in
         let i = last_item_labels h b c x two.1 in
@@ -330,11 +340,13 @@ module _ (p : Plan) where
     sections_labels h j b c NoSection = refl
     sections_labels h j b c (Section cases default a ends d) =
         let f = flat_labels h b c NoArrival a in
-        let i = by_ending (ending p.live a) (flat_last p h b c NoArrival a) (flat p h b c NoArrival a) (given (is_moved c) a) (λ e. last_labels h b c a e) (omega (arith, f)) in
+        let i = by_ending (ending p.live a) (flat_last p h b c NoArrival a) (flat p h b c NoArrival a) (given (is_moved c) a)
+        (λ e. last_labels h b c a e) (omega (arith, f)) in
         let k = sections_labels (past a h) j b c d in
         omega (arith, i, k)
 
-    spread_labels : (h : Here) (b c : Aim) (n : Names) (d : Sections) → labels (spread p h b c n d) ≡ given_in (is_moved c) d + length (switch_labels d) + labels (mark_of b)
+    spread_labels : (h : Here) (b c : Aim) (n : Names) (d : Sections) →
+        labels (spread p h b c n d) ≡ given_in (is_moved c) d + length (switch_labels d) + labels (mark_of b)
     spread_labels h b c n NoSection = omega arith
     spread_labels h b c n (Section cases default a ends d) =
         let y = flat p h b c (Arrives n) a in
@@ -376,17 +388,20 @@ module _ (named : ℕ → Bool) where
   fewer j (Switch s c) = by (is_scattered c) (defaults_few (switch_labels c))
     where
       by : (q : Bool) → length (cases_among (switch_labels c)) + cond (has_default (switch_labels c)) 1 0 ≤ length (switch_labels c)
-          → cond q (length (cases_among (switch_labels c)) + cond (has_default (switch_labels c)) 1 0 + cond (leaves c) 1 0) (cond (is_jumpy named j c) (one_for (kept_breaks named c)) 0)
+          → cond q (length (cases_among (switch_labels c)) + cond (has_default (switch_labels c)) 1 0 + cond (leaves c) 1 0)
+          (cond (is_jumpy named j c) (one_for (kept_breaks named c)) 0)
           ≤ cond q (length (switch_labels c) + cond (leaves c) 1 0) (cond (is_jumpy named j c) (one_for (kept_breaks named c)) 0)
       by true h = omega (arith, h)
       by false h = omega arith
   fewer j x = omega arith
 
   as_many : (j : Bool) (x : Tree) → HasOwnCases x → labels_in named j x ≡ each_label named j x
-  as_many j (Switch s c) o = by (is_scattered c) (first_if (nones (switch_labels c) ≤ 1) (AreDifferent (map (case_number (switch_kind s)) (cases_among (switch_labels c)))) (is_scattered c) o)
+  as_many j (Switch s c) o = by (is_scattered c)
+      (first_if (nones (switch_labels c) ≤ 1) (AreDifferent (map (case_number (switch_kind s)) (cases_among (switch_labels c)))) (is_scattered c) o)
     where
       by : (q : Bool) → (q ≡ true → nones (switch_labels c) ≤ 1)
-          → cond q (length (cases_among (switch_labels c)) + cond (has_default (switch_labels c)) 1 0 + cond (leaves c) 1 0) (cond (is_jumpy named j c) (one_for (kept_breaks named c)) 0)
+          → cond q (length (cases_among (switch_labels c)) + cond (has_default (switch_labels c)) 1 0 + cond (leaves c) 1 0)
+          (cond (is_jumpy named j c) (one_for (kept_breaks named c)) 0)
           ≡ cond q (length (switch_labels c) + cond (leaves c) 1 0) (cond (is_jumpy named j c) (one_for (kept_breaks named c)) 0)
       by true f = let d = default_once (switch_labels c) (f refl) in let e = labels_split (switch_labels c) in omega (arith, d, e)
       by false f = refl
@@ -448,7 +463,8 @@ module _ (named : ℕ → Bool) where
     marks_named_in (If t a b) = let e = named_both (marks a) (marks b) in let i = marks_named a in let j = marks_named b in omega (arith, e, i, j)
     marks_named_in (While t a) = let i = marks_named a in omega (arith, i)
     marks_named_in (Do a t) = let i = marks_named a in omega (arith, i)
-    marks_named_in (For first t u a) = let e = named_both (marks first) (marks a) in let i = marks_named first in let j = marks_named a in omega (arith, e, i, j)
+    marks_named_in (For first t u a) = let e = named_both (marks first) (marks a) in let i = marks_named first in let j = marks_named a in
+        omega (arith, e, i, j)
     marks_named_in (Block a) = let i = marks_named a in omega (arith, i)
     marks_named_in (Switch s d) = let i = marks_named_among d in omega (arith, i)
     marks_named_in (Mark l) = omega arith
@@ -456,7 +472,9 @@ module _ (named : ℕ → Bool) where
 
     marks_named_among : (d : Sections) → each_named (marks_among d) ≡ total_in (named_bit named) d
     marks_named_among NoSection = refl
-    marks_named_among (Section cases default a ends d) = let e = named_both (marks a) (marks_among d) in let i = marks_named a in let j = marks_named_among d in omega (arith, e, i, j)
+    marks_named_among (Section cases default a ends d) = let e = named_both (marks a) (marks_among d) in let i = marks_named a in let j =
+        marks_named_among d in
+        omega (arith, e, i, j)
 
   pub named_small : (ls : List ℕ) → labels_named named ls ≤ each_named ls
   named_small [] = omega arith

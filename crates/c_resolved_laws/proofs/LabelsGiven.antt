@@ -50,10 +50,13 @@ module _ (l : ℕ) where
         grind (arith)
 
     counted_of : (x : Tree) → total_of Bit x ≡ count_in l (gathered_of marked_label x)
-    counted_of (If t a b) = let e = counted a in let f = counted b in let g = count_joined l (gathered marked_label a) (gathered marked_label b) in grind (arith)
+    counted_of (If t a b) = let e = counted a in let f = counted b in let g = count_joined l (gathered marked_label a) (gathered marked_label b) in
+        grind (arith)
     counted_of (While t a) = let e = counted a in grind (arith)
     counted_of (Do a t) = let e = counted a in grind (arith)
-    counted_of (For first t u a) = let e = counted first in let f = counted a in let g = count_joined l (gathered marked_label first) (gathered marked_label a) in grind (arith)
+    counted_of (For first t u a) = let e = counted first in let f = counted a in let g =
+        count_joined l (gathered marked_label first)
+        (gathered marked_label a) in grind (arith)
     counted_of (Switch s c) = let e = counted_in c in grind (arith)
     counted_of (Block a) = let e = counted a in grind (arith)
     counted_of (Mark m) = grind (arith)
@@ -71,7 +74,9 @@ module _ (l : ℕ) where
 
     counted_in : (c : Sections) → total_in Bit c ≡ count_in l (gathered_in marked_label c)
     counted_in NoSection = refl
-    counted_in (Section cases default a ends c) = let e = counted a in let f = counted_in c in let g = count_joined l (gathered marked_label a) (gathered_in marked_label c) in grind (arith)
+    counted_in (Section cases default a ends c) = let e = counted a in let f = counted_in c in let g =
+        count_joined l (gathered marked_label a)
+        (gathered_in marked_label c) in grind (arith)
 
 abbrev bit : Bool → ℕ
 bit b = cond b 1 0
@@ -99,7 +104,8 @@ once_more false n f h = grind (arith)
 -- each stands there at most once
 once_there : (l i n : ℕ) → count_in l (numbers_from i n) ≤ 1
 once_there l i zero = grind (arith)
-once_there l i (suc n) = once_more (eqb l i) (count_in l (numbers_from (suc i) n)) (λ t. let e = (Decides-eqb l i).0 t in none_before l (suc i) n (grind (arith))) (once_there l (suc i) n)
+once_there l i (suc n) = once_more (eqb l i) (count_in l (numbers_from (suc i) n))
+    (λ t. let e = (Decides-eqb l i).0 t in none_before l (suc i) n (grind (arith))) (once_there l (suc i) n)
 
 -- ---- labels of switches
 
@@ -176,18 +182,23 @@ mapped_some k (Some z) h = refl
 
 pub different : (k : IntKind) (es : List ExpressionTree) → Each IsConstantValue es → AllDiffer (map (case_number k) es) → AreDifferent (map (case_number k) es)
 different k [] c h = tt
-different k (e ∷ es) c h =
-    (same_self (case_number k e) (mapped_some k (constant_value e) c.0.untrapped), others (case_number k e) (map (case_number k) es) h.0, different k es c.1 h.1)
+different k (e ∷ es) c h = (
+  same_self (case_number k e) (mapped_some k (constant_value e) c.0.untrapped),
+  others (case_number k e) (map (case_number k) es) h.0,
+  different k es c.1 h.1,
+)
 
 always : (b : Bool) (A : Type 0) → A → IfTrue b A
 always true A a = a
 always false A a = tt
 
-own_labels : (k : IntKind) (c : Sections) → AreLabels k (switch_labels c) → (nones (P.switch_labels c) ≤ 1) × AreDifferent (map (case_number k) (P.cases_among (P.switch_labels c)))
+own_labels : (k : IntKind) (c : Sections) → AreLabels k (switch_labels c) →
+    (nones (P.switch_labels c) ≤ 1) × AreDifferent (map (case_number k) (P.cases_among (P.switch_labels c)))
 own_labels k c h =
     subst (λ ls. (nones ls ≤ 1) × AreDifferent (map (case_number k) (P.cases_among ls))) (sym (labels_same c)) (
       subst (λ n. n ≤ 1) (sym (nones_same (switch_labels c))) h.single,
-      subst (λ es. AreDifferent (map (case_number k) es)) (sym (cases_same (switch_labels c))) (different k (cases_among (switch_labels c)) h.constant h.distinct),
+      subst (λ es. AreDifferent (map (case_number k) es)) (sym (cases_same (switch_labels c)))
+          (different k (cases_among (switch_labels c)) h.constant h.distinct),
     )
 
 kind_there : (s : SelectorTree) (Q : IntKind → Type 0) → IsSomeAnd (selector_kind s) Q → Q (switch_kind s)
@@ -208,5 +219,6 @@ pub function_labels : (counts : FlatCounts) (ts : List Top) (f : Function) → I
 function_labels counts ts f r = record {
   once = λ l. subst (λ n. n ≤ 1) (sym (counted l (body_of f) ∙ ap (count_in l) r.form.labels)) (once_there l 0 (length f.labels));
   all = λ l h. counted l (body_of f) ∙ ap (count_in l) r.form.labels ∙ none_behind l 0 (length f.labels) (grind (arith));
-  cases = everywhere_map (λ x. HasCases x × HasSourceForm f x) HasOwnCases (own_cases f) (body_of f) (everywhere_both HasCases (HasSourceForm f) (body_of f) r.cases r.form.items);
+  cases = everywhere_map (λ x. HasCases x × HasSourceForm f x) HasOwnCases (own_cases f) (body_of f)
+      (everywhere_both HasCases (HasSourceForm f) (body_of f) r.cases r.form.items);
 }

@@ -35,14 +35,16 @@ module _ (slots : List Slot) (n : ℕ) (body : Forest) where
   codes_weigh gotos labels =
       let p = own in
       let q = measuring in
-      flat_same gotos labels p.live p.source q.source p.break_label q.break_label p.continue_label q.continue_label p.default_label q.default_label p.case_label q.case_label slots [] constant constant (first_here (length slots))
+      flat_same gotos labels p.live p.source q.source p.break_label q.break_label p.continue_label q.continue_label p.default_label q.default_label
+      p.case_label q.case_label slots [] constant constant (first_here (length slots))
       (first_here 0) body stays stays no_arrival
 
   form_weighs : (gotos labels : ℕ) → total (weight gotos labels) (flat_body constant slots n body) ≡ total (weight gotos labels) (measured_form body)
   form_weighs gotos labels =
       let p = numbered (marks by_codes) own in
       let q = measuring in
-      flat_same gotos labels p.live p.source q.source p.break_label q.break_label p.continue_label q.continue_label p.default_label q.default_label p.case_label q.case_label slots [] constant constant (first_here (length slots))
+      flat_same gotos labels p.live p.source q.source p.break_label q.break_label p.continue_label q.continue_label p.default_label q.default_label
+      p.case_label q.case_label slots [] constant constant (first_here (length slots))
       (first_here 0) body stays stays no_arrival
 
   pub same_labels : label_count slots n body ≡ length (marks (measured_form body))

@@ -96,7 +96,11 @@ module _ (slots : List Slot) (ss : List Scope) where
 
   mutual
     item_bound : (x : Tree) (ts : List Scope) → SeesAs ts → EverywhereOf Known x → ItemIsBound slots ts x
-    item_bound (If t a b) ts e h = (test_map (IsBound slots ss) (IsBound slots ts) (bound ts e) t h.0.0, all_bound a (inside ts) e h.1, all_bound b (inside ts) e h.2)
+    item_bound (If t a b) ts e h = (
+      test_map (IsBound slots ss) (IsBound slots ts) (bound ts e) t h.0.0,
+      all_bound a (inside ts) e h.1,
+      all_bound b (inside ts) e h.2,
+    )
     item_bound (While t a) ts e h = (test_map (IsBound slots ss) (IsBound slots ts) (bound ts e) t h.0.0, all_bound a (inside ts) e h.1)
     item_bound (Do a t) ts e h = (test_map (IsBound slots ss) (IsBound slots ts) (bound ts e) t h.0.0, all_bound a (inside ts) e h.1)
     item_bound (For first t u a) ts e h =

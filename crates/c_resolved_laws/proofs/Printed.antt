@@ -86,4 +86,5 @@ top_text (T.Global g) h = tt
 top_text (T.Note bytes) h = tt
 
 pub plain_text : (p : Program) → is_plain_program p ≡ true → HasText p
-plain_text p e = All-from_recursion TopHasText p.tops (each_map IsTopStructured TopHasText top_text p.tops (recursion_from_All IsTopStructured p.tops (plain_structured p e)))
+plain_text p e = All-from_recursion TopHasText p.tops (each_map IsTopStructured TopHasText top_text p.tops
+    (recursion_from_All IsTopStructured p.tops (plain_structured p e)))

@@ -142,14 +142,24 @@ module _ (Q : ℕ → Type 0) where
   mutual
     pub marked : (xs : Forest) → Each Q (gathered marked_label xs) → Everywhere Marked xs
     marked Nil h = tt
-    marked (Then x xs) h =
-        (marked_of x (each_left Q (gathered_of marked_label x) (gathered marked_label xs) h), marked xs (each_right Q (gathered_of marked_label x) (gathered marked_label xs) h))
+    marked (Then x xs) h = (
+      marked_of x (each_left Q (gathered_of marked_label x) (gathered marked_label xs) h),
+      marked xs (each_right Q (gathered_of marked_label x) (gathered marked_label xs) h),
+    )
 
     marked_of : (x : Tree) → Each Q (gathered_of marked_label x) → EverywhereOf Marked x
-    marked_of (If t a b) h = (tt, marked a (each_left Q (gathered marked_label a) (gathered marked_label b) h), marked b (each_right Q (gathered marked_label a) (gathered marked_label b) h))
+    marked_of (If t a b) h = (
+      tt,
+      marked a (each_left Q (gathered marked_label a) (gathered marked_label b) h),
+      marked b (each_right Q (gathered marked_label a) (gathered marked_label b) h),
+    )
     marked_of (While t a) h = (tt, marked a h)
     marked_of (Do a t) h = (tt, marked a h)
-    marked_of (For first t u a) h = (tt, marked first (each_left Q (gathered marked_label first) (gathered marked_label a) h), marked a (each_right Q (gathered marked_label first) (gathered marked_label a) h))
+    marked_of (For first t u a) h = (
+      tt,
+      marked first (each_left Q (gathered marked_label first) (gathered marked_label a) h),
+      marked a (each_right Q (gathered marked_label first) (gathered marked_label a) h),
+    )
     marked_of (Switch s c) h = (tt, marked_in c h)
     marked_of (Block a) h = (tt, marked a h)
     marked_of (Evaluate e) h = h
@@ -167,7 +177,11 @@ module _ (Q : ℕ → Type 0) where
 
     marked_in : (c : Sections) → Each Q (gathered_in marked_label c) → EverywhereIn Marked c
     marked_in NoSection h = tt
-    marked_in (Section cases default a ends c) h = (marked a (each_left Q (gathered marked_label a) (gathered_in marked_label c) h), marked_in c (each_right Q (gathered marked_label a) (gathered_in marked_label c) h))
+    marked_in (Section cases default a ends c) h = (
+      marked a (each_left Q (gathered marked_label a) (gathered_in marked_label c) h),
+      marked_in c
+          (each_right Q (gathered marked_label a) (gathered_in marked_label c) h),
+    )
 
 -- numbers from i on are below i + n
 pub numbers_below : (i n m : ℕ) → i + n ≤ m → Each (λ l. l < m) (numbers_from i n)
@@ -240,7 +254,8 @@ module _ (counts : FlatCounts) (ts : List Top) where
         parameters = r.form.parameters;
         slots =
             everywhere_map (λ x. ItemExpressions (Within (KindAgrees n)) x × IsInitialised f.slots x) (ItemSlots (λ x. x < length f.slots)) (item_below n) a
-            (everywhere_both (ItemExpressions (Within (KindAgrees n))) (IsInitialised f.slots) a (everywhere_map (ItemAgrees n) (ItemExpressions (Within (KindAgrees n))) (λ x h. h.kinds) a r.kinds) r.initialised);
+            (everywhere_both (ItemExpressions (Within (KindAgrees n))) (IsInitialised f.slots) a
+            (everywhere_map (ItemAgrees n) (ItemExpressions (Within (KindAgrees n))) (λ x h. h.kinds) a r.kinds) r.initialised);
         labels =
             everywhere_map (λ x. HasSourceForm f x × Marked (IsLabel f) x) (ItemLabels (IsLabel f)) (item_labels f) a
             (everywhere_both (HasSourceForm f) (Marked (IsLabel f)) a r.form.items
@@ -263,7 +278,8 @@ module _ (counts : FlatCounts) (ts : List Top) where
   top_unflat (T.Note bytes) r = tt
 
 pub resolved_ranged : (counts : FlatCounts) (p : Program) → IsResolvedWith counts p → IsProgramInRange p
-resolved_ranged counts p r = All-from_recursion IsTopInRange p.tops (each_map (IsResolvedTop counts p.tops) IsTopInRange (top_ranged counts p.tops) p.tops r.tops)
+resolved_ranged counts p r = All-from_recursion IsTopInRange p.tops
+    (each_map (IsResolvedTop counts p.tops) IsTopInRange (top_ranged counts p.tops) p.tops r.tops)
 
 pub resolved_unflat : (counts : FlatCounts) (p : Program) → IsResolvedWith counts p → All IsTopUnflat p.tops
 resolved_unflat counts p r = All-from_recursion IsTopUnflat p.tops (each_map (IsResolvedTop counts p.tops) IsTopUnflat (top_unflat counts p.tops) p.tops r.tops)

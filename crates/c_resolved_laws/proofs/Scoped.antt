@@ -34,7 +34,13 @@ tops_uncounted counts all (T.Global g ∷ ts) h = (h.0, tops_uncounted counts al
 tops_uncounted counts all (T.Note bytes ∷ ts) h = (tt, tops_uncounted counts all ts h.1)
 
 pub resolved_uncounted : (counts : FlatCounts) (p : Program) → IsResolvedWith counts p → IsResolvedWith no_counts p
-resolved_uncounted counts p r = record { spelled = r.spelled; bound = r.bound; declarations = r.declarations; main = r.main; tops = tops_uncounted counts p.tops p.tops r.tops }
+resolved_uncounted counts p r = record {
+  spelled = r.spelled;
+  bound = r.bound;
+  declarations = r.declarations;
+  main = r.main;
+  tops = tops_uncounted counts p.tops p.tops r.tops;
+}
 
 -- ---- names that are bound in a scope
 

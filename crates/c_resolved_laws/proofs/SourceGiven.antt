@@ -38,14 +38,24 @@ module _ (Q : ℕ → Type 0) where
   mutual
     pub declared : (xs : Forest) → Each Q (gathered declared_slot xs) → Everywhere Declared xs
     declared Nil h = tt
-    declared (Then x xs) h =
-        (declared_of x (each_left Q (gathered_of declared_slot x) (gathered declared_slot xs) h), declared xs (each_right Q (gathered_of declared_slot x) (gathered declared_slot xs) h))
+    declared (Then x xs) h = (
+      declared_of x (each_left Q (gathered_of declared_slot x) (gathered declared_slot xs) h),
+      declared xs (each_right Q (gathered_of declared_slot x) (gathered declared_slot xs) h),
+    )
 
     declared_of : (x : Tree) → Each Q (gathered_of declared_slot x) → EverywhereOf Declared x
-    declared_of (If t a b) h = (tt, declared a (each_left Q (gathered declared_slot a) (gathered declared_slot b) h), declared b (each_right Q (gathered declared_slot a) (gathered declared_slot b) h))
+    declared_of (If t a b) h = (
+      tt,
+      declared a (each_left Q (gathered declared_slot a) (gathered declared_slot b) h),
+      declared b (each_right Q (gathered declared_slot a) (gathered declared_slot b) h),
+    )
     declared_of (While t a) h = (tt, declared a h)
     declared_of (Do a t) h = (tt, declared a h)
-    declared_of (For first t u a) h = (tt, declared first (each_left Q (gathered declared_slot first) (gathered declared_slot a) h), declared a (each_right Q (gathered declared_slot first) (gathered declared_slot a) h))
+    declared_of (For first t u a) h = (
+      tt,
+      declared first (each_left Q (gathered declared_slot first) (gathered declared_slot a) h),
+      declared a (each_right Q (gathered declared_slot first) (gathered declared_slot a) h),
+    )
     declared_of (Switch s c) h = (tt, declared_in c h)
     declared_of (Block a) h = (tt, declared a h)
     declared_of (Evaluate e) h = h
@@ -63,7 +73,11 @@ module _ (Q : ℕ → Type 0) where
 
     declared_in : (c : Sections) → Each Q (gathered_in declared_slot c) → EverywhereIn Declared c
     declared_in NoSection h = tt
-    declared_in (Section cases default a ends c) h = (declared a (each_left Q (gathered declared_slot a) (gathered_in declared_slot c) h), declared_in c (each_right Q (gathered declared_slot a) (gathered_in declared_slot c) h))
+    declared_in (Section cases default a ends c) h = (
+      declared a (each_left Q (gathered declared_slot a) (gathered_in declared_slot c) h),
+      declared_in
+          c (each_right Q (gathered declared_slot a) (gathered_in declared_slot c) h),
+    )
 
 numbers_from_on : (m i n : ℕ) → m ≤ i → Each (λ x. m ≤ x) (numbers_from i n)
 numbers_from_on m i zero h = tt
@@ -190,11 +204,14 @@ module _ (f : Function) (s : Setting) (live : ℕ → Bool) (g : IsSettingOf s f
   item_source (Note bs) h = tt
 
 -- each slot that a body declares is none of a parameter
-pub function_declared : (counts : FlatCounts) (ts : List Top) (f : Function) → IsResolvedFunction counts ts f → Everywhere (Declared (λ y. f.params ≤ y)) (body_of f)
+pub function_declared : (counts : FlatCounts) (ts : List Top) (f : Function) → IsResolvedFunction counts ts f →
+    Everywhere (Declared (λ y. f.params ≤ y)) (body_of f)
 function_declared counts ts f r =
-    declared (λ y. f.params ≤ y) (body_of f) (subst (Each (λ y. f.params ≤ y)) (sym r.form.slots) (numbers_from_on f.params f.params (length f.slots - f.params) (grind (arith))))
+    declared (λ y. f.params ≤ y) (body_of f) (subst (Each (λ y. f.params ≤ y)) (sym r.form.slots)
+    (numbers_from_on f.params f.params (length f.slots - f.params) (grind (arith))))
 
-pub function_source : (counts : FlatCounts) (ts : List Top) (f : Function) (s : Setting) → IsResolvedFunction counts ts f → IsSettingOf s f → Everywhere (IsSourceItem s (is_named (body_of f))) (body_of f)
+pub function_source : (counts : FlatCounts) (ts : List Top) (f : Function) (s : Setting) → IsResolvedFunction counts ts f → IsSettingOf s f →
+    Everywhere (IsSourceItem s (is_named (body_of f))) (body_of f)
 function_source counts ts f s r g =
     let a = body_of f in
     let live = is_named a in

@@ -27,7 +27,8 @@ top_plain counts ts (T.Enum xs) r = refl
 top_plain counts ts (T.Global g) r = refl
 top_plain counts ts (T.Note bytes) r = refl
 
-tops_plain : (counts : FlatCounts) (all ts : List Top) → Each (IsResolvedTop counts all) ts → all_true (map (top_holds is_jump_free_function) ts) ≡ all_true (map (top_holds is_plain_function) ts)
+tops_plain : (counts : FlatCounts) (all ts : List Top) → Each (IsResolvedTop counts all) ts →
+    all_true (map (top_holds is_jump_free_function) ts) ≡ all_true (map (top_holds is_plain_function) ts)
 tops_plain counts all [] r = refl
 tops_plain counts all (t ∷ ts) r =
     ap (λ b. b && all_true (map (top_holds is_jump_free_function) ts)) (top_plain counts all t r.0)

@@ -38,7 +38,8 @@ scattered =
     Then
     (Switch (Selects (number 1))
     (Section (number 1 ∷ []) false
-    (Then (While (Source (number 1)) (Then (Arrival (Some (number 2))) (Then (If (Source (number 1)) (Then Continue Nil) Nil) (Then (If (Source (number 1)) (Then Break Nil) Nil) Nil)))) Nil)
+    (Then (While (Source (number 1)) (Then (Arrival (Some (number 2)))
+    (Then (If (Source (number 1)) (Then Continue Nil) Nil) (Then (If (Source (number 1)) (Then Break Nil) Nil) Nil)))) Nil)
     true NoSection))
     Nil
 
@@ -52,5 +53,6 @@ scattered_made = refl
 twice : flat_counts (Then (Goto 0) (Then (Mark 0) (Then (Mark 0) Nil))) ≡ Some (1, 1)
 twice = refl
 
-defaults : flat_counts (Then (Switch (Selects (number 1)) (Section [] true (Then (While (Source (number 1)) (Then (Arrival None) Nil)) Nil) false NoSection)) Nil) ≡ Some (1, 1)
+defaults : flat_counts (Then (Switch (Selects (number 1)) (Section [] true (Then (While (Source (number 1)) (Then (Arrival None) Nil)) Nil) false
+    NoSection)) Nil) ≡ Some (1, 1)
 defaults = refl

@@ -90,7 +90,8 @@ pub record ResolvedLaws : Type 0 where
   -- its body can be flattened
   pub good : (counts : FlatCounts) (ts : List Top) (f : Function) → IsResolvedFunction counts ts f → IsGoodSource (length f.labels) (body_of f)
   -- its items are those that the flat form takes
-  pub source : (counts : FlatCounts) (ts : List Top) (f : Function) (s : Setting) → IsResolvedFunction counts ts f → IsSettingOf s f → Everywhere (IsSourceItem s (is_named (body_of f))) (body_of f)
+  pub source : (counts : FlatCounts) (ts : List Top) (f : Function) (s : Setting) → IsResolvedFunction counts ts f → IsSettingOf s f →
+      Everywhere (IsSourceItem s (is_named (body_of f))) (body_of f)
   -- and no nested case label stands outside of a switch
   pub calm : (counts : FlatCounts) (ts : List Top) (f : Function) → IsResolvedFunction counts ts f → is_empty (arrivals (body_of f)) ≡ true
   -- a list without declarations is bound if each of its names is, in whatever lists of it they stand

@@ -36,7 +36,8 @@ in_bounds_is (pos n) = by (nat_le 1 n && nat_le n 65536) refl
   where
     by : (b : Bool) → (nat_le 1 n && nat_le n 65536) ≡ b → HasBounds (cond b (Some n) None)
     by false e = tt
-    by true e = let l = and_left (nat_le 1 n) (nat_le n 65536) e in let r = and_right (nat_le 1 n) (nat_le n 65536) e in (grind (arith, nat_tests), grind (arith, nat_tests))
+    by true e = let l = and_left (nat_le 1 n) (nat_le n 65536) e in let r = and_right (nat_le 1 n) (nat_le n 65536) e in
+        (grind (arith, nat_tests), grind (arith, nat_tests))
 
 -- the length is a constant
 abbrev pub IsGivenLength : Length → Type 0
@@ -78,7 +79,8 @@ module _ (word : ℕ → List ℕ) (v : Term → Expression) where
       let r = or_right (nat_lt n (length ts)) (local && nat_lt 1024 n) e in
       (subst (λ k. k ≤ n) (sym (length-map (map v ts) expression_tree ∙ length-map ts v)) (not_more n (length ts) l), few local n h r)
 
-  bounded : (local : Bool) (o : Option ℕ) (i : Initialiser) → HasBounds o → not (is_some o) ≡ false → is_bad_value local (of_length o) i ≡ false → Fine local (cells_of (of_length o)) i
+  bounded : (local : Bool) (o : Option ℕ) (i : Initialiser) → HasBounds o → not (is_some o) ≡ false → is_bad_value local (of_length o) i ≡ false →
+      Fine local (cells_of (of_length o)) i
   bounded local None i h e f = absurd (true≢false e)
   bounded local (Some n) i h e f = (h, many_given local n i h.1 f)
 
@@ -87,7 +89,8 @@ module _ (word : ℕ → List ℕ) (v : Term → Expression) where
   number_given local (OneValue t) e = refl
   number_given local (ValueList ts) e = absurd (true≢false e)
 
-  shaped : (local : Bool) (l : Length) (i : Initialiser) → IsGivenLength l → IsReadInitialiser word i → is_bad_shape local l i ≡ false → Fine local (cells_of (extent_of l i)) i
+  shaped : (local : Bool) (l : Length) (i : Initialiser) → IsGivenLength l → IsReadInitialiser word i → is_bad_shape local l i ≡ false →
+      Fine local (cells_of (extent_of l i)) i
   shaped local NoLength i g r e = (tt, number_given local i e)
   shaped local OfList NoValue g r e = absurd (true≢false e)
   shaped local OfList (OneValue t) g r e = absurd (true≢false e)
@@ -99,9 +102,11 @@ module _ (word : ℕ → List ℕ) (v : Term → Expression) where
       ((r.0, most), many_given local n (ValueList ts) most b)
   shaped local (Constant None) i g r e = absurd g
   shaped local (Constant (Some z)) i g r e =
-      bounded local (in_bounds z) i (in_bounds_is z) (or_left (not (is_some (in_bounds z))) (is_bad_value local (of_length (in_bounds z)) i) e) (or_right (not (is_some (in_bounds z))) (is_bad_value local (of_length (in_bounds z)) i) e)
+      bounded local (in_bounds z) i (in_bounds_is z) (or_left (not (is_some (in_bounds z))) (is_bad_value local (of_length (in_bounds z)) i) e)
+      (or_right (not (is_some (in_bounds z))) (is_bad_value local (of_length (in_bounds z)) i) e)
 
   -- the cells of a declared variable, and its initialisers
-  pub array_fine : (local : Bool) (env : Env) (d : Declarator) → size_faults env d.size [] ≡ [] → IsReadInitialiser word d.value → is_bad_array local env d ≡ false
+  pub array_fine : (local : Bool) (env : Env) (d : Declarator) → size_faults env d.size [] ≡ [] → IsReadInitialiser word d.value →
+      is_bad_array local env d ≡ false
       → Fine local (cells_of (extent env d.size d.value)) d.value
   array_fine local env d s r e = shaped local (length_in env d.size) d.value (size_given env d.size s) r e

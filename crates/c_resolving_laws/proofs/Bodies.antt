@@ -39,20 +39,24 @@ or_turned true true c = refl
 or_turned true false c = refl
 or_turned false b c = refl
 
-in_set : (m n x : List ℕ) (xs : List (List ℕ)) (o : Ordering) → is_eq o ≡ bytes_eq n x → has_function (with_function n xs) m ≡ (bytes_eq m n || has_function xs m)
+in_set : (m n x : List ℕ) (xs : List (List ℕ)) (o : Ordering) → is_eq o ≡ bytes_eq n x →
+    has_function (with_function n xs) m ≡ (bytes_eq m n || has_function xs m)
     → has_function (match_ordering o (n ∷ x ∷ xs) (x ∷ xs) (x ∷ with_function n xs)) m ≡ (bytes_eq m n || (bytes_eq m x || has_function xs m))
 in_set m n x xs Less e h = refl
-in_set m n x xs Equal e h = or_same (bytes_eq m x) (has_function xs m) ∙ ap (λ w. bytes_eq m w || (bytes_eq m x || has_function xs m)) (sym (same_names n x (sym e)))
+in_set m n x xs Equal e h = or_same (bytes_eq m x) (has_function xs m) ∙
+    ap (λ w. bytes_eq m w || (bytes_eq m x || has_function xs m)) (sym (same_names n x (sym e)))
 in_set m n x xs Greater e h = ap (λ b. bytes_eq m x || b) h ∙ or_turned (bytes_eq m x) (bytes_eq m n) (has_function xs m)
 
 pub has_with : (m n : List ℕ) (xs : List (List ℕ)) → has_function (with_function n xs) m ≡ (bytes_eq m n || has_function xs m)
 has_with m n [] = refl
 has_with m n (x ∷ xs) = in_set m n x xs (name_cmp n x) (is_eq-slice_cmp n x) (has_with m n xs)
 
-pub has_with_body : (word : ℕ → List ℕ) (m : List ℕ) (f : Function) (xs : List (List ℕ)) → has_function (with_body word f xs) m ≡ ((bytes_eq m (word f.name) && has_body f) || has_function xs m)
+pub has_with_body : (word : ℕ → List ℕ) (m : List ℕ) (f : Function) (xs : List (List ℕ)) →
+    has_function (with_body word f xs) m ≡ ((bytes_eq m (word f.name) && has_body f) || has_function xs m)
 has_with_body word m f xs = by (has_body f) (bytes_eq m (word f.name)) (has_with m (word f.name) xs)
   where
-    by : (b c : Bool) → has_function (with_function (word f.name) xs) m ≡ (c || has_function xs m) → has_function (cond b (with_function (word f.name) xs) xs) m ≡ ((c && b) || has_function xs m)
+    by : (b c : Bool) → has_function (with_function (word f.name) xs) m ≡ (c || has_function xs m) →
+        has_function (cond b (with_function (word f.name) xs) xs) m ≡ ((c && b) || has_function xs m)
     by true true h = h
     by true false h = h
     by false true h = refl
@@ -68,7 +72,8 @@ some_or None u = refl
 some_or (Some a) u = refl
 
 pub body_append : (m : List ℕ) (a b : List Top) → has_body_in m (a ++ b) ≡ (has_body_in m a || has_body_in m b)
-body_append m a b = ap is_some (function_append (λ f. is_some f.body) m a b) ∙ some_or (first_function (λ f. is_some f.body) m a) (first_function (λ f. is_some f.body) m b)
+body_append m a b = ap is_some (function_append (λ f. is_some f.body) m a b) ∙
+    some_or (first_function (λ f. is_some f.body) m a) (first_function (λ f. is_some f.body) m b)
 
 pub notes_bodiless : (m : List ℕ) (bs : List (List ℕ)) → has_body_in m (map T.Note bs) ≡ false
 notes_bodiless m [] = refl
@@ -78,7 +83,8 @@ globals_bodiless : (m : List ℕ) (static : Bool) (k : Kinded) (ds : List Declar
 globals_bodiless m static k [] env = refl
 globals_bodiless m static k (d ∷ ds) env = globals_bodiless m static k ds (global_declared k d env)
 
-pub body_there : (word : ℕ → List ℕ) (notes : Anchor → List (List ℕ)) (f : Function) (scopes : List Scope) (o : Option Body) → is_some (defined word notes f o scopes).body ≡ is_some o
+pub body_there : (word : ℕ → List ℕ) (notes : Anchor → List (List ℕ)) (f : Function) (scopes : List Scope) (o : Option Body) →
+    is_some (defined word notes f o scopes).body ≡ is_some o
 body_there word notes f scopes None = refl
 body_there word notes f scopes (Some b) = refl
 
@@ -109,10 +115,12 @@ form_bodies file m first (Globals static d) s = globals_bodiless m static (kinde
 form_bodies file m first (Defines f) s =
     let scopes = (function_declared file f s).scopes in
     let t = function_of file.word file.notes f scopes in
-    one_function m t ∙ (ap (λ w. bytes_eq m w && is_some t.body) (function_name file.word file.notes f scopes f.body) ∙ ap (λ b. bytes_eq m (file.word f.name) && b) (body_there file.word file.notes f scopes f.body))
+    one_function m t ∙ (ap (λ w. bytes_eq m w && is_some t.body) (function_name file.word file.notes f scopes f.body) ∙
+    ap (λ b. bytes_eq m (file.word f.name) && b) (body_there file.word file.notes f scopes f.body))
 form_bodies file m first Unread s = refl
 
-listed_body : (word : ℕ → List ℕ) (m : List ℕ) (first after : ℕ) (form : Form) (xs : List tops.Top) → has_function (bodies_of word (tops.From first after form ∷ xs)) m ≡ (form_body word m form || has_function (bodies_of word xs) m)
+listed_body : (word : ℕ → List ℕ) (m : List ℕ) (first after : ℕ) (form : Form) (xs : List tops.Top) →
+    has_function (bodies_of word (tops.From first after form ∷ xs)) m ≡ (form_body word m form || has_function (bodies_of word xs) m)
 listed_body word m first after Line xs = refl
 listed_body word m first after (Enum es) xs = refl
 listed_body word m first after (Globals static d) xs = refl

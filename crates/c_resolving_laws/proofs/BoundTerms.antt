@@ -43,7 +43,8 @@ nearest_new (s ∷ scopes) (r ∷ ss) m h e = h m ∙ by (found m s) e
     by None e = refl
     by (Some b) e = absurd (true≢false e)
 
-pub nearest_bound : (scopes : List Scope) (ss : List Scopes.Scope) (m : List ℕ) (b : Binding) → Nearest scopes ss → is_bound m scopes ≡ false → Nearest (bind m b scopes) (Scopes.bind m (meaning_of m b) ss)
+pub nearest_bound : (scopes : List Scope) (ss : List Scopes.Scope) (m : List ℕ) (b : Binding) → Nearest scopes ss → is_bound m scopes ≡ false →
+    Nearest (bind m b scopes) (Scopes.bind m (meaning_of m b) ss)
 nearest_bound [] ss m b h e = absurd h
 nearest_bound (s ∷ scopes) [] m b h e = absurd h
 nearest_bound (s ∷ scopes) (r ∷ ss) m b h e = same_new (λ m. true) s r m b h e
@@ -58,7 +59,10 @@ module _ (ctx : Context) (n : Names) where
   at_inside w ss a = record { knows = knows_inside n ctx.word w.scopes ss a.knows; nearest = λ m. refl }
 
   pub at_scopes : (v w : Walk) (ss : List Scopes.Scope) → v.scopes ≡ w.scopes → At w ss → At v ss
-  at_scopes v w ss e a = record { knows = subst (λ sc. Knows n ss (record { word = ctx.word; scopes = sc })) (sym e) a.knows; nearest = subst (λ sc. Nearest sc ss) (sym e) a.nearest }
+  at_scopes v w ss e a = record {
+    knows = subst (λ sc. Knows n ss (record { word = ctx.word; scopes = sc })) (sym e) a.knows;
+    nearest = subst (λ sc. Nearest sc ss) (sym e) a.nearest;
+  }
 
   -- ---- lists of items
 
@@ -69,7 +73,8 @@ module _ (ctx : Context) (n : Names) where
   pub binds_none : (ss : List Scopes.Scope) → Binds ss ss []
   binds_none ss = record { bound = subst (AreBound n.slots ss) (sym trees-none) tt; behind_it = ap (behind_all n.slots ss) trees-none }
 
-  pub bound-join : (ss : List Scopes.Scope) (a b : Forest) → AreBound n.slots ss a → AreBound n.slots (behind_all n.slots ss a) b → AreBound n.slots ss (join a b)
+  pub bound-join : (ss : List Scopes.Scope) (a b : Forest) → AreBound n.slots ss a → AreBound n.slots (behind_all n.slots ss a) b →
+      AreBound n.slots ss (join a b)
   bound-join ss Nil b h k = k
   bound-join ss (tree.Then x a) b h k = (h.0, bound-join (behind n.slots ss x) a b h.1 k)
 
@@ -79,8 +84,10 @@ module _ (ctx : Context) (n : Names) where
 
   pub binds_both : (s t u : List Scopes.Scope) (xs ys : List item.Item) → Binds s t xs → Binds t u ys → Binds s u (xs ++ ys)
   binds_both s t u xs ys h k = record {
-    bound = subst (AreBound n.slots s) (sym (trees-append xs ys)) (bound-join s (trees_of xs) (trees_of ys) h.bound (subst (λ z. AreBound n.slots z (trees_of ys)) (sym h.behind_it) k.bound));
-    behind_it = ap (behind_all n.slots s) (trees-append xs ys) ∙ (behind-join s (trees_of xs) (trees_of ys) ∙ (ap (λ z. behind_all n.slots z (trees_of ys)) h.behind_it ∙ k.behind_it));
+    bound = subst (AreBound n.slots s) (sym (trees-append xs ys))
+        (bound-join s (trees_of xs) (trees_of ys) h.bound (subst (λ z. AreBound n.slots z (trees_of ys)) (sym h.behind_it) k.bound));
+    behind_it = ap (behind_all n.slots s) (trees-append xs ys) ∙
+        (behind-join s (trees_of xs) (trees_of ys) ∙ (ap (λ z. behind_all n.slots z (trees_of ys)) h.behind_it ∙ k.behind_it));
   }
 
   pub binds_one : (s t : List Scopes.Scope) (x : item.Item) (z : Tree) → tree_of x ≡ z → ItemIsBound n.slots s z → behind n.slots s z ≡ t → Binds s t (x ∷ [])
@@ -93,26 +100,32 @@ module _ (ctx : Context) (n : Names) where
   pub names_bound : (ss : List Scopes.Scope) (x : ExpressionTree) → Sound n ss x → IsBound n.slots ss x
   names_bound ss x h = within_map (IsSound n ss) (NameIsBound n.slots ss) (λ x h. h.2) x h
 
-  pub value_bound : (w : Walk) (ss : List Scopes.Scope) (t : Term) → At w ss → IsReadTerm ctx.word t → value_faults (env_at ctx w) t [] ≡ [] → IsBound n.slots ss (expression_tree (value_at (env_at ctx w) t))
+  pub value_bound : (w : Walk) (ss : List Scopes.Scope) (t : Term) → At w ss → IsReadTerm ctx.word t → value_faults (env_at ctx w) t [] ≡ [] →
+      IsBound n.slots ss (expression_tree (value_at (env_at ctx w) t))
   value_bound w ss t a r e = names_bound ss _ (value_is n ss (env_at ctx w) a.knows t r e).0.0
 
-  pub dropped_bound : (w : Walk) (ss : List Scopes.Scope) (t : Term) → At w ss → IsReadTerm ctx.word t → dropped_faults (env_at ctx w) t [] ≡ [] → IsBound n.slots ss (expression_tree (dropped_at (env_at ctx w) t))
+  pub dropped_bound : (w : Walk) (ss : List Scopes.Scope) (t : Term) → At w ss → IsReadTerm ctx.word t → dropped_faults (env_at ctx w) t [] ≡ [] →
+      IsBound n.slots ss (expression_tree (dropped_at (env_at ctx w) t))
   dropped_bound w ss t a r e = names_bound ss _ (dropped_is n ss (env_at ctx w) a.knows t r e).0
 
-  pub constant_bound : (w : Walk) (ss : List Scopes.Scope) (t : Term) → At w ss → IsReadTerm ctx.word t → constant_faults (env_at ctx w) t [] ≡ [] → IsBound n.slots ss (expression_tree (constant_at (env_at ctx w) t))
+  pub constant_bound : (w : Walk) (ss : List Scopes.Scope) (t : Term) → At w ss → IsReadTerm ctx.word t → constant_faults (env_at ctx w) t [] ≡ [] →
+      IsBound n.slots ss (expression_tree (constant_at (env_at ctx w) t))
   constant_bound w ss t a r e = names_bound ss _ (constant_is_value n ss (env_at ctx w) a.knows t r e).operand.0
 
-  pub values_bound : (w : Walk) (ss : List Scopes.Scope) (o : Option Term) → At w ss → IfSome o (IsReadTerm ctx.word) → optional_faults (value_faults (env_at ctx w)) o [] ≡ []
+  pub values_bound : (w : Walk) (ss : List Scopes.Scope) (o : Option Term) → At w ss → IfSome o (IsReadTerm ctx.word) →
+      optional_faults (value_faults (env_at ctx w)) o [] ≡ []
       → IfSome (option_map expression_tree (option_map (value_at (env_at ctx w)) o)) (IsBound n.slots ss)
   values_bound w ss None a r e = tt
   values_bound w ss (Some t) a r e = value_bound w ss t a r e
 
-  pub drops_bound : (w : Walk) (ss : List Scopes.Scope) (o : Option Term) → At w ss → IfSome o (IsReadTerm ctx.word) → optional_faults (dropped_faults (env_at ctx w)) o [] ≡ []
+  pub drops_bound : (w : Walk) (ss : List Scopes.Scope) (o : Option Term) → At w ss → IfSome o (IsReadTerm ctx.word) →
+      optional_faults (dropped_faults (env_at ctx w)) o [] ≡ []
       → IfSome (option_map expression_tree (option_map (dropped_at (env_at ctx w)) o)) (IsBound n.slots ss)
   drops_bound w ss None a r e = tt
   drops_bound w ss (Some t) a r e = dropped_bound w ss t a r e
 
-  pub returned_bound : (k : Option IntKind) (w : Walk) (ss : List Scopes.Scope) (first : ℕ) (o : Option Term) → At w ss → IfSome o (IsReadTerm ctx.word) → return_faults k (env_at ctx w) first o [] ≡ []
+  pub returned_bound : (k : Option IntKind) (w : Walk) (ss : List Scopes.Scope) (first : ℕ) (o : Option Term) → At w ss →
+      IfSome o (IsReadTerm ctx.word) → return_faults k (env_at ctx w) first o [] ≡ []
       → IfSome (option_map expression_tree (option_map (value_at (env_at ctx w)) o)) (IsBound n.slots ss)
   returned_bound k w ss first None a r e = tt
   returned_bound (Some k) w ss first (Some t) a r e = value_bound w ss t a r e

@@ -103,7 +103,8 @@ module _ (n : Names) (ss : List Scope) where
       let s = the_some _ (Tree.variable n a.home) h.shaped in
       subst (Sound n ss) (sym (array_rolls a)) ((is_some_and _ (Tree.variable n a.home) s.0 s.1 (s.2.array, ap Some (sym s.2.kind)), tt, h.bound), tt)
 
-  array_for : (a : ArrayName) (defined : Bool) (s : Slot) → SoundArray n ss a → defined ≡ true → s.kind ≡ a.kind → ((s.constant ≡ true) ⊎ (a.constant ≡ false)) → IsArrayFor n defined s (Typed (Some a.kind) (Array a.home))
+  array_for : (a : ArrayName) (defined : Bool) (s : Slot) → SoundArray n ss a → defined ≡ true → s.kind ≡ a.kind →
+      ((s.constant ≡ true) ⊎ (a.constant ≡ false)) → IsArrayFor n defined s (Typed (Some a.kind) (Array a.home))
   array_for a defined s h d k c =
       let v = the_some _ (Tree.variable n a.home) h.shaped in
       (d, is_some_and _ (Tree.variable n a.home) v.0 v.1 (v.2.kind ∙ sym k, keeps_const v.0 v.2.constant c))
@@ -114,7 +115,8 @@ module _ (n : Names) (ss : List Scope) where
 
   -- ---- one argument
 
-  array_argument : (kind : IntKind) (constant external : Bool) (first : ℕ) (a : ArrayName) (vs : Faults) → array_fault kind constant external first a vs ≡ [] → SoundArray n ss a
+  array_argument : (kind : IntKind) (constant external : Bool) (first : ℕ) (a : ArrayName) (vs : Faults) →
+      array_fault kind constant external first a vs ≡ [] → SoundArray n ss a
       → (vs ≡ []) × GoodArgument (want.Array kind constant external) (T.Array a)
   array_argument kind constant external first a vs e h =
       let x = clean_if external first 38 _ e in
@@ -126,11 +128,13 @@ module _ (n : Names) (ss : List Scope) where
         record {
           e = array_expression a;
           passed = refl;
-          fitting = both_true (same_kind kind a.kind && (constant || not a.constant)) (not external) (both_true (same_kind kind a.kind) (constant || not a.constant) same keep.1) (ap not x.1);
+          fitting = both_true (same_kind kind a.kind && (constant || not a.constant)) (not external)
+              (both_true (same_kind kind a.kind) (constant || not a.constant) same keep.1) (ap not x.1);
           sound = array_is a h;
           agrees = λ defined s w.
               fits_array s.cells _ _ w.2
-              (subst (IsArrayFor n defined s) (sym (array_rolls a)) (array_for a defined s h (inside external defined w.3 x.1) (w.0 ∙ same_kind_is kind a.kind same) (at_parameter s w.1 keep.0)));
+              (subst (IsArrayFor n defined s) (sym (array_rolls a))
+              (array_for a defined s h (inside external defined w.3 x.1) (w.0 ∙ same_kind_is kind a.kind same) (at_parameter s w.1 keep.0)));
           suits = tt;
         },
       )
@@ -147,8 +151,17 @@ module _ (n : Names) (ss : List Scope) where
   value_sound v h = subst (Sound n ss) (sym (value_rolls v)) h.0
 
   argument_clean : (w : Want) (first : ℕ) (x : typed.Typed) (vs : Faults) → argument_fault w first x vs ≡ [] → SoundTyped n ss x → (vs ≡ []) × GoodArgument w x
-  argument_clean (want.Number kind constant) first (T.Value v) vs e h =
-      (e, record { e = expression v; passed = refl; fitting = refl; sound = value_sound v h; agrees = λ defined s w. fits_number s.cells _ _ w.2 (value_of_tree v h); suits = tt })
+  argument_clean (want.Number kind constant) first (T.Value v) vs e h = (
+    e,
+    record {
+      e = expression v;
+      passed = refl;
+      fitting = refl;
+      sound = value_sound v h;
+      agrees = λ defined s w. fits_number s.cells _ _ w.2 (value_of_tree v h);
+      suits = tt;
+    },
+  )
   argument_clean (want.Number kind constant) first (T.Void a) vs e h = absurd (none_left _ vs e)
   argument_clean (want.Number kind constant) first (T.Text bytes) vs e h = absurd (none_left _ vs e)
   argument_clean (want.Number kind constant) first (T.Array a) vs e h = absurd (none_left _ vs e)
@@ -166,7 +179,8 @@ module _ (n : Names) (ss : List Scope) where
           fitting = same;
           sound = value_sound v h;
           agrees = λ defined s w. absurd w;
-          suits = subst (Suits (want.Sized wide)) (sym (value_rolls v)) (record { operand = h.1; kind = tt }, sym (same_truth_is wide (Marks.is_wide v.kind) same ∙ wide_same v.kind));
+          suits = subst (Suits (want.Sized wide)) (sym (value_rolls v))
+              (record { operand = h.1; kind = tt }, sym (same_truth_is wide (Marks.is_wide v.kind) same ∙ wide_same v.kind));
         },
       )
   argument_clean (want.Sized wide) first (T.Void a) vs e h = absurd (none_left _ vs e)
@@ -207,17 +221,21 @@ module _ (n : Names) (ss : List Scope) where
         suits = λ bs e. conversions bs e p;
       }
     where
-      parameters : (defined : Bool) (ps : List Slot) → WantsAgree defined (w ∷ ws) ps → Argument (expression_tree a.e) (tree_list (all_handed gs)) ≡ tree_list (all_handed (g ∷ gs)) → ArgumentsFit n defined ps (tree_list (all_handed (g ∷ gs)))
+      parameters : (defined : Bool) (ps : List Slot) → WantsAgree defined (w ∷ ws) ps →
+          Argument (expression_tree a.e) (tree_list (all_handed gs)) ≡ tree_list (all_handed (g ∷ gs)) →
+          ArgumentsFit n defined ps (tree_list (all_handed (g ∷ gs)))
       parameters defined [] h p = absurd h
       parameters defined (s ∷ ps) h p = subst (ArgumentsFit n defined (s ∷ ps)) p (a.agrees defined s h.0, r.agrees defined ps h.1)
 
-      conversions : (bs : List Bool) → w ∷ ws ≡ sizes bs → Argument (expression_tree a.e) (tree_list (all_handed gs)) ≡ tree_list (all_handed (g ∷ gs)) → ValuesFit bs (tree_list (all_handed (g ∷ gs)))
+      conversions : (bs : List Bool) → w ∷ ws ≡ sizes bs → Argument (expression_tree a.e) (tree_list (all_handed gs)) ≡ tree_list
+          (all_handed (g ∷ gs)) → ValuesFit bs (tree_list (all_handed (g ∷ gs)))
       conversions [] e p = absurd (true≢false (ap has_want e))
       conversions (b ∷ bs) e p =
           let k = subst (λ v. Suits v (expression_tree a.e)) (ap first_want e) a.suits in
           subst (ValuesFit (b ∷ bs)) p (k.0, k.1, r.suits bs (ap later_wants e))
 
-  arguments_clean : (ws : List Want) (gs : List Given) (vs : Faults) → length ws ≡ length gs → argument_faults ws gs vs ≡ [] → Each (λ (g : Given). SoundTyped n ss g.typed) gs
+  arguments_clean : (ws : List Want) (gs : List Given) (vs : Faults) → length ws ≡ length gs → argument_faults ws gs vs ≡ [] →
+      Each (λ (g : Given). SoundTyped n ss g.typed) gs
       → (vs ≡ []) × GoodArguments ws gs
   arguments_clean [] [] vs l e h = (e, record { fitting = refl; within = tt; agrees = λ defined ps a. none_agree defined ps a; suits = λ bs a. none_suit bs a })
     where
@@ -236,41 +254,49 @@ module _ (n : Names) (ss : List Scope) where
       (a.0, more_arguments w ws g gs a.1 r.1)
 
   -- as many as are wanted
-  wanted_clean : (at reason : ℕ) (ws : List Want) (gs : List Given) (vs : Faults) → wanted_faults at reason ws gs vs ≡ [] → Each (λ (g : Given). SoundTyped n ss g.typed) gs
+  wanted_clean : (at reason : ℕ) (ws : List Want) (gs : List Given) (vs : Faults) → wanted_faults at reason ws gs vs ≡ [] →
+      Each (λ (g : Given). SoundTyped n ss g.typed) gs
       → (vs ≡ []) × (all_fit ws gs ≡ true) × GoodArguments ws gs
   wanted_clean at reason ws gs vs e h = by (length ws == length gs) refl e
     where
-      by : (b : Bool) → (length ws == length gs) ≡ b → cond b (argument_faults ws gs vs) (fault at reason (text_faults gs vs)) ≡ [] → (vs ≡ []) × (all_fit ws gs ≡ true) × GoodArguments ws gs
-      by true l e = let r = arguments_clean ws gs vs (eqb-true (length ws) (length gs) l) e h in (r.0, both_true (length ws == length gs) (each_fits ws gs) l r.1.fitting, r.1)
+      by : (b : Bool) → (length ws == length gs) ≡ b → cond b (argument_faults ws gs vs) (fault at reason (text_faults gs vs)) ≡ [] →
+          (vs ≡ []) × (all_fit ws gs ≡ true) × GoodArguments ws gs
+      by true l e = let r = arguments_clean ws gs vs (eqb-true (length ws) (length gs) l) e h in
+          (r.0, both_true (length ws == length gs) (each_fits ws gs) l r.1.fitting, r.1)
       by false l e = absurd (none_left _ _ e)
 
   -- ---- calls
 
-  of_result_sound : (result : Option IntKind) (m : List ℕ) (es : List Expression) → Sound n ss (Typed result (Call m (tree_list es))) → SoundTyped n ss (of_result result (node.Call m es))
+  of_result_sound : (result : Option IntKind) (m : List ℕ) (es : List Expression) → Sound n ss (Typed result (Call m (tree_list es))) →
+      SoundTyped n ss (of_result result (node.Call m es))
   of_result_sound (Some k) m es h = subst (λ x. Operand n ss (Typed (Some k) x)) (sym (node-Call m es)) (h, tt)
   of_result_sound None m es h = subst (λ x. Operand n ss (Typed None x)) (sym (node-Call m es)) (h, tt)
 
   -- a function with a signature
-  plain_fits : (s : Signature) (xs : Arguments) (c : Callee) → CalleeAgrees s c → ((defined : Bool) (ps : List Slot) → WantsAgree defined s.wants ps → ArgumentsFit n defined ps xs) → CallFits n s.result c xs
+  plain_fits : (s : Signature) (xs : Arguments) (c : Callee) → CalleeAgrees s c →
+      ((defined : Bool) (ps : List Slot) → WantsAgree defined s.wants ps → ArgumentsFit n defined ps xs) → CallFits n s.result c xs
   plain_fits s xs (Tree.Plain c) a f = (sym a.0, f c.defined c.parameters a.1)
   plain_fits s xs Tree.Printf a f = absurd a
   plain_fits s xs Tree.Unknown a f = absurd a
 
   call_sound : (result : Option IntKind) (m : List ℕ) (front : List Expression) (ws : List Want) (gs : List Given) → all_fit ws gs ≡ true
       → Sound n ss (Typed result (Call m (tree_list (front ++ all_handed gs)))) → SoundTyped n ss (call result m front ws gs)
-  call_sound result m front ws gs e h = subst (λ b. SoundTyped n ss (cond b (of_result result (node.Call m (front ++ all_handed gs))) T.Wrong)) (sym e) (of_result_sound result m (front ++ all_handed gs) h)
+  call_sound result m front ws gs e h = subst (λ b. SoundTyped n ss (cond b (of_result result (node.Call m (front ++ all_handed gs))) T.Wrong))
+      (sym e) (of_result_sound result m (front ++ all_handed gs) h)
 
   text_rolls : (bytes : List ℕ) → expression_tree (expression_of None (node.Text bytes)) ≡ Typed None (Text bytes)
   text_rolls bytes = void_rolls (node.Text bytes) ∙ ap (Typed None) (node-Text bytes)
 
-  printing_clean : (at : ℕ) (m bytes : List ℕ) (gs : List Given) (vs : Faults) (o : Option (List Bool)) → wanted bytes ≡ o → printing_faults at (option_map sizes o) gs vs ≡ [] → Each (λ (g : Given). SoundTyped n ss g.typed) gs
+  printing_clean : (at : ℕ) (m bytes : List ℕ) (gs : List Given) (vs : Faults) (o : Option (List Bool)) → wanted bytes ≡ o →
+      printing_faults at (option_map sizes o) gs vs ≡ [] → Each (λ (g : Given). SoundTyped n ss g.typed) gs
       → (callee n m ≡ Tree.Printf) × (Scopes.look_up ss m ≡ Some AFunction) → (vs ≡ []) × SoundTyped n ss (printing m bytes (option_map sizes o) gs)
   printing_clean at m bytes gs vs None w e h k = absurd (none_left _ _ e)
   printing_clean at m bytes gs vs (Some bs) w e h k =
       let r = wanted_clean at 40 (sizes bs) gs vs e h in
       let es = all_handed gs in
       let text = expression_of None (node.Text bytes) in
-      let fit = subst (λ x. FormatFits (Argument x (tree_list es))) (sym (text_rolls bytes)) (is_some_and (λ ws. ValuesFit ws (tree_list es)) (wanted bytes) bs w (r.2.suits bs refl)) in
+      let fit = subst (λ x. FormatFits (Argument x (tree_list es))) (sym (text_rolls bytes))
+      (is_some_and (λ ws. ValuesFit ws (tree_list es)) (wanted bytes) bs w (r.2.suits bs refl)) in
       let sound = subst (Sound n ss) (sym (text_rolls bytes)) ((refl, tt, tt), tt) in (
         r.0,
         call_sound (Some Int) m (text ∷ []) (sizes bs) gs r.1
@@ -289,7 +315,8 @@ module _ (n : Names) (ss : List Scope) where
           subst (λ o. (vs ≡ []) × SoundTyped n ss (printing m bytes o gs)) (sym w)
           (printing_clean at m bytes gs vs (wanted bytes) refl (subst (λ o. printing_faults at o gs vs ≡ []) w e) h.1 k)
 
-  pub called_sound : (at : ℕ) (m : List ℕ) (o : Option Binding) (gs : List Given) (vs : Faults) → call_faults at o gs vs ≡ [] → Each (λ (g : Given). SoundTyped n ss g.typed) gs → KnownIf n ss m o
+  pub called_sound : (at : ℕ) (m : List ℕ) (o : Option Binding) (gs : List Given) (vs : Faults) → call_faults at o gs vs ≡ [] →
+      Each (λ (g : Given). SoundTyped n ss g.typed) gs → KnownIf n ss m o
       → (vs ≡ []) × SoundTyped n ss (called m o gs)
   called_sound at m None gs vs e h k = absurd (none_left _ _ e)
   called_sound at m (Some (B.Function s)) gs vs e h k =

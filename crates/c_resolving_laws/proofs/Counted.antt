@@ -82,7 +82,8 @@ dropped_sized n l (T.Array a) h = tt
 dropped_sized n l T.Wrong h = tt
 
 -- a leaf of the tree
-leaf_sized : (kind : Option IntKind) (a : Node) (x : NodeTree) → node_tree a ≡ x → node_counted x ≡ 0 → level_of (Typed kind x) ≡ 14 → Sized 0 14 (Typed kind (node_tree a))
+leaf_sized : (kind : Option IntKind) (a : Node) (x : NodeTree) → node_tree a ≡ x → node_counted x ≡ 0 → level_of (Typed kind x) ≡ 14 →
+    Sized 0 14 (Typed kind (node_tree a))
 leaf_sized kind a x e c l = subst (λ y. Sized 0 14 (Typed kind y)) (sym e) (record { counts = c; level = l })
 
 constant_sized : (w : List ℕ) → Measured 0 14 (constant w)
@@ -136,7 +137,8 @@ named_sized at m (Some (B.Global shape)) = variable_by (record { home = home.Glo
     variable_by : (x : Variable) → Measured 0 14 (variable at x)
     variable_by x = by x.shape.array
       where
-        by : (b : Bool) → Measured 0 14 (cond b (T.Array (record { token = at; home = x.home; kind = x.shape.kind; constant = x.shape.constant })) (of_kind x.shape.kind (node.Read (place.Var x.home))))
+        by : (b : Bool) → Measured 0 14 (cond b (T.Array (record { token = at; home = x.home; kind = x.shape.kind; constant = x.shape.constant }))
+            (of_kind x.shape.kind (node.Read (place.Var x.home))))
         by true = (refl, refl)
         by false = read_sized 0 (Some (target (place.Var x.home) x.shape)) (var_sized x)
 named_sized at m (Some (B.Local k shape)) = variable_by (record { home = home.Slot k; shape = shape })
@@ -144,7 +146,8 @@ named_sized at m (Some (B.Local k shape)) = variable_by (record { home = home.Sl
     variable_by : (x : Variable) → Measured 0 14 (variable at x)
     variable_by x = by x.shape.array
       where
-        by : (b : Bool) → Measured 0 14 (cond b (T.Array (record { token = at; home = x.home; kind = x.shape.kind; constant = x.shape.constant })) (of_kind x.shape.kind (node.Read (place.Var x.home))))
+        by : (b : Bool) → Measured 0 14 (cond b (T.Array (record { token = at; home = x.home; kind = x.shape.kind; constant = x.shape.constant }))
+            (of_kind x.shape.kind (node.Read (place.Var x.home))))
         by true = (refl, refl)
         by false = read_sized 0 (Some (target (place.Var x.home) x.shape)) (var_sized x)
 named_sized at m (Some (B.Function f)) = tt
@@ -161,31 +164,39 @@ operand n l need x h = λ i. h.counts i + bracket_count (h.level i) need
 unary_sized : (n l : ℕ) (op : UnaryOp) (o : Option Valued) → IfSome o (SizedValue n l) → Measured (n + bracket_count l 14 + 1) 14 (unary op o)
 unary_sized n l op None h = tt
 unary_sized n l op (Some a) h =
-    subst (λ x. Sized (n + bracket_count l 14 + 1) 14 (Typed (Some (unary_kind op a.kind)) x)) (sym (node-Unary op (expression a) ∙ ap (Unary op) (value_rolls a))) (record { counts = ap (λ k. k + 1) (operand n l 14 (value_tree a) h); level = refl })
+    subst (λ x. Sized (n + bracket_count l 14 + 1) 14 (Typed (Some (unary_kind op a.kind)) x))
+    (sym (node-Unary op (expression a) ∙ ap (Unary op) (value_rolls a)))
+    (record { counts = ap (λ k. k + 1) (operand n l 14 (value_tree a) h); level = refl })
 
 counting_sized : (n : ℕ) (up after : Bool) (o : Option Target) → IfSome o (SizedTarget n) → Measured (n + 1) 14 (counting up after o)
 counting_sized n up after None h = tt
-counting_sized n up after (Some t) h = subst (λ x. Sized (n + 1) 14 (Typed (Some t.kind) x)) (sym (node-Count t.place up after)) (record { counts = ap (λ k. k + 1) h; level = refl })
+counting_sized n up after (Some t) h = subst (λ x. Sized (n + 1) 14 (Typed (Some t.kind) x)) (sym (node-Count t.place up after))
+    (record { counts = ap (λ k. k + 1) h; level = refl })
 
 cast_sized : (n l : ℕ) (kind : IntKind) (o : Option Valued) → IfSome o (SizedValue n l) → Measured (n + bracket_count l 14 + 1) 14 (cast kind o)
 cast_sized n l kind None h = tt
 cast_sized n l kind (Some a) h =
-    subst (λ x. Sized (n + bracket_count l 14 + 1) 14 (Typed (Some kind) x)) (sym (node-Cast (expression a) ∙ ap Cast (value_rolls a))) (record { counts = ap (λ k. k + 1) (operand n l 14 (value_tree a) h); level = refl })
+    subst (λ x. Sized (n + bracket_count l 14 + 1) 14 (Typed (Some kind) x)) (sym (node-Cast (expression a) ∙ ap Cast (value_rolls a)))
+    (record { counts = ap (λ k. k + 1) (operand n l 14 (value_tree a) h); level = refl })
 
 cast_void_sized : (n l : ℕ) (o : Option Expression) → IfSome o (SizedDropped n l) → Measured (n + bracket_count l 14 + 1) 14 (cast_void o)
 cast_void_sized n l None h = tt
-cast_void_sized n l (Some a) h = subst (λ x. Sized (n + bracket_count l 14 + 1) 14 (Typed None x)) (sym (node-Cast a)) (record { counts = ap (λ k. k + 1) (operand n l 14 (expression_tree a) h); level = refl })
+cast_void_sized n l (Some a) h = subst (λ x. Sized (n + bracket_count l 14 + 1) 14 (Typed None x)) (sym (node-Cast a))
+    (record { counts = ap (λ k. k + 1) (operand n l 14 (expression_tree a) h); level = refl })
 
 binary_sized : (op : BinaryOp) (n l m k : ℕ) (o u : Option Valued) → IfSome o (SizedValue n l) → IfSome u (SizedValue m k)
     → Measured (n + bracket_count l (binary_level op) + 1 + (m + bracket_count k (binary_level op + 1))) (binary_level op) (binary op o u)
 binary_sized op n l m k None u h i = tt
 binary_sized op n l m k (Some a) None h i = tt
 binary_sized op n l m k (Some a) (Some b) h i =
-    subst (λ x. Sized (n + bracket_count l (binary_level op) + 1 + (m + bracket_count k (binary_level op + 1))) (binary_level op) (Typed (Some (binary_kind op a.kind b.kind)) x))
-    (sym (node-Binary op (expression a) (expression b) ∙ (ap (λ x. Binary op x (expression_tree (expression b))) (value_rolls a) ∙ ap (Binary op (value_tree a)) (value_rolls b))))
+    subst (λ x. Sized (n + bracket_count l (binary_level op) + 1 + (m + bracket_count k (binary_level op + 1))) (binary_level op)
+    (Typed (Some (binary_kind op a.kind b.kind)) x))
+    (sym (node-Binary op (expression a) (expression b) ∙ (ap (λ x. Binary op x (expression_tree (expression b))) (value_rolls a) ∙
+    ap (Binary op (value_tree a)) (value_rolls b))))
     (record { counts = λ j. operand n l (binary_level op) (value_tree a) h j + 1 + operand m k (binary_level op + 1) (value_tree b) i j; level = refl })
 
-choice_node : (a b c : Valued) → node_tree (node.Conditional (expression a) (expression b) (expression c)) ≡ Conditional (value_tree a) (value_tree b) (value_tree c)
+choice_node : (a b c : Valued) → node_tree (node.Conditional (expression a) (expression b) (expression c)) ≡ Conditional (value_tree a) (value_tree b)
+    (value_tree c)
 choice_node a b c = rw (node-Conditional (expression a) (expression b) (expression c), value_rolls a, value_rolls b, value_rolls c) refl
 
 choice_sized : (n l m k p q : ℕ) (o u w : Option Valued) → IfSome o (SizedValue n l) → IfSome u (SizedValue m k) → IfSome w (SizedValue p q)
@@ -198,42 +209,52 @@ choice_sized n l m k p q (Some a) (Some b) (Some c) h i j =
     (sym (choice_node a b c))
     (record { counts = λ z. operand n l 4 (value_tree a) h z + 1 + i.counts z + operand p q 3 (value_tree c) j z; level = refl })
 
-assignment_sized : (op : Option ArithOp) (n m k : ℕ) (o : Option Target) (u : Option Valued) → IfSome o (SizedTarget n) → IfSome u (SizedValue m k) → Measured (n + 1 + (m + bracket_count k 2)) 2 (assignment op o u)
+assignment_sized : (op : Option ArithOp) (n m k : ℕ) (o : Option Target) (u : Option Valued) → IfSome o (SizedTarget n) → IfSome u (SizedValue m k) →
+    Measured (n + 1 + (m + bracket_count k 2)) 2 (assignment op o u)
 assignment_sized op n m k None u h i = tt
 assignment_sized op n m k (Some t) None h i = tt
 assignment_sized None n m k (Some t) (Some a) h i =
-    subst (λ x. Sized (n + 1 + (m + bracket_count k 2)) 2 (Typed (Some t.kind) x)) (sym (node-Assign t.place (expression a) ∙ ap (Assign (place_tree t.place)) (value_rolls a)))
+    subst (λ x. Sized (n + 1 + (m + bracket_count k 2)) 2 (Typed (Some t.kind) x))
+    (sym (node-Assign t.place (expression a) ∙ ap (Assign (place_tree t.place)) (value_rolls a)))
     (record { counts = λ z. h z + 1 + operand m k 2 (value_tree a) i z; level = refl })
 assignment_sized (Some op) n m k (Some t) (Some a) h i =
-    subst (λ x. Sized (n + 1 + (m + bracket_count k 2)) 2 (Typed (Some t.kind) x)) (sym (node-Update op t.place (expression a) ∙ ap (Update op (place_tree t.place)) (value_rolls a)))
+    subst (λ x. Sized (n + 1 + (m + bracket_count k 2)) 2 (Typed (Some t.kind) x))
+    (sym (node-Update op t.place (expression a) ∙ ap (Update op (place_tree t.place)) (value_rolls a)))
     (record { counts = λ z. h z + 1 + operand m k 2 (value_tree a) i z; level = refl })
 
-left_sized : (n l m k : ℕ) (a : Expression) (b : kinds.Typed) → SizedDropped n l a → Measured m k b → Measured (n + 1 + (m + bracket_count k 2)) 1 (with_left a b)
+left_sized : (n l m k : ℕ) (a : Expression) (b : kinds.Typed) → SizedDropped n l a → Measured m k b →
+    Measured (n + 1 + (m + bracket_count k 2)) 1 (with_left a b)
 left_sized n l m k a (T.Value b) h i =
-    subst (λ x. Sized (n + 1 + (m + bracket_count k 2)) 1 (Typed (Some b.kind) x)) (sym (node-Comma a (expression b) ∙ ap (Comma (expression_tree a)) (value_rolls b)))
+    subst (λ x. Sized (n + 1 + (m + bracket_count k 2)) 1 (Typed (Some b.kind) x))
+    (sym (node-Comma a (expression b) ∙ ap (Comma (expression_tree a)) (value_rolls b)))
     (record { counts = λ z. h.counts z + 1 + operand m k 2 (value_tree b) i z; level = refl })
 left_sized n l m k a (T.Void b) h i =
-    subst (λ x. Sized (n + 1 + (m + bracket_count k 2)) 1 (Typed None x)) (sym (node-Comma a (expression_of None b) ∙ ap (Comma (expression_tree a)) (void_rolls b)))
+    subst (λ x. Sized (n + 1 + (m + bracket_count k 2)) 1 (Typed None x))
+    (sym (node-Comma a (expression_of None b) ∙ ap (Comma (expression_tree a)) (void_rolls b)))
     (record { counts = λ z. h.counts z + 1 + operand m k 2 (Typed None (node_tree b)) i z; level = refl })
 left_sized n l m k a (T.Text bytes) h i = tt
 left_sized n l m k a (T.Array b) h i = tt
 left_sized n l m k a T.Wrong h i = tt
 
-comma_sized : (n l m k : ℕ) (o : Option Expression) (b : kinds.Typed) → IfSome o (SizedDropped n l) → Measured m k b → Measured (n + 1 + (m + bracket_count k 2)) 1 (comma o b)
+comma_sized : (n l m k : ℕ) (o : Option Expression) (b : kinds.Typed) → IfSome o (SizedDropped n l) → Measured m k b →
+    Measured (n + 1 + (m + bracket_count k 2)) 1 (comma o b)
 comma_sized n l m k None b h i = tt
 comma_sized n l m k (Some a) b h i = left_sized n l m k a b h i
 
 -- ---- calls
 
 -- an argument that is handed on counts as it is written
-argument_sized : (n l : ℕ) (w : Want) (x : kinds.Typed) → fits w x ≡ true → Measured n l x → (e : Expression) × (handed x ≡ e ∷ []) × Sized n l (expression_tree e)
+argument_sized : (n l : ℕ) (w : Want) (x : kinds.Typed) → fits w x ≡ true → Measured n l x →
+    (e : Expression) × (handed x ≡ e ∷ []) × Sized n l (expression_tree e)
 argument_sized n l (want.Number kind constant) (T.Value v) f h = (expression v, refl, subst (Sized n l) (sym (value_rolls v)) h)
 argument_sized n l (want.Sized wide) (T.Value v) f h = (expression v, refl, subst (Sized n l) (sym (value_rolls v)) h)
 argument_sized n l (want.Array kind constant external) (T.Array a) f h =
     (array_expression a, refl, subst (Sized n l) (sym (expression_rolls (record { kind = Some a.kind; node = node.Array a.home }))) (leaf_as n l h))
   where
     leaf_as : (n l : ℕ) → (n ≡ 0) × (l ≡ 14) → Sized n l (Typed (Some a.kind) (node_tree (node.Array a.home)))
-    leaf_as n l h = subst (λ p. Sized p l (Typed (Some a.kind) (node_tree (node.Array a.home)))) (sym h.0) (subst (λ p. Sized 0 p (Typed (Some a.kind) (node_tree (node.Array a.home)))) (sym h.1) (leaf_sized (Some a.kind) (node.Array a.home) _ (node-Array a.home) refl refl))
+    leaf_as n l h = subst (λ p. Sized p l (Typed (Some a.kind) (node_tree (node.Array a.home)))) (sym h.0)
+        (subst (λ p. Sized 0 p (Typed (Some a.kind) (node_tree (node.Array a.home)))) (sym h.1)
+        (leaf_sized (Some a.kind) (node.Array a.home) _ (node-Array a.home) refl refl))
 argument_sized n l (want.Array kind constant external) (T.Value v) f h = absurd (true≢false (sym f))
 argument_sized n l (want.Number kind constant) (T.Array a) f h = absurd (true≢false (sym f))
 argument_sized n l (want.Sized wide) (T.Array a) f h = absurd (true≢false (sym f))
@@ -257,7 +278,8 @@ module _ (word : ℕ → List ℕ) where
   abbrev tree_list : List Expression → Arguments
   tree_list es = arguments (map expression_tree es)
 
-  arguments_sized : (ws : List Want) (xs : Terms) (gs : List Given) → AllMeasured xs gs → length ws ≡ length gs → each_fits ws gs ≡ true → all_counted (tree_list (all_handed gs)) ≡ W.all_counted word xs
+  arguments_sized : (ws : List Want) (xs : Terms) (gs : List Given) → AllMeasured xs gs → length ws ≡ length gs → each_fits ws gs ≡ true →
+      all_counted (tree_list (all_handed gs)) ≡ W.all_counted word xs
   arguments_sized ws NoTerm [] h l f = refl
   arguments_sized ws NoTerm (g ∷ gs) h l f = absurd h
   arguments_sized ws (Then x xs) [] h l f = absurd h
@@ -265,32 +287,39 @@ module _ (word : ℕ → List ℕ) where
   arguments_sized (w ∷ ws) (Then x xs) (g ∷ gs) h l f =
       let a = argument_sized (term_counted word x) (term_level word x) w g.typed (and_left (fits w g.typed) (each_fits ws gs) f) h.0 in
       let r = arguments_sized ws xs gs h.1 (omega arith) (and_right (fits w g.typed) (each_fits ws gs) f) in
-      ap (λ es. all_counted (tree_list (es ++ all_handed gs))) a.1 ∙ (λ i. operand (term_counted word x) (term_level word x) 2 (expression_tree a.0) a.2 i + r i)
+      ap (λ es. all_counted (tree_list (es ++ all_handed gs))) a.1 ∙
+      (λ i. operand (term_counted word x) (term_level word x) 2 (expression_tree a.0) a.2 i + r i)
 
-  result_sized : (result : Option IntKind) (m : List ℕ) (es : List Expression) (n : ℕ) → all_counted (tree_list es) ≡ n → Measured (1 + n) 14 (of_result result (node.Call m es))
+  result_sized : (result : Option IntKind) (m : List ℕ) (es : List Expression) (n : ℕ) → all_counted (tree_list es) ≡ n →
+      Measured (1 + n) 14 (of_result result (node.Call m es))
   result_sized (Some k) m es n e = subst (λ x. Sized (1 + n) 14 (Typed (Some k) x)) (sym (node-Call m es)) (record { counts = ap (λ k. 1 + k) e; level = refl })
   result_sized None m es n e = subst (λ x. Sized (1 + n) 14 (Typed None x)) (sym (node-Call m es)) (record { counts = ap (λ k. 1 + k) e; level = refl })
 
-  call_sized : (result : Option IntKind) (m : List ℕ) (front : List Expression) (ws : List Want) (gs : List Given) (n : ℕ) → (length ws ≡ length gs → each_fits ws gs ≡ true → all_counted (tree_list (front ++ all_handed gs)) ≡ n)
+  call_sized : (result : Option IntKind) (m : List ℕ) (front : List Expression) (ws : List Want) (gs : List Given) (n : ℕ) →
+      (length ws ≡ length gs → each_fits ws gs ≡ true → all_counted (tree_list (front ++ all_handed gs)) ≡ n)
       → Measured (1 + n) 14 (call result m front ws gs)
   call_sized result m front ws gs n f = by (length ws == length gs) (each_fits ws gs) refl refl
     where
-      by : (b c : Bool) → (length ws == length gs) ≡ b → each_fits ws gs ≡ c → Measured (1 + n) 14 (cond (b && c) (of_result result (node.Call m (front ++ all_handed gs))) T.Wrong)
+      by : (b c : Bool) → (length ws == length gs) ≡ b → each_fits ws gs ≡ c →
+          Measured (1 + n) 14 (cond (b && c) (of_result result (node.Call m (front ++ all_handed gs))) T.Wrong)
       by true true i j = result_sized result m (front ++ all_handed gs) n (f (eqb-true (length ws) (length gs) i) j)
       by true false i j = tt
       by false c i j = tt
 
   -- `printf`: its text counts nothing
-  text_counts : (bytes : List ℕ) (rest : Arguments) (n : ℕ) → all_counted rest ≡ n → all_counted (Argument (expression_tree (expression_of None (node.Text bytes))) rest) ≡ 0 + bracket_count 14 2 + n
+  text_counts : (bytes : List ℕ) (rest : Arguments) (n : ℕ) → all_counted rest ≡ n →
+      all_counted (Argument (expression_tree (expression_of None (node.Text bytes))) rest) ≡ 0 + bracket_count 14 2 + n
   text_counts bytes rest n e =
       let t = leaf_sized None (node.Text bytes) _ (node-Text bytes) refl refl in
       let s = subst (Sized 0 14) (sym (void_rolls (node.Text bytes))) t in
       λ i. operand 0 14 2 (expression_tree (expression_of None (node.Text bytes))) s i + e i
 
-  printing_sized : (m bytes : List ℕ) (o : Option (List Want)) (xs : Terms) (gs : List Given) → AllMeasured xs gs → Measured (1 + (0 + bracket_count 14 2 + W.all_counted word xs)) 14 (printing m bytes o gs)
+  printing_sized : (m bytes : List ℕ) (o : Option (List Want)) (xs : Terms) (gs : List Given) → AllMeasured xs gs →
+      Measured (1 + (0 + bracket_count 14 2 + W.all_counted word xs)) 14 (printing m bytes o gs)
   printing_sized m bytes None xs gs h = tt
   printing_sized m bytes (Some ws) xs gs h =
-      call_sized (Some Int) m (expression_of None (node.Text bytes) ∷ []) ws gs (0 + bracket_count 14 2 + W.all_counted word xs) (λ l f. text_counts bytes (tree_list (all_handed gs)) (W.all_counted word xs) (arguments_sized ws xs gs h l f))
+      call_sized (Some Int) m (expression_of None (node.Text bytes) ∷ []) ws gs (0 + bracket_count 14 2 + W.all_counted word xs)
+      (λ l f. text_counts bytes (tree_list (all_handed gs)) (W.all_counted word xs) (arguments_sized ws xs gs h l f))
 
   printf_sized : (m : List ℕ) (xs : Terms) (gs : List Given) → AllMeasured xs gs → Measured (1 + W.all_counted word xs) 14 (printf m gs)
   printf_sized m NoTerm [] h = tt
@@ -298,7 +327,8 @@ module _ (word : ℕ → List ℕ) where
   printf_sized m (Then x xs) [] h = absurd h
   printf_sized m (Then x xs) (g ∷ gs) h = by g.typed h.0
     where
-      by : (t : kinds.Typed) → Measured (term_counted word x) (term_level word x) t → Measured (1 + W.all_counted word (Then x xs)) 14 (formatted m (text_of t) gs)
+      by : (t : kinds.Typed) → Measured (term_counted word x) (term_level word x) t →
+          Measured (1 + W.all_counted word (Then x xs)) 14 (formatted m (text_of t) gs)
       by (T.Text bytes) k =
           sized_as (1 + (0 + bracket_count 14 2 + W.all_counted word xs)) (1 + W.all_counted word (Then x xs)) 14 14 (printing m bytes (wanted bytes) gs)
           (λ i. 1 + (sym k.0 i + bracket_count (sym k.1 i) 2 + W.all_counted word xs)) refl (printing_sized m bytes (wanted bytes) xs gs h.1)
@@ -325,15 +355,19 @@ module _ (env : Env) where
   l_of t = term_level env.word t
 
   -- a mark in front: of a target nothing stands in brackets
-  prefix_sized : (o : Option Bool) (op : UnaryOp) (a : Term) → Measured (n_of a) (l_of a) (typed env a) → (IfSome (target_of env a) (λ t. SizedTarget (n_of a) t × (l_of a ≡ 14)))
-      → Measured (n_of a + bracket_count (l_of a) 14 + 1) 14 (elim o [ Some up ↦ counting up false (writable (target_of env a)) | None ↦ unary op (value_of (typed env a)) ])
+  prefix_sized : (o : Option Bool) (op : UnaryOp) (a : Term) → Measured (n_of a) (l_of a) (typed env a) →
+      (IfSome (target_of env a) (λ t. SizedTarget (n_of a) t × (l_of a ≡ 14)))
+      → Measured (n_of a + bracket_count (l_of a) 14 + 1) 14
+      (elim o [ Some up ↦ counting up false (writable (target_of env a)) | None ↦ unary op (value_of (typed env a)) ])
   prefix_sized None op a h t = unary_sized (n_of a) (l_of a) op (value_of (typed env a)) (value_sized (n_of a) (l_of a) (typed env a) h)
   prefix_sized (Some up) op a h t = target_by (target_of env a) t
     where
-      target_by : (o : Option Target) → IfSome o (λ t. SizedTarget (n_of a) t × (l_of a ≡ 14)) → Measured (n_of a + bracket_count (l_of a) 14 + 1) 14 (counting up false (writable o))
+      target_by : (o : Option Target) → IfSome o (λ t. SizedTarget (n_of a) t × (l_of a ≡ 14)) →
+          Measured (n_of a + bracket_count (l_of a) 14 + 1) 14 (counting up false (writable o))
       target_by None h = tt
       target_by (Some t) h =
-          sized_as (n_of a + 1) (n_of a + bracket_count (l_of a) 14 + 1) 14 14 (counting up false (writable (Some t))) (ap (λ k. k + 1) (let e : bracket_count (l_of a) 14 ≡ 0 = ap (λ l. bracket_count l 14) h.1 in omega arith)) refl
+          sized_as (n_of a + 1) (n_of a + bracket_count (l_of a) 14 + 1) 14 14 (counting up false (writable (Some t)))
+          (ap (λ k. k + 1) (let e : bracket_count (l_of a) 14 ≡ 0 = ap (λ l. bracket_count l 14) h.1 in omega arith)) refl
           (counting_sized (n_of a) up false (writable (Some t)) (writable_sized (n_of a) (Some t) h.0))
 
   target_only : (n : ℕ) (l : ℕ) (o : Option Target) → IfSome o (λ t. SizedTarget n t × (l ≡ 14)) → IfSome o (SizedTarget n)
@@ -353,26 +387,33 @@ module _ (env : Env) where
     form_measured (s.Variable at) = named_sized at (env.word at) (meaning env at)
     form_measured (s.Cell at i) =
         let o = variable_of (env.word at) (meaning env at) in
-        read_sized (1 + n_of i) (cell_target o (value_of (typed env i))) (cell_target_sized (n_of i) (l_of i) o (value_of (typed env i)) (value_sized (n_of i) (l_of i) (typed env i) (measured i)))
+        read_sized (1 + n_of i) (cell_target o (value_of (typed env i)))
+        (cell_target_sized (n_of i) (l_of i) o (value_of (typed env i)) (value_sized (n_of i) (l_of i) (typed env i) (measured i)))
     form_measured (s.Prefix m a) = prefix_sized (step_of (mark_of (env.word m))) (unary_op (mark_of (env.word m))) a (measured a) (target_measured a)
     form_measured (s.Suffix m a) =
-        counting_sized (n_of a) (counts_up (mark_of (env.word m))) true (writable (target_of env a)) (writable_sized (n_of a) (target_of env a) (target_only (n_of a) (l_of a) (target_of env a) (target_measured a)))
-    form_measured (s.CastTo words a) = cast_sized (n_of a) (l_of a) (kind_of env.word words) (value_of (typed env a)) (value_sized (n_of a) (l_of a) (typed env a) (measured a))
+        counting_sized (n_of a) (counts_up (mark_of (env.word m))) true (writable (target_of env a))
+        (writable_sized (n_of a) (target_of env a) (target_only (n_of a) (l_of a) (target_of env a) (target_measured a)))
+    form_measured (s.CastTo words a) = cast_sized (n_of a) (l_of a) (kind_of env.word words) (value_of (typed env a))
+        (value_sized (n_of a) (l_of a) (typed env a) (measured a))
     form_measured (s.CastVoid a) = cast_void_sized (n_of a) (l_of a) (dropped (typed env a)) (dropped_sized (n_of a) (l_of a) (typed env a) (measured a))
     form_measured (s.Binary m a b) =
-        binary_sized (binary_op (mark_of (env.word m))) (n_of a) (l_of a) (n_of b) (l_of b) (value_of (typed env a)) (value_of (typed env b)) (value_sized (n_of a) (l_of a) (typed env a) (measured a)) (value_sized (n_of b) (l_of b) (typed env b) (measured b))
+        binary_sized (binary_op (mark_of (env.word m))) (n_of a) (l_of a) (n_of b) (l_of b) (value_of (typed env a)) (value_of (typed env b))
+        (value_sized (n_of a) (l_of a) (typed env a) (measured a)) (value_sized (n_of b) (l_of b) (typed env b) (measured b))
     form_measured (s.Choice a b c) =
         choice_sized (n_of a) (l_of a) (n_of b) (l_of b) (n_of c) (l_of c) (value_of (typed env a)) (value_of (typed env b)) (value_of (typed env c))
-        (value_sized (n_of a) (l_of a) (typed env a) (measured a)) (value_sized (n_of b) (l_of b) (typed env b) (measured b)) (value_sized (n_of c) (l_of c) (typed env c) (measured c))
+        (value_sized (n_of a) (l_of a) (typed env a) (measured a)) (value_sized (n_of b) (l_of b) (typed env b) (measured b))
+        (value_sized (n_of c) (l_of c) (typed env c) (measured c))
     form_measured (s.Assign m t a) =
         assignment_sized (update_op (mark_of (env.word m))) (n_of t) (n_of a) (l_of a) (writable (target_of env t)) (value_of (typed env a))
-        (writable_sized (n_of t) (target_of env t) (target_only (n_of t) (l_of t) (target_of env t) (target_measured t))) (value_sized (n_of a) (l_of a) (typed env a) (measured a))
+        (writable_sized (n_of t) (target_of env t) (target_only (n_of t) (l_of t) (target_of env t) (target_measured t)))
+        (value_sized (n_of a) (l_of a) (typed env a) (measured a))
     form_measured (s.Commas a bs) = commas_first bs a (measured a)
     form_measured (s.Call at xs) = called_sized env.word (env.word at) (meaning env at) xs (given env xs) (given_measured xs)
     form_measured (s.Texts ats) = (refl, refl)
     form_measured s.Unknown = tt
 
-    commas_first : (bs : Terms) (a : Term) → Measured (n_of a) (l_of a) (typed env a) → Measured (commas_counted env.word (n_of a) bs) (form_level env.word (s.Commas a bs)) (commas env (typed env a) bs)
+    commas_first : (bs : Terms) (a : Term) → Measured (n_of a) (l_of a) (typed env a) →
+        Measured (commas_counted env.word (n_of a) bs) (form_level env.word (s.Commas a bs)) (commas env (typed env a) bs)
     commas_first NoTerm a h = h
     commas_first (Then b bs) a h =
         commas_measured bs (n_of a + 1 + (n_of b + bracket_count (l_of b) 2)) (comma (dropped (typed env a)) (typed env b))
@@ -381,13 +422,16 @@ module _ (env : Env) where
     commas_measured : (bs : Terms) (n : ℕ) (a : kinds.Typed) → Measured n 1 a → Measured (commas_counted env.word n bs) 1 (commas env a bs)
     commas_measured NoTerm n a h = h
     commas_measured (Then b bs) n a h =
-        commas_measured bs (n + 1 + (n_of b + bracket_count (l_of b) 2)) (comma (dropped a) (typed env b)) (comma_sized n 1 (n_of b) (l_of b) (dropped a) (typed env b) (dropped_sized n 1 a h) (measured b))
+        commas_measured bs (n + 1 + (n_of b + bracket_count (l_of b) 2)) (comma (dropped a) (typed env b))
+        (comma_sized n 1 (n_of b) (l_of b) (dropped a) (typed env b) (dropped_sized n 1 a h) (measured b))
 
     target_measured : (t : Term) → IfSome (target_of env t) (λ x. SizedTarget (n_of t) x × (l_of t ≡ 14))
-    target_measured (At first (s.Variable at)) = both_facts 0 14 refl (number_target (variable_of (env.word at) (meaning env at))) (number_target_sized (variable_of (env.word at) (meaning env at)))
+    target_measured (At first (s.Variable at)) = both_facts 0 14 refl (number_target (variable_of (env.word at) (meaning env at)))
+        (number_target_sized (variable_of (env.word at) (meaning env at)))
     target_measured (At first (s.Cell at i)) =
         let o = variable_of (env.word at) (meaning env at) in
-        both_facts (1 + n_of i) 14 refl (cell_target o (value_of (typed env i))) (cell_target_sized (n_of i) (l_of i) o (value_of (typed env i)) (value_sized (n_of i) (l_of i) (typed env i) (measured i)))
+        both_facts (1 + n_of i) 14 refl (cell_target o (value_of (typed env i)))
+        (cell_target_sized (n_of i) (l_of i) o (value_of (typed env i)) (value_sized (n_of i) (l_of i) (typed env i) (measured i)))
     target_measured (At first _) = tt
 
     given_measured : (xs : Terms) → AllMeasured env.word xs (given env xs)

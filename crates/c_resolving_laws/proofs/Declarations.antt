@@ -107,7 +107,8 @@ by_body true f g = f refl
 by_body false f g = g refl
 
 module _ (file : File) where
-  next_bodies : (m : List ℕ) (form : Form) (s : State) → has_function (behind_form file form s).bodies m ≡ (form_body file.word m form || has_function s.bodies m)
+  next_bodies : (m : List ℕ) (form : Form) (s : State) → has_function (behind_form file form s).bodies
+      m ≡ (form_body file.word m form || has_function s.bodies m)
   next_bodies m Line s = refl
   next_bodies m (Enum es) s = refl
   next_bodies m (Globals static d) s = refl
@@ -118,14 +119,16 @@ module _ (file : File) where
   abbrev Tracks : List Top → State → Type 0
   Tracks done s = (m : List ℕ) → has_function s.bodies m ≡ has_body_in m done
 
-  tracks_next : (done : List Top) (first : ℕ) (form : Form) (s : State) → Tracks done s → Tracks (done ++ (notes_tops file (Before first) ++ form_tops file first form s)) (behind_form file form s)
+  tracks_next : (done : List Top) (first : ℕ) (form : Form) (s : State) → Tracks done s →
+      Tracks (done ++ (notes_tops file (Before first) ++ form_tops file first form s)) (behind_form file form s)
   tracks_next done first form s t m =
       let notes = notes_tops file (Before first) in
       let new = form_tops file first form s in
       next_bodies m form s
       ∙ (ap (λ b. form_body file.word m form || b) (t m)
       ∙ (turned_or (form_body file.word m form) (has_body_in m done)
-      ∙ sym (body_append m done (notes ++ new) ∙ ap (λ b. has_body_in m done || b) (body_append m notes new ∙ (ap (λ b. b || has_body_in m new) (notes_bodiless m (file.notes (Before first))) ∙ form_bodies file m first form s)))))
+      ∙ sym (body_append m done (notes ++ new) ∙ ap (λ b. has_body_in m done || b)
+      (body_append m notes new ∙ (ap (λ b. b || has_body_in m new) (notes_bodiless m (file.notes (Before first))) ∙ form_bodies file m first form s)))))
     where
       turned_or : (a b : Bool) → (a || b) ≡ (b || a)
       turned_or true true = refl
@@ -139,15 +142,21 @@ module _ (file : File) where
     pub none : (m : List ℕ) → has_function s.bodies m ≡ true → Each (NoBody m) (tops_of file xs s)
 
   -- a form without functions
-  plain_once : (first : ℕ) (form : Form) (xs : List tops.Top) (s : State) → Each IsNoFunction (form_tops file first form s) → ((m : List ℕ) → has_function s.bodies m ≡ true → has_function (behind_form file form s).bodies m ≡ true)
+  plain_once : (first : ℕ) (form : Form) (xs : List tops.Top) (s : State) → Each IsNoFunction (form_tops file first form s) →
+      ((m : List ℕ) → has_function s.bodies m ≡ true → has_function (behind_form file form s).bodies m ≡ true)
       → Once xs (behind_form file form s) → (after : ℕ) → Once (tops.From first after form ∷ xs) s
   plain_once first form xs s h k r after =
       let notes = notes_tops file (Before first) in
       let new = form_tops file first form s in
       let n = each_append IsNoFunction notes new (notes_none (file.notes (Before first))) h in
-      record { once = once_before (notes ++ new) (tops_of file xs (behind_form file form s)) n r.once; none = λ m e. each_append (NoBody m) (notes ++ new) (tops_of file xs (behind_form file form s)) (bodiless m (notes ++ new) n) (r.none m (k m e)) }
+      record {
+        once = once_before (notes ++ new) (tops_of file xs (behind_form file form s)) n r.once;
+        none = λ m e. each_append (NoBody m) (notes ++ new) (tops_of file xs (behind_form file form s)) (bodiless m (notes ++ new) n) (r.none m (k m e));
+      }
 
-  function_once : (first after : ℕ) (f : tops.Function) (xs : List tops.Top) (s : State) → (has_body f ≡ true → has_function s.bodies (file.word f.name) ≡ false) → Once xs (behind_form file (Defines f) s) → Once (tops.From first after (Defines f) ∷ xs) s
+  function_once : (first after : ℕ) (f : tops.Function) (xs : List tops.Top) (s : State) →
+      (has_body f ≡ true → has_function s.bodies (file.word f.name) ≡ false) → Once xs (behind_form file (Defines f) s) →
+      Once (tops.From first after (Defines f) ∷ xs) s
   function_once first after f xs s c r =
       let scopes = (function_declared file f s).scopes in
       let t = function_of file.word file.notes f scopes in
@@ -157,11 +166,20 @@ module _ (file : File) where
       let named = function_name file.word file.notes f scopes f.body in
       record {
         once = subst BodiesOnce (sym (append_assoc notes (T.Function t ∷ []) rest))
-            (once_before notes (T.Function t ∷ rest) (notes_none (file.notes (Before first)))
-            (λ b. subst (λ w. Each (NoBody w) rest) (sym named) (r.none (file.word f.name) (has_with_body file.word (file.word f.name) f s.bodies ∙ ap (λ b. b || has_function s.bodies (file.word f.name)) (both (bytes_eq (file.word f.name) (file.word f.name)) (has_body f) (names_same (file.word f.name) (file.word f.name) refl) (sym there ∙ b)))), r.once));
+            (once_before notes (T.Function t ∷ rest) (notes_none (file.notes (Before first))) (
+              λ b. subst (λ w. Each (NoBody w) rest) (sym named)
+                  (r.none (file.word f.name) (has_with_body file.word (file.word f.name) f s.bodies ∙
+                  ap (λ b. b || has_function s.bodies (file.word f.name))
+                  (both (bytes_eq (file.word f.name) (file.word f.name)) (has_body f) (names_same (file.word f.name) (file.word f.name) refl)
+                  (sym there ∙ b)))),
+              r.once,
+            ));
         none = λ m e. each_append (NoBody m) (notes ++ T.Function t ∷ []) rest
-            (each_append (NoBody m) notes (T.Function t ∷ []) (bodiless m notes (notes_none (file.notes (Before first))))
-            (λ n. there ∙ by_body (has_body f) (λ b. absurd (true≢false (sym e ∙ (ap (has_function s.bodies) (same_names m t.name n ∙ named) ∙ c b)))) (λ b. b), tt))
+            (each_append (NoBody m) notes (T.Function t ∷ []) (bodiless m notes (notes_none (file.notes (Before first)))) (
+              λ n. there ∙ by_body (has_body f) (λ b. absurd (true≢false (sym e ∙ (ap (has_function s.bodies) (same_names m t.name n ∙ named) ∙ c b))))
+                  (λ b. b),
+              tt,
+            ))
             (r.none m (has_with_body file.word m f s.bodies ∙ later (bytes_eq m (file.word f.name) && has_body f) (has_function s.bodies m) e));
       }
     where
@@ -173,12 +191,19 @@ module _ (file : File) where
       later true b e = refl
       later false b e = e
 
-  pub file_once : (xs : List tops.Top) (s : State) (done : List Top) (p : Place file done s.scopes) → IsReadFile file.word xs → file_faults file xs s [] ≡ [] → Tracks done s → Once xs s
-  file_once [] s done p r e t = record { once = subst BodiesOnce (append-nil (notes_tops file Last)) (once_before (notes_tops file Last) [] (notes_none (file.notes Last)) tt); none = λ m h. bodiless m (notes_tops file Last) (notes_none (file.notes Last)) }
+  pub file_once : (xs : List tops.Top) (s : State) (done : List Top) (p : Place file done s.scopes) → IsReadFile file.word xs →
+      file_faults file xs s [] ≡ [] → Tracks done s → Once xs s
+  file_once [] s done p r e t = record {
+    once = subst BodiesOnce (append-nil (notes_tops file Last))
+        (once_before (notes_tops file Last) [] (notes_none (file.notes Last)) tt);
+    none =
+        λ m h. bodiless m (notes_tops file Last) (notes_none (file.notes Last));
+  }
   file_once (tops.From first after form ∷ xs) s done p r e t =
       let q = file_parts file first after form xs s e in
       let new = notes_tops file (Before first) ++ form_tops file first form s in
-      let rest = file_once xs (behind_form file form s) (done ++ new) (stepped_place file done first form s p r.0.0 q.0) r.1 q.1 (tracks_next done first form s t) in
+      let rest = file_once xs (behind_form file form s) (done ++ new) (stepped_place file done first form s p r.0.0 q.0) r.1 q.1
+      (tracks_next done first form s t) in
       by form q.0 rest
     where
       by : (form : Form) → form_faults file form s [] ≡ [] → Once xs (behind_form file form s) → Once (tops.From first after form ∷ xs) s
@@ -189,7 +214,8 @@ module _ (file : File) where
           let a = (function_parts file f s e).0.again in
           let m = file.word f.name in
           function_once first after f xs s
-          (λ b. not_before f.name (has_body f) (has_function s.bodies m) (signature_in file.bodies file.word f) (bound m s.scopes) a b (λ n. t m ∙ no_body m done (p.inv.fresh m (sym (ap (λ sc. is_some (bound m sc)) p.shaped) ∙ ap is_some n)))) r
+          (λ b. not_before f.name (has_body f) (has_function s.bodies m) (signature_in file.bodies file.word f) (bound m s.scopes) a b
+          (λ n. t m ∙ no_body m done (p.inv.fresh m (sym (ap (λ sc. is_some (bound m sc)) p.shaped) ∙ ap is_some n)))) r
       by Unread e r = plain_once first Unread xs s tt (λ m h. h) r after
 
 -- ---- all declarations
@@ -206,15 +232,29 @@ settled file all fs z m = by (found m z.last) refl (z.inv.good m)
     by : (o : Option Binding) → found m z.last ≡ o → IfSome o (FileGood (defined file) all m) → Settled m all
     by None e g = record { defined = true; signature = record { result = None; wants = [] }; agree = unnamed_all _ _ m all (z.inv.fresh m (ap is_some e)) }
     by (Some (B.Constant v)) e g = record { defined = true; signature = record { result = None; wants = [] }; agree = unnamed_all _ _ m all g.1 }
-    by (Some (B.Global shape)) e g = record { defined = true; signature = record { result = None; wants = [] }; agree = named_map NoF (λ g. Unit {0}) _ (λ g. Unit {0}) (λ f x. absurd x) (λ g x. tt) m all g.1 }
-    by (Some (B.Function s)) e g = record { defined = defined file m; signature = s; agree = named_map (FunctionAgrees (defined file m) s) NoG _ (λ g. Unit {0}) (λ f x. x) (λ g x. tt) m all g.1 }
+    by (Some (B.Global shape)) e g = record {
+      defined = true;
+      signature = record { result = None; wants = [] };
+      agree = named_map NoF (λ g. Unit {0}) _ (λ g. Unit {0}) (λ f x. absurd x) (λ g x. tt) m all g.1;
+    }
+    by (Some (B.Function s)) e g = record {
+      defined = defined file m;
+      signature = s;
+      agree = named_map (FunctionAgrees (defined file m) s) NoG _ (λ g. Unit {0}) (λ f x. x) (λ g x. tt) m all g.1;
+    }
     by (Some (B.Local k shape)) e g = absurd g
     by (Some B.Printf) e g = absurd g
 
-agree_pair : (D : Bool) (s : Signature) (f g : Function) → FunctionAgrees D s f → FunctionAgrees D s g → ((is_some f.body ≡ true) → is_some g.body ≡ false) → Agree f g
-agree_pair D s f g h k b = record { result = h.0 ∙ sym k.0; parameters = all_same D s.wants (take f.params f.slots) (take g.params g.slots) h.1 k.1; single = b }
+agree_pair : (D : Bool) (s : Signature) (f g : Function) → FunctionAgrees D s f → FunctionAgrees D s g →
+    ((is_some f.body ≡ true) → is_some g.body ≡ false) → Agree f g
+agree_pair D s f g h k b = record {
+  result = h.0 ∙ sym k.0;
+  parameters = all_same D s.wants (take f.params f.slots) (take g.params g.slots) h.1 k.1;
+  single = b;
+}
 
-with_later : (D : Bool) (s : Signature) (f : Function) (ts : List Top) → FunctionAgrees D s f → Named (FunctionAgrees D s) (λ g. Unit {0}) f.name ts → (is_some f.body ≡ true → Each (NoBody f.name) ts) → Each (AgreesWith f) ts
+with_later : (D : Bool) (s : Signature) (f : Function) (ts : List Top) → FunctionAgrees D s f → Named (FunctionAgrees D s) (λ g. Unit {0}) f.name ts →
+    (is_some f.body ≡ true → Each (NoBody f.name) ts) → Each (AgreesWith f) ts
 with_later D s f [] h k b = tt
 with_later D s f (T.Function g ∷ ts) h k b =
     (λ e. agree_pair D s f g h (k.0 (names_same g.name f.name (sym (same_names f.name g.name e)))) (λ t. (b t).0 e), with_later D s f ts h k.1 (λ t. (b t).1))
@@ -229,8 +269,10 @@ later_settled t ts h m = let r = h m in record { defined = r.defined; signature 
 pub declarations_agree : (ts : List Top) → ((m : List ℕ) → Settled m ts) → BodiesOnce ts → DeclarationsAgree ts
 declarations_agree [] h o = tt
 declarations_agree (T.Function f ∷ ts) h o =
-    let r = h f.name in
-    (with_later r.defined r.signature f ts (r.agree.0 (names_same f.name f.name refl)) r.agree.1 o.0, declarations_agree ts (later_settled (T.Function f) ts h) o.1)
+    let r = h f.name in (
+      with_later r.defined r.signature f ts (r.agree.0 (names_same f.name f.name refl)) r.agree.1 o.0,
+      declarations_agree ts (later_settled (T.Function f) ts h) o.1,
+    )
 declarations_agree (T.Global g ∷ ts) h o = declarations_agree ts (later_settled (T.Global g) ts h) o
 declarations_agree (T.Enum es ∷ ts) h o = declarations_agree ts (later_settled (T.Enum es) ts h) o
 declarations_agree (T.Include bs ∷ ts) h o = declarations_agree ts (later_settled (T.Include bs) ts h) o

@@ -59,18 +59,22 @@ pub local_known : (word : ℕ → List ℕ) (n : Names) (k : Kinded) (d : Declar
 local_known word n k d w ss b =
     let m = word d.name in
     let s = slot_of (env_in word w) k d in (
-      is_some_and _ (slice_get n.slots (length w.slots)) s (ap (λ l. slice_get l (length w.slots)) b.1 ∙ slot_there w.slots b.0 s) (refl, slot_shape (env_in word w) k d),
-      look_up_tree m m (AVariable (H.Slot (length w.slots))) ss ∙ ap (λ t. cond t (Some (AVariable (H.Slot (length w.slots)))) (Scopes.look_up ss m)) (names_same m m refl),
+      is_some_and _ (slice_get n.slots (length w.slots)) s (ap (λ l. slice_get l (length w.slots)) b.1 ∙ slot_there w.slots b.0 s)
+          (refl, slot_shape (env_in word w) k d),
+      look_up_tree m m (AVariable (H.Slot (length w.slots))) ss ∙ ap (λ t. cond t (Some (AVariable (H.Slot (length w.slots)))) (Scopes.look_up ss m))
+          (names_same m m refl),
     )
 
 -- the scopes of the tree behind it
 abbrev pub behind_local : (ℕ → List ℕ) → Declarator → Walk → List Scopes.Scope → List Scopes.Scope
 behind_local word d w ss = Scopes.bind (word d.name) (AVariable (H.Slot (length w.slots))) ss
 
-pub knows_declared : (word : ℕ → List ℕ) (n : Names) (k : Kinded) (d : Declarator) (w : Walk) (ss : List Scopes.Scope) → local_faults word k d w [] ≡ [] → Begins (declared word k d w).slots n.slots
+pub knows_declared : (word : ℕ → List ℕ) (n : Names) (k : Kinded) (d : Declarator) (w : Walk) (ss : List Scopes.Scope) →
+    local_faults word k d w [] ≡ [] → Begins (declared word k d w).slots n.slots
     → Knows n ss (env_in word w) → Knows n (behind_local word d w ss) (env_in word (declared word k d w))
 knows_declared word n k d w ss e b old =
-    knows_bound n word (word d.name) (Local (length w.slots) (shape_of k d)) (AVariable (H.Slot (length w.slots))) w.scopes ss (local_parts word k d w e).new (local_known word n k d w ss b) old
+    knows_bound n word (word d.name) (Local (length w.slots) (shape_of k d)) (AVariable (H.Slot (length w.slots))) w.scopes ss
+    (local_parts word k d w e).new (local_known word n k d w ss b) old
 
 -- ---- its initialisers
 

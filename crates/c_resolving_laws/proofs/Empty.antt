@@ -112,7 +112,8 @@ name_empty at (Some B.Printf) vs e = absurd (none_left _ vs e)
 shape_empty : (writes indexed : Bool) (at : ℕ) (shape : Shape) (vs : Faults) → shape_fault writes indexed at shape vs ≡ [] → vs ≡ []
 shape_empty writes indexed at shape vs e = by shape.array indexed e
   where
-    by : (a i : Bool) → cond a (cond i (fault_if (writes && shape.constant) at 26 vs) (fault at 22 vs)) (cond i (fault at 22 vs) (fault_if (writes && shape.constant) at 26 vs)) ≡ [] → vs ≡ []
+    by : (a i : Bool) → cond a (cond i (fault_if (writes && shape.constant) at 26 vs) (fault at 22 vs))
+        (cond i (fault at 22 vs) (fault_if (writes && shape.constant) at 26 vs)) ≡ [] → vs ≡ []
     by true true e = if_empty (writes && shape.constant) at 26 vs e
     by true false e = absurd (none_left _ vs e)
     by false true e = absurd (none_left _ vs e)
@@ -145,8 +146,10 @@ module _ (env : Env) where
     form_empty : (f : Form) (vs : Faults) → form_faults env f vs ≡ [] → vs ≡ []
     form_empty (Constant at) vs e = e
     form_empty (Variable at) vs e = name_empty at (meaning env at) vs e
-    form_empty (Cell at i) vs e = faults_empty i vs (used_empty i (faults env i vs) (target_empty false true at (meaning env at) (used env i (faults env i vs)) e))
-    form_empty (Prefix m a) vs e = prefix_empty (step_of (mark_of (env.word m))) a vs (targets_empty a vs) (λ k. faults_empty a vs (used_empty a (faults env a vs) k)) e
+    form_empty (Cell at i) vs e = faults_empty i vs
+        (used_empty i (faults env i vs) (target_empty false true at (meaning env at) (used env i (faults env i vs)) e))
+    form_empty (Prefix m a) vs e = prefix_empty (step_of (mark_of (env.word m))) a vs (targets_empty a vs)
+        (λ k. faults_empty a vs (used_empty a (faults env a vs) k)) e
     form_empty (Suffix m a) vs e = targets_empty a vs e
     form_empty (CastTo words a) vs e = faults_empty a vs (used_empty a (faults env a vs) e)
     form_empty (CastVoid a) vs e = faults_empty a vs (unused_empty a (faults env a vs) e)
@@ -156,7 +159,8 @@ module _ (env : Env) where
     form_empty (Choice a b c) vs e =
         let va = used env a (faults env a vs) in
         let vb = used env b (faults env b va) in
-        faults_empty a vs (used_empty a (faults env a vs) (faults_empty b va (used_empty b (faults env b va) (faults_empty c vb (used_empty c (faults env c vb) e)))))
+        faults_empty a vs (used_empty a (faults env a vs)
+        (faults_empty b va (used_empty b (faults env b va) (faults_empty c vb (used_empty c (faults env c vb) e)))))
     form_empty (Assign m t a) vs e = targets_empty t vs (faults_empty a (target_faults env t vs) (used_empty a (faults env a (target_faults env t vs)) e))
     form_empty (Commas a bs) vs e = faults_empty a vs (unused_empty a (faults env a vs) (commas_empty bs (unused env a (faults env a vs)) e))
     form_empty (Call at xs) vs e = givens_empty xs vs (given_empty at (meaning env at) (given env xs) (given_faults env xs vs) e)
@@ -172,7 +176,8 @@ module _ (env : Env) where
 
     form_target_empty : (f : Form) (vs : Faults) → form_target_faults env f vs ≡ [] → vs ≡ []
     form_target_empty (Variable at) vs e = target_empty true false at (meaning env at) vs e
-    form_target_empty (Cell at i) vs e = faults_empty i vs (used_empty i (faults env i vs) (target_empty true true at (meaning env at) (used env i (faults env i vs)) e))
+    form_target_empty (Cell at i) vs e = faults_empty i vs
+        (used_empty i (faults env i vs) (target_empty true true at (meaning env at) (used env i (faults env i vs)) e))
     form_target_empty _ vs e = e
 
     givens_empty : (xs : Terms) (vs : Faults) → given_faults env xs vs ≡ [] → vs ≡ []
@@ -180,7 +185,8 @@ module _ (env : Env) where
     givens_empty (terms.Then x xs) vs e = faults_empty x vs (givens_empty xs (faults env x vs) e)
 
   pub constant_empty : (t : Term) (vs : Faults) → constant_faults env t vs ≡ [] → vs ≡ []
-  constant_empty t vs e = faults_empty t vs (used_empty t (faults env t vs) (if_empty (not (is_some (constant_of (typed env t)))) (first_of t) 34 (used env t (faults env t vs)) e))
+  constant_empty t vs e = faults_empty t vs
+      (used_empty t (faults env t vs) (if_empty (not (is_some (constant_of (typed env t)))) (first_of t) 34 (used env t (faults env t vs)) e))
 
   pub value_empty : (t : Term) (vs : Faults) → value_faults env t vs ≡ [] → vs ≡ []
   value_empty t vs e = faults_empty t vs (used_empty t (faults env t vs) e)
@@ -243,7 +249,8 @@ locals_empty word k (d ∷ ds) w vs e = local_empty word k d w vs (locals_empty 
 pub entries_empty : (kind : IntKind) (seen : List ℤ) (default : Bool) (es : List Entry) → Empties (entry_faults kind seen default es)
 entries_empty kind seen default [] vs e = e
 entries_empty kind seen default (Value at v ∷ es) vs e =
-    if_empty (is_among (converted kind v) seen) at 30 vs (entries_empty kind (with_value (converted kind v) seen) default es (fault_if (is_among (converted kind v) seen) at 30 vs) e)
+    if_empty (is_among (converted kind v) seen) at 30 vs (entries_empty kind (with_value (converted kind v) seen) default es
+    (fault_if (is_among (converted kind v) seen) at 30 vs) e)
 entries_empty kind seen default (Other at ∷ es) vs e = if_empty default at 31 vs (entries_empty kind seen true es (fault_if default at 31 vs) e)
 
 pub defaults_empty : (default : Bool) (es : List Entry) → Empties (default_faults default es)
@@ -271,7 +278,8 @@ module _ (ctx : Context) where
   mutual
     pub item_empty : (around : Around) (x : Item) (w : Walk) → Empties (item_faults ctx around x w)
     item_empty around (Declares first after d) w vs e = locals_empty ctx.word (kinded ctx.word d) d.names w vs e
-    item_empty around (States ls p) w vs e = labels_empty (env_at ctx w) around.switch ls vs (plain_empty around p w (labels_faults (env_at ctx w) around.switch ls vs) e)
+    item_empty around (States ls p) w vs e = labels_empty (env_at ctx w) around.switch ls vs
+        (plain_empty around p w (labels_faults (env_at ctx w) around.switch ls vs) e)
 
     pub plain_empty : (around : Around) (p : Plain) (w : Walk) → Empties (plain_faults ctx around p w)
     plain_empty around (From first after s) w vs e = statement_empty around first s w vs e
@@ -284,7 +292,8 @@ module _ (ctx : Context) where
         let v = value_faults (env_at ctx w) t vs in
         value_empty (env_at ctx w) t vs (body_empty around b w v (body_empty around c (behind_body ctx b w) (body_faults ctx around b w v) e))
     statement_empty around first (While t b) w vs e = value_empty (env_at ctx w) t vs (body_empty (in_loop around) b w (value_faults (env_at ctx w) t vs) e)
-    statement_empty around first (DoWhile b t) w vs e = body_empty (in_loop around) b w vs (value_empty (env_at ctx w) t (body_faults ctx (in_loop around) b w vs) e)
+    statement_empty around first (DoWhile b t) w vs e = body_empty (in_loop around) b w vs
+        (value_empty (env_at ctx w) t (body_faults ctx (in_loop around) b w vs) e)
     statement_empty around first (For start t u b) w vs e =
         let inner = behind_start ctx start (enter w) in
         let env = env_at ctx inner in
@@ -298,7 +307,8 @@ module _ (ctx : Context) where
         let v = value_faults (env_at ctx w) t vs in
         value_empty (env_at ctx w) t vs
         (switch_body_empty (in_switch around) b w v
-        (switch_empty (option_map (λ v. v.kind) (value_of (typed (env_at ctx w) t))) (body_entries ctx b w []) (switch_body_faults ctx (in_switch around) b w v) e))
+        (switch_empty (option_map (λ v. v.kind) (value_of (typed (env_at ctx w) t))) (body_entries ctx b w [])
+        (switch_body_faults ctx (in_switch around) b w v) e))
     statement_empty around first (Block b) w vs e = body_empty around b w vs e
     statement_empty around first (Goto at) w vs e = if_empty (not (has_label ctx.labels (ctx.word at))) at 33 vs e
     statement_empty around first Break w vs e = if_empty (not (around.loop || around.switch)) first 27 vs e
@@ -320,15 +330,18 @@ module _ (ctx : Context) where
 
     pub outside_empty : (around : Around) (xs : Items) (w : Walk) → Empties (outside_faults ctx around xs w)
     outside_empty around NoItem w vs e = e
-    outside_empty around (items.Then (Declares first after d) xs) w vs e = absurd (none_left _ _ (outside_empty around xs (declared_by ctx d w) (fault first 29 (declaration_faults ctx d w vs)) e))
+    outside_empty around (items.Then (Declares first after d) xs) w vs e =
+        absurd (none_left _ _ (outside_empty around xs (declared_by ctx d w) (fault first 29 (declaration_faults ctx d w vs)) e))
     outside_empty around (items.Then (States ls p) xs) w vs e =
         let v = labels_faults (env_at ctx w) around.switch ls vs in
         let x = plain_faults ctx around p w v in
         labels_empty (env_at ctx w) around.switch ls vs
         (plain_empty around p w v
-        (outside_by (has_case ls) (list_faults ctx around xs (behind_plain ctx p w) x) (outside_faults ctx around xs (behind_plain ctx p w) (fault_if (not (is_null ls p)) (stated_first ls p) 29 x)) x
+        (outside_by (has_case ls) (list_faults ctx around xs (behind_plain ctx p w) x)
+        (outside_faults ctx around xs (behind_plain ctx p w) (fault_if (not (is_null ls p)) (stated_first ls p) 29 x)) x
         (list_empty around xs (behind_plain ctx p w) x)
-        (λ k. if_empty (not (is_null ls p)) (stated_first ls p) 29 x (outside_empty around xs (behind_plain ctx p w) (fault_if (not (is_null ls p)) (stated_first ls p) 29 x) k)) e))
+        (λ k. if_empty (not (is_null ls p)) (stated_first ls p) 29 x
+        (outside_empty around xs (behind_plain ctx p w) (fault_if (not (is_null ls p)) (stated_first ls p) 29 x) k)) e))
 
     pub outside_item_empty : (around : Around) (x : Item) (w : Walk) → Empties (outside_fault ctx around x w)
     outside_item_empty around (Declares first after d) w vs e = absurd (none_left _ _ e)

@@ -100,7 +100,16 @@ pub record Adds (found es : List Entry) (cs : List ExpressionTree) (d k : ℕ) :
   pub few : length cs ≤ k
 
 pub adds_none : (found : List Entry) → Adds found found [] 0 0
-adds_none found = record { more = []; count = 0; values = sym (append-nil (vals found)); rest = omega arith; same = refl; constant = tt; defaults = omega arith; few = omega arith }
+adds_none found = record {
+  more = [];
+  count = 0;
+  values = sym (append-nil (vals found));
+  rest = omega arith;
+  same = refl;
+  constant = tt;
+  defaults = omega arith;
+  few = omega arith;
+}
 
 map_both : {A B : Type 0} (g : A → B) (xs ys : List A) → map g (xs ++ ys) ≡ map g xs ++ map g ys
 map_both g [] ys = refl
@@ -130,7 +139,8 @@ adds_as a b cs ds d e k l p q r x = record {
   few = let h = x.few in let i = ap length p in omega arith;
 }
 
-some_constant : (found : List Entry) (at : ℕ) (e : ExpressionTree) (z : ℤ) → IsConstantValue e → constant_value e ≡ Some z → Adds found (found ++ Value at z ∷ []) (e ∷ []) 0 1
+some_constant : (found : List Entry) (at : ℕ) (e : ExpressionTree) (z : ℤ) → IsConstantValue e → constant_value e ≡ Some z →
+    Adds found (found ++ Value at z ∷ []) (e ∷ []) 0 1
 some_constant found at e z h v = record {
   more = z ∷ [];
   count = 0;
@@ -143,7 +153,16 @@ some_constant found at e z h v = record {
 }
 
 one_default : (found : List Entry) (at : ℕ) → Adds found (found ++ Other at ∷ []) [] 1 0
-one_default found at = record { more = []; count = 1; values = vals-append found (Other at ∷ []); rest = others-append found (Other at ∷ []); same = refl; constant = tt; defaults = omega arith; few = omega arith }
+one_default found at = record {
+  more = [];
+  count = 1;
+  values = vals-append found (Other at ∷ []);
+  rest = others-append found (Other at ∷ []);
+  same = refl;
+  constant = tt;
+  defaults = omega arith;
+  few = omega arith;
+}
 
 -- ---- constants
 
@@ -196,13 +215,16 @@ module _ (ctx : Context) where
   both_of a b c xs ys k l x y =
       let j = ap arrivals (trees-append xs ys) ∙ arrivals-join (trees_of xs) (trees_of ys) in
       subst (λ ls. Adds a c (cases_among ls) (defaults_among ls) (k + l)) (sym j)
-      (adds_as a c (C xs ++ C ys) (cases_among (arrivals (trees_of xs) ++ arrivals (trees_of ys))) (D xs + D ys) (defaults_among (arrivals (trees_of xs) ++ arrivals (trees_of ys))) (k + l) (k + l)
-      (sym (cases-append (arrivals (trees_of xs)) (arrivals (trees_of ys)))) (let h = defaults-append (arrivals (trees_of xs)) (arrivals (trees_of ys)) in omega arith) (omega arith)
+      (adds_as a c (C xs ++ C ys) (cases_among (arrivals (trees_of xs) ++ arrivals (trees_of ys))) (D xs + D ys)
+      (defaults_among (arrivals (trees_of xs) ++ arrivals (trees_of ys))) (k + l) (k + l)
+      (sym (cases-append (arrivals (trees_of xs)) (arrivals (trees_of ys))))
+      (let h = defaults-append (arrivals (trees_of xs)) (arrivals (trees_of ys)) in omega arith) (omega arith)
       (adds_both a b c (C xs) (C ys) (D xs) (D ys) k l x y))
 
   pub one_of : (a b : List Entry) (x : item.Item) (t : Tree) (k : ℕ) → tree_of x ≡ t → AddsTree a b t k → AddsItems a b (x ∷ []) k
   one_of a b x t k e h =
-      let j = ap arrivals (trees-more x []) ∙ (ap (λ l. arrivals_of (tree_of x) ++ l) (ap arrivals trees-none) ∙ (append-nil (arrivals_of (tree_of x)) ∙ ap arrivals_of e)) in
+      let j = ap arrivals (trees-more x []) ∙ (ap (λ l. arrivals_of (tree_of x) ++ l) (ap arrivals trees-none) ∙
+      (append-nil (arrivals_of (tree_of x)) ∙ ap arrivals_of e)) in
       subst (λ ls. Adds a b (cases_among ls) (defaults_among ls) k) (sym j) h
 
   -- an item without labels of the switch
@@ -210,17 +232,20 @@ module _ (ctx : Context) where
   still found x t e h = one_of found found x t 0 e (subst (λ ls. Adds found found (cases_among ls) (defaults_among ls) 0) (sym h) (adds_none found))
 
   pub front : (a b : List Entry) (xs ys : List item.Item) (k : ℕ) → AddsItems a a xs 0 → AddsItems a b ys k → AddsItems a b (xs ++ ys) k
-  front a b xs ys k x y = adds_as a b (C (xs ++ ys)) (C (xs ++ ys)) (D (xs ++ ys)) (D (xs ++ ys)) (0 + k) k refl (omega arith) (omega arith) (both_of a a b xs ys 0 k x y)
+  front a b xs ys k x y = adds_as a b (C (xs ++ ys)) (C (xs ++ ys)) (D (xs ++ ys)) (D (xs ++ ys)) (0 + k) k refl (omega arith) (omega arith)
+      (both_of a a b xs ys 0 k x y)
 
   pub back : (a b : List Entry) (xs ys : List item.Item) (k : ℕ) → AddsItems a b xs k → AddsItems b b ys 0 → AddsItems a b (xs ++ ys) k
-  back a b xs ys k x y = adds_as a b (C (xs ++ ys)) (C (xs ++ ys)) (D (xs ++ ys)) (D (xs ++ ys)) (k + 0) k refl (omega arith) (omega arith) (both_of a b b xs ys k 0 x y)
+  back a b xs ys k x y = adds_as a b (C (xs ++ ys)) (C (xs ++ ys)) (D (xs ++ ys)) (D (xs ++ ys)) (k + 0) k refl (omega arith) (omega arith)
+      (both_of a b b xs ys k 0 x y)
 
   pub more_of : (a b : List Entry) (xs : List item.Item) (k l : ℕ) → k ≤ l → AddsItems a b xs k → AddsItems a b xs l
   more_of a b xs k l h x = adds_as a b (C xs) (C xs) (D xs) (D xs) k l refl (omega arith) h x
 
   note_list : (found : List Entry) (bs : List (List ℕ)) → AddsItems found found (map item.Note bs) 0
   note_list found [] = none_of found
-  note_list found (b ∷ bs) = front found found (item.Note b ∷ []) (map item.Note bs) 0 (still found (item.Note b) (tree.Note b) (tree-Note b) refl) (note_list found bs)
+  note_list found (b ∷ bs) = front found found (item.Note b ∷ []) (map item.Note bs) 0 (still found (item.Note b) (tree.Note b) (tree-Note b) refl)
+      (note_list found bs)
 
   pub notes_of : (found : List Entry) (a : Anchor) → AddsItems found found (notes_at ctx a) 0
   notes_of found a = note_list found (ctx.notes a)
@@ -229,7 +254,8 @@ module _ (ctx : Context) where
   behind_notes a b x xs k h = front a b (notes_at ctx x) xs k (notes_of a x) h
 
   pub mark_of : (found : List Entry) (at : ℕ) → AddsItems found found (mark ctx at) 0
-  mark_of found at = let l = number_in ctx.labels (ctx.word at) in behind_notes found found (Before at) (item.Mark l ∷ []) 0 (still found (item.Mark l) (tree.Mark l) (tree-Mark l) refl)
+  mark_of found at = let l = number_in ctx.labels (ctx.word at) in behind_notes found found (Before at) (item.Mark l ∷ []) 0
+      (still found (item.Mark l) (tree.Mark l) (tree-Mark l) refl)
 
   pub marks_of : (found : List Entry) (ls : List Label) → AddsItems found found (section_marks ctx ls) 0
   marks_of found [] = none_of found
@@ -241,21 +267,27 @@ module _ (ctx : Context) where
   locals_of found k [] w = none_of found
   locals_of found k (d ∷ ds) w =
       let v = declared ctx.word k d w in
-      front found found (local ctx.word k d w ∷ []) (locals ctx.word k ds v) 0 (still found (local ctx.word k d w) _ (tree-Local (length w.slots) (initial (value_at (env_in ctx.word v)) d.value)) refl) (locals_of found k ds v)
+      front found found (local ctx.word k d w ∷ []) (locals ctx.word k ds v) 0
+      (still found (local ctx.word k d w) _ (tree-Local (length w.slots) (initial (value_at (env_in ctx.word v)) d.value)) refl) (locals_of found k ds v)
 
   -- the constant of a case label
-  case_clean : (w : Walk) (switch : Bool) (at after : ℕ) (t : Term) → label_faults (env_at ctx w) switch (Case at after t) [] ≡ [] → GivenConstant (env_at ctx w) t
-  case_clean w switch at after t e = given_constant (env_at ctx w) t (parted (constant_faults (env_at ctx w) t) (fault_if (not switch) at 29) (constant_empty (env_at ctx w) t) e).1
+  case_clean : (w : Walk) (switch : Bool) (at after : ℕ) (t : Term) → label_faults (env_at ctx w) switch (Case at after t) [] ≡ [] →
+      GivenConstant (env_at ctx w) t
+  case_clean w switch at after t e = given_constant (env_at ctx w) t
+      (parted (constant_faults (env_at ctx w) t) (fault_if (not switch) at 29) (constant_empty (env_at ctx w) t) e).1
 
-  case_entry : (w : Walk) (at after : ℕ) (t : Term) (found : List Entry) (c : GivenConstant (env_at ctx w) t) → label_entry (env_at ctx w) (Case at after t) found ≡ found ++ Value at c.number ∷ []
+  case_entry : (w : Walk) (at after : ℕ) (t : Term) (found : List Entry) (c : GivenConstant (env_at ctx w) t) →
+      label_entry (env_at ctx w) (Case at after t) found ≡ found ++ Value at c.number ∷ []
   case_entry w at after t found c = ap (λ (o : Option (Expression × ℤ)). the_cases.case_entry at o found) c.given
 
   -- labels as items, and as entries
-  pub labels_of : (w : Walk) (switch : Bool) (ls : List Label) (found : List Entry) → labels_faults (env_at ctx w) switch ls [] ≡ [] → AddsItems found (label_entries (env_at ctx w) ls found) (labels_items ctx (env_at ctx w) ls) (label_cases ls)
+  pub labels_of : (w : Walk) (switch : Bool) (ls : List Label) (found : List Entry) → labels_faults (env_at ctx w) switch ls [] ≡ [] →
+      AddsItems found (label_entries (env_at ctx w) ls found) (labels_items ctx (env_at ctx w) ls) (label_cases ls)
   labels_of w switch [] found e = none_of found
   labels_of w switch (Named at after ∷ ls) found e =
       let p = labels_parts (env_at ctx w) switch (Named at after) ls e in
-      front found (label_entries (env_at ctx w) ls found) (mark ctx at) (labels_items ctx (env_at ctx w) ls) (label_cases ls) (mark_of found at) (labels_of w switch ls found p.1)
+      front found (label_entries (env_at ctx w) ls found) (mark ctx at) (labels_items ctx (env_at ctx w) ls) (label_cases ls) (mark_of found at)
+      (labels_of w switch ls found p.1)
   labels_of w switch (Case at after t ∷ ls) found e =
       let env = env_at ctx w in
       let p = labels_parts env switch (Case at after t) ls e in
@@ -263,7 +295,9 @@ module _ (ctx : Context) where
       let next = label_entry env (Case at after t) found in
       let x = item.Arrival (Some (constant_at env t)) in
       both_of found next (label_entries env ls next) (notes_at ctx (Before at) ++ x ∷ []) (labels_items ctx env ls) 1 (label_cases ls)
-      (behind_notes found next (Before at) (x ∷ []) 1 (one_of found next x _ 1 (tree-Arrival (Some (constant_at env t))) (subst (λ es. Adds found es (expression_tree (constant_at env t) ∷ []) 0 1) (sym (case_entry w at after t found c)) (some_constant found at _ c.number c.constant c.value))))
+      (behind_notes found next (Before at) (x ∷ []) 1 (one_of found next x _ 1 (tree-Arrival (Some (constant_at env t)))
+      (subst (λ es. Adds found es (expression_tree (constant_at env t) ∷ []) 0 1) (sym (case_entry w at after t found c))
+      (some_constant found at _ c.number c.constant c.value))))
       (labels_of w switch ls next p.1)
   labels_of w switch (Default at after ∷ ls) found e =
       let env = env_at ctx w in
@@ -271,7 +305,8 @@ module _ (ctx : Context) where
       let next = found ++ Other at ∷ [] in
       more_of found (label_entries env ls next) _ (0 + label_cases ls) (label_cases ls) (omega arith)
       (both_of found next (label_entries env ls next) (notes_at ctx (Before at) ++ item.Arrival None ∷ []) (labels_items ctx env ls) 0 (label_cases ls)
-      (behind_notes found next (Before at) (item.Arrival None ∷ []) 0 (one_of found next (item.Arrival None) (tree.Arrival None) 0 (tree-Arrival None) (one_default found at))) (labels_of w switch ls next p.1))
+      (behind_notes found next (Before at) (item.Arrival None ∷ []) 0
+      (one_of found next (item.Arrival None) (tree.Arrival None) 0 (tree-Arrival None) (one_default found at))) (labels_of w switch ls next p.1))
 
   -- of a section
   pub section_of_labels : (w : Walk) (switch : Bool) (ls : List Label) (found : List Entry) → labels_faults (env_at ctx w) switch ls [] ≡ []
@@ -283,12 +318,16 @@ module _ (ctx : Context) where
       let p = labels_parts env switch (Case at after t) ls e in
       let c = case_clean w switch at after t p.0 in
       let next = label_entry env (Case at after t) found in
-      adds_as found (label_entries env ls next) _ _ (0 + cond (has_default ls) 1 0) (cond (has_default ls) 1 0) (1 + label_cases ls) (1 + label_cases ls) refl (omega arith) (omega arith)
-      (adds_both found next (label_entries env ls next) (expression_tree (constant_at env t) ∷ []) (expression_trees (section_cases env ls)) 0 (cond (has_default ls) 1 0) 1 (label_cases ls)
-      (subst (λ es. Adds found es (expression_tree (constant_at env t) ∷ []) 0 1) (sym (case_entry w at after t found c)) (some_constant found at _ c.number c.constant c.value)) (section_of_labels w switch ls next p.1))
+      adds_as found (label_entries env ls next) _ _ (0 + cond (has_default ls) 1 0) (cond (has_default ls) 1 0) (1 + label_cases ls)
+      (1 + label_cases ls) refl (omega arith) (omega arith)
+      (adds_both found next (label_entries env ls next) (expression_tree (constant_at env t) ∷ []) (expression_trees (section_cases env ls)) 0
+      (cond (has_default ls) 1 0) 1 (label_cases ls)
+      (subst (λ es. Adds found es (expression_tree (constant_at env t) ∷ []) 0 1) (sym (case_entry w at after t found c))
+      (some_constant found at _ c.number c.constant c.value)) (section_of_labels w switch ls next p.1))
   section_of_labels w switch (Default at after ∷ ls) found e =
       let env = env_at ctx w in
       let p = labels_parts env switch (Default at after) ls e in
       let next = found ++ Other at ∷ [] in
       adds_as found (label_entries env ls next) _ _ (1 + cond (has_default ls) 1 0) 1 (0 + label_cases ls) (label_cases ls) refl (omega arith) (omega arith)
-      (adds_both found next (label_entries env ls next) [] (expression_trees (section_cases env ls)) 1 (cond (has_default ls) 1 0) 0 (label_cases ls) (one_default found at) (section_of_labels w switch ls next p.1))
+      (adds_both found next (label_entries env ls next) [] (expression_trees (section_cases env ls)) 1 (cond (has_default ls) 1 0) 0 (label_cases ls)
+      (one_default found at) (section_of_labels w switch ls next p.1))

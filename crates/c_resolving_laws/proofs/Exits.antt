@@ -38,13 +38,15 @@ right_none a b e = omega arith
 breaks_cut : (x : Forest) → breaks x ≡ 0 → breaks (without_end x) ≡ 0
 breaks_cut Nil e = refl
 breaks_cut (Then t Nil) e = refl
-breaks_cut (Then t (Then u x)) e = none_sum (breaks_of t) (breaks (without_end (Then u x))) (left_none (breaks_of t) (breaks (Then u x)) e) (breaks_cut (Then u x) (right_none (breaks_of t) (breaks (Then u x)) e))
+breaks_cut (Then t (Then u x)) e = none_sum (breaks_of t) (breaks (without_end (Then u x))) (left_none (breaks_of t) (breaks (Then u x)) e)
+    (breaks_cut (Then u x) (right_none (breaks_of t) (breaks (Then u x)) e))
 
 continues_cut : (x : Forest) → continues x ≡ 0 → continues (without_end x) ≡ 0
 continues_cut Nil e = refl
 continues_cut (Then t Nil) e = refl
 continues_cut (Then t (Then u x)) e =
-    none_sum (continues_of t) (continues (without_end (Then u x))) (left_none (continues_of t) (continues (Then u x)) e) (continues_cut (Then u x) (right_none (continues_of t) (continues (Then u x)) e))
+    none_sum (continues_of t) (continues (without_end (Then u x))) (left_none (continues_of t) (continues (Then u x)) e)
+    (continues_cut (Then u x) (right_none (continues_of t) (continues (Then u x)) e))
 
 loose_cut : (x : Forest) → HasNoLoose x → HasNoLoose (without_end x)
 loose_cut Nil h = tt
@@ -60,7 +62,8 @@ leaf_exits a (Mark l) h = record { breaking = λ e. refl; continuing = λ e. ref
 leaf_exits a (Note bs) h = record { breaking = λ e. refl; continuing = λ e. refl; arriving = λ e. (tt, tt) }
 leaf_exits a _ h = absurd h
 
-sections_continue : (a : Around) (ss : List SectionTree) → Each (λ (c : SectionTree). Exits (in_switch a) c.list) ss → a.loop ≡ false → continues_in (sections ss) ≡ 0
+sections_continue : (a : Around) (ss : List SectionTree) → Each (λ (c : SectionTree). Exits (in_switch a) c.list) ss → a.loop ≡ false →
+    continues_in (sections ss) ≡ 0
 sections_continue a [] h e = refl
 sections_continue a (s ∷ ss) h e = none_sum (continues s.list) (continues_in (sections ss)) (h.0.continuing e) (sections_continue a ss h.1 e)
 
@@ -75,7 +78,11 @@ exits_surrounded = record {
     continuing = λ e. continues-join x y ∙ none_sum (continues x) (continues y) (h.continuing e) (k.continuing e);
     arriving = λ e. loose_join x y (h.arriving e) (k.arriving e);
   };
-  cut = λ a x h. record { breaking = λ e. breaks_cut x (h.breaking e); continuing = λ e. continues_cut x (h.continuing e); arriving = λ e. loose_cut x (h.arriving e) };
+  cut = λ a x h. record {
+    breaking = λ e. breaks_cut x (h.breaking e);
+    continuing = λ e. continues_cut x (h.continuing e);
+    arriving = λ e. loose_cut x (h.arriving e);
+  };
   leaf = leaf_exits;
   ifs = λ a t x y h k. record {
     breaking = λ e. no_more (breaks x + breaks y) (none_sum (breaks x) (breaks y) (h.breaking e) (k.breaking e));
@@ -84,9 +91,21 @@ exits_surrounded = record {
   };
   whiles = λ a t x h. record { breaking = λ e. refl; continuing = λ e. refl; arriving = λ e. (h.arriving e, tt) };
   dos = λ a t x h. record { breaking = λ e. refl; continuing = λ e. refl; arriving = λ e. (h.arriving e, tt) };
-  fors = λ a f t u x h k. record { breaking = λ e. no_more (breaks f) (h.breaking e); continuing = λ e. no_more (continues f) (h.continuing e); arriving = λ e. (k.arriving e, tt) };
-  switches = λ a s ss h. record { breaking = λ e. refl; continuing = λ e. no_more (continues_in (sections ss)) (sections_continue a ss h e); arriving = λ e. (tt, tt) };
-  block = λ a x h. record { breaking = λ e. no_more (breaks x) (h.breaking e); continuing = λ e. no_more (continues x) (h.continuing e); arriving = λ e. (h.arriving e, tt) };
+  fors = λ a f t u x h k. record {
+    breaking = λ e. no_more (breaks f) (h.breaking e);
+    continuing = λ e. no_more (continues f) (h.continuing e);
+    arriving = λ e. (k.arriving e, tt);
+  };
+  switches = λ a s ss h. record {
+    breaking = λ e. refl;
+    continuing = λ e. no_more (continues_in (sections ss)) (sections_continue a ss h e);
+    arriving = λ e. (tt, tt);
+  };
+  block = λ a x h. record {
+    breaking = λ e. no_more (breaks x) (h.breaking e);
+    continuing = λ e. no_more (continues x) (h.continuing e);
+    arriving = λ e. (h.arriving e, tt);
+  };
   arrives = λ a e s. record { breaking = λ e. refl; continuing = λ e. refl; arriving = λ e. absurd (true≢false (sym s ∙ e)) };
   breaks = λ a s. record { breaking = λ e. absurd (true≢false (sym s ∙ e)); continuing = λ e. refl; arriving = λ e. (tt, tt) };
   continues = λ a s. record { breaking = λ e. refl; continuing = λ e. absurd (true≢false (sym s ∙ e)); arriving = λ e. (tt, tt) };

@@ -62,7 +62,8 @@ module _ (n : Names) (ss : List Scope) (env : Env) (knows : Knows n ss env) wher
   Droppable x = SoundTyped n ss x × IsSomeAnd (dropped x) (SoundDropped n ss)
 
   -- an operand whose value is used
-  pub used_clean : (t : Term) (vs : Faults) → used env t (faults env t vs) ≡ [] → (faults env t vs ≡ [] → Clean t vs) → (vs ≡ []) × IsSomeAnd (value_of (typed env t)) (SoundValue n ss)
+  pub used_clean : (t : Term) (vs : Faults) → used env t (faults env t vs) ≡ [] → (faults env t vs ≡ [] → Clean t vs) →
+      (vs ≡ []) × IsSomeAnd (value_of (typed env t)) (SoundValue n ss)
   used_clean t vs e r =
       let c = r (use_empty (first_of t) (typed env t) (faults env t vs) e) in
       (c.0, (use_clean n ss (first_of t) (typed env t) (faults env t vs) e c.1).1)
@@ -80,7 +81,8 @@ module _ (n : Names) (ss : List Scope) (env : Env) (knows : Knows n ss env) wher
   prefix_clean (Some up) op a vs h t u e = let c = t h e in (c.0, counting_sound n ss up false (writable (target_of env a)) c.1)
   prefix_clean None op a vs h t u e = let c = u e in (c.0, unary_sound n ss op (value_of (typed env a)) c.1)
 
-  variable_target : (at : ℕ) (vs : Faults) → form_target_faults env (Variable at) vs ≡ [] → (vs ≡ []) × IsSomeAnd (writable (form_target env (Variable at))) (IsWrittenTarget n ss)
+  variable_target : (at : ℕ) (vs : Faults) → form_target_faults env (Variable at) vs ≡ [] →
+      (vs ≡ []) × IsSomeAnd (writable (form_target env (Variable at))) (IsWrittenTarget n ss)
   variable_target at vs e =
       let m = env.word at in
       let o = meaning env at in
@@ -98,12 +100,18 @@ module _ (n : Names) (ss : List Scope) (env : Env) (knows : Knows n ss env) wher
         let m = env.word at in
         let o = meaning env at in
         let c = target_clean n ss false true at m o (used env i (faults env i vs)) e in
-        let v = used_clean i vs c.0 (sound i vs r.1) in
-        (v.0, reading_sound n ss (cell_of env at i) (cell_target_sound n ss false (variable_of m o) (value_of (typed env i)) (variable_sound n ss m o (knows m)) c.1 v.1))
+        let v = used_clean i vs c.0 (sound i vs r.1) in (
+          v.0,
+          reading_sound n ss (cell_of env at i) (cell_target_sound n ss false (variable_of m o) (value_of (typed env i))
+              (variable_sound n ss m o (knows m)) c.1 v.1),
+        )
     form_sound (Prefix m a) vs r e =
-        prefix_clean (step_of (mark_of (env.word m))) (unary_op (mark_of (env.word m))) a vs r.0 (λ t k. target_sound a vs t r.1 k) (λ k. used_clean a vs k (sound a vs r.1)) e
-    form_sound (Suffix m a) vs r e = let c = target_sound a vs r.0 r.1 e in (c.0, counting_sound n ss (counts_up (mark_of (env.word m))) true (writable (target_of env a)) c.1)
-    form_sound (CastTo words a) vs r e = let c = used_clean a vs e (sound a vs r) in (c.0, cast_sound n ss (kind_of env.word words) (value_of (typed env a)) c.1)
+        prefix_clean (step_of (mark_of (env.word m))) (unary_op (mark_of (env.word m))) a vs r.0 (λ t k. target_sound a vs t r.1 k)
+        (λ k. used_clean a vs k (sound a vs r.1)) e
+    form_sound (Suffix m a) vs r e = let c = target_sound a vs r.0 r.1 e in
+        (c.0, counting_sound n ss (counts_up (mark_of (env.word m))) true (writable (target_of env a)) c.1)
+    form_sound (CastTo words a) vs r e = let c = used_clean a vs e (sound a vs r) in
+        (c.0, cast_sound n ss (kind_of env.word words) (value_of (typed env a)) c.1)
     form_sound (CastVoid a) vs r e = let c = unused_clean a vs e (sound a vs r) in (c.0, cast_void_sound n ss (dropped (typed env a)) c.1.1)
     form_sound (Binary m a b) vs r e =
         let d = used_clean b (used env a (faults env a vs)) e (sound b (used env a (faults env a vs)) r.1) in
@@ -135,7 +143,8 @@ module _ (n : Names) (ss : List Scope) (env : Env) (knows : Knows n ss env) wher
     form_sound (Texts ats) vs r e = (e, tt)
     form_sound Unknown vs r e = absurd r
 
-    commas_sound : (bs : Terms) (a : typed.Typed) (vs : Faults) → AreReadTerms env.word bs → unused_faults env bs vs ≡ [] → (vs ≡ []) × (Droppable a → Droppable (commas env a bs))
+    commas_sound : (bs : Terms) (a : typed.Typed) (vs : Faults) → AreReadTerms env.word bs → unused_faults env bs vs ≡ [] →
+        (vs ≡ []) × (Droppable a → Droppable (commas env a bs))
     commas_sound NoTerm a vs r e = (e, λ d. d)
     commas_sound (Then b bs) a vs r e =
         let vb = unused env b (faults env b vs) in
@@ -146,17 +155,22 @@ module _ (n : Names) (ss : List Scope) (env : Env) (knows : Knows n ss env) wher
     target_sound : (t : Term) (vs : Faults) → IsTarget t → IsReadTerm env.word t → target_faults env t vs ≡ [] → CleanTarget t vs
     target_sound (At first form) vs h r e = form_target_sound form vs h r e
 
-    form_target_sound : (f : Form) (vs : Faults) → IsTargetForm f → IsReadForm env.word f → form_target_faults env f vs ≡ [] → (vs ≡ []) × IsSomeAnd (writable (form_target env f)) (IsWrittenTarget n ss)
+    form_target_sound : (f : Form) (vs : Faults) → IsTargetForm f → IsReadForm env.word f → form_target_faults env f vs ≡ [] →
+        (vs ≡ []) × IsSomeAnd (writable (form_target env f)) (IsWrittenTarget n ss)
     form_target_sound (Variable at) vs h r e = variable_target at vs e
     form_target_sound (Cell at i) vs h r e =
         let m = env.word at in
         let o = meaning env at in
         let c = target_clean n ss true true at m o (used env i (faults env i vs)) e in
-        let v = used_clean i vs c.0 (sound i vs r.1) in
-        (v.0, writable_sound n ss (cell_of env at i) (cell_target_sound n ss true (variable_of m o) (value_of (typed env i)) (variable_sound n ss m o (knows m)) c.1 v.1))
+        let v = used_clean i vs c.0 (sound i vs r.1) in (
+          v.0,
+          writable_sound n ss (cell_of env at i) (cell_target_sound n ss true (variable_of m o) (value_of (typed env i))
+              (variable_sound n ss m o (knows m)) c.1 v.1),
+        )
     form_target_sound _ vs h r e = absurd h
 
-    given_sound : (xs : Terms) (vs : Faults) → AreReadTerms env.word xs → given_faults env xs vs ≡ [] → (vs ≡ []) × Each (λ (g : Given). SoundTyped n ss g.typed) (given env xs)
+    given_sound : (xs : Terms) (vs : Faults) → AreReadTerms env.word xs → given_faults env xs vs ≡ [] →
+        (vs ≡ []) × Each (λ (g : Given). SoundTyped n ss g.typed) (given env xs)
     given_sound NoTerm vs r e = (e, tt)
     given_sound (Then x xs) vs r e =
         let c = given_sound xs (faults env x vs) r.1 e in

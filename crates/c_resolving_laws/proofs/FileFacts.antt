@@ -74,7 +74,8 @@ module _ (ts : List Top) (ss : List Scopes.Scope) (env : Env) (knows : Knows (re
   constant_bound t r e = within_map (IsSound n ss) (NameIsBound [] ss) (λ x h. h.2) _ (constant_is_value n ss env knows t r e).operand.0
 
   -- the names of a value are bound
-  pub given_bound : (name : ℕ) (o : Option Term) (b : Option ℤ) → IfSome o (IsReadTerm env.word) → value_faults env name o b [] ≡ [] → IsBoundGiven ss (option_map (constant_at env) o)
+  pub given_bound : (name : ℕ) (o : Option Term) (b : Option ℤ) → IfSome o (IsReadTerm env.word) → value_faults env name o b [] ≡ [] →
+      IsBoundGiven ss (option_map (constant_at env) o)
   given_bound name None b r e = tt
   given_bound name (Some t) b r e = constant_bound t r (int_none (first_of t) (worth env t) (constant_faults env t []) e)
     where
@@ -82,8 +83,10 @@ module _ (ts : List Top) (ss : List Scopes.Scope) (env : Env) (knows : Knows (re
       int_none at None vs e = e
       int_none at (Some v) vs e = (clean_if (not (is_in_range Int v)) at 34 vs e).0
 
-  pub all_given : (d : Declarator) → IsReadInitialiser env.word d.value → initial_faults (constant_faults env) d.value [] ≡ [] → GivenAreBound ss (initial (constant_at env) d.value)
-  all_given d r e = as_given (initial (constant_at env) d.value) (values_are env.word (constant_faults env) (constant_empty env) (constant_at env) (IsBound [] ss) (λ t rt et. constant_bound t rt et) d.value r e)
+  pub all_given : (d : Declarator) → IsReadInitialiser env.word d.value → initial_faults (constant_faults env) d.value [] ≡ [] →
+      GivenAreBound ss (initial (constant_at env) d.value)
+  all_given d r e = as_given (initial (constant_at env) d.value)
+      (values_are env.word (constant_faults env) (constant_empty env) (constant_at env) (IsBound [] ss) (λ t rt et. constant_bound t rt et) d.value r e)
     where
       as_given : (o : Option (List Expression)) → IfSome (option_map expression_trees o) (Each (IsBound [] ss)) → GivenAreBound ss o
       as_given None h = tt
@@ -126,7 +129,8 @@ module _ (file : File) (ts : List Top) (known : IsDefined (defined file) ts []) 
   Knowing fs rs env = Knows (record { tops = ts; slots = [] }) (tree_scopes rs) (record { word = file.word; scopes = env.scopes })
 
   knowing : (env : Env) (fs : Scope) (rs : Scopes.Scope) → Shaped env.scopes fs → Grows fs z.last → Same fs rs → Knowing fs rs env
-  knowing env fs rs s g m = subst (λ sc. Knows (record { tops = ts; slots = [] }) (tree_scopes rs) (record { word = file.word; scopes = sc })) (sym s) (place_knows file ts [] known start z fs rs g m)
+  knowing env fs rs s g m = subst (λ sc. Knows (record { tops = ts; slots = [] }) (tree_scopes rs) (record { word = file.word; scopes = sc })) (sym s)
+      (place_knows file ts [] known start z fs rs g m)
 
   -- the scope behind is reached from here
   abbrev Reaches : List Scope → Type 0
@@ -140,9 +144,12 @@ module _ (file : File) (ts : List Top) (known : IsDefined (defined file) ts []) 
       by (Some b) e = absurd (true≢false e)
 
   -- the values of constants, each by the one before
-  pub values_have : (es : List Enumerator) (o : Option ℤ) (before : ℤ) → o ≡ Some before → (scopes : List Scope) (done : List Top) (fs : Scope) (rs : Scopes.Scope) → let env : Env = record { word = file.word; scopes = scopes } in
-      Shaped scopes fs → Each (IsReadEnumerator file.word) es → enum_faults es o env [] ≡ [] → Inv (defined file) done fs rs → Reaches (behind_enum es o env).scopes
-      → HaveValues ts before (enum_items es o env) × AreNotMain (enum_items es o env) × ConstantsAreBound (tree_scopes rs) (enum_items es o env) × EnumeratorsPrint (enum_items es o env)
+  pub values_have : (es : List Enumerator) (o : Option ℤ) (before : ℤ) → o ≡ Some before →
+      (scopes : List Scope) (done : List Top) (fs : Scope) (rs : Scopes.Scope) → let env : Env = record { word = file.word; scopes = scopes } in
+      Shaped scopes fs → Each (IsReadEnumerator file.word) es → enum_faults es o env [] ≡ [] → Inv (defined file) done fs rs →
+      Reaches (behind_enum es o env).scopes
+      → HaveValues ts before (enum_items es o env) × AreNotMain (enum_items es o env) × ConstantsAreBound (tree_scopes rs) (enum_items es o env) ×
+      EnumeratorsPrint (enum_items es o env)
   values_have [] o before q scopes done fs rs s r e i h = (tt, tt, tt, tt)
   values_have (x ∷ es) o before q scopes done fs rs s r e i h =
       let env : Env = record { word = file.word; scopes = scopes } in
@@ -157,7 +164,8 @@ module _ (file : File) (ts : List Top) (known : IsDefined (defined file) ts []) 
       let ranged = zero_is_int v (value_is_int env x.value o) in
       let next = one_constant (defined file) done fs rs m (or_zero v) new ranged i in
       let value = ap or_zero k.1 in
-      let rest = values_have es v k.0 k.1 (enumerated x v env).scopes done (with_name m b fs) ((m, AConstant (or_zero v)) ∷ rs) (bound_shaped scopes fs m b s) r.1 p.rest next h in (
+      let rest = values_have es v k.0 k.1 (enumerated x v env).scopes done (with_name m b fs) ((m, AConstant (or_zero v)) ∷ rs)
+      (bound_shaped scopes fs m b s) r.1 p.rest next h in (
         (k.2 (enum_item x v env) value, ranged, subst (λ w. HaveValues ts w (enum_items es v (enumerated x v env))) (sym value) rest.0),
         (p.name.other, rest.1),
         ((new_of_tree fs rs m i.same new, p.name.unknown), given_bound ts (tree_scopes rs) env here x.name x.value o r.0.value p.value, rest.2),
@@ -166,8 +174,13 @@ module _ (file : File) (ts : List Top) (known : IsDefined (defined file) ts []) 
 
   -- ---- variables
 
-  one_is : (static : Bool) (k : Kinded) (d : Declarator) (scopes : List Scope) (fs : Scope) (rs : Scopes.Scope) → let env : Env = record { word = file.word; scopes = scopes } in
-      IsReadDeclarator file.word d → GlobalParts k d env → Knowing fs rs (global_declared k d env) → let g = global static k d env in IsGlobal ts g (option_map expression_trees g.init)
+  one_is : (static : Bool) (k : Kinded) (d : Declarator) (scopes : List Scope) (fs : Scope) (rs : Scopes.Scope) → let env : Env =
+      record {
+        word = file.word;
+        scopes = scopes;
+      } in
+      IsReadDeclarator file.word d → GlobalParts k d env → Knowing fs rs (global_declared k d env) → let g = global static k d env in
+      IsGlobal ts g (option_map expression_trees g.init)
   one_is static k d scopes fs rs r p h =
       let env : Env = record { word = file.word; scopes = scopes } in
       let inner = global_declared k d env in
@@ -175,16 +188,20 @@ module _ (file : File) (ts : List Top) (known : IsDefined (defined file) ts []) 
       record {
         length = a.0;
         values = a.1;
-        constant = values_are file.word (constant_faults inner) (constant_empty inner) (constant_at inner) (IsConstantOf ts) (λ t rt et. constant_of_file ts (tree_scopes rs) inner h t rt et) d.value r.value p.values;
+        constant = values_are file.word (constant_faults inner) (constant_empty inner) (constant_at inner) (IsConstantOf ts)
+            (λ t rt et. constant_of_file ts (tree_scopes rs) inner h t rt et) d.value r.value p.values;
       }
 
   abbrev pub GlobalFact : Top → Type 0
   GlobalFact (T.Global g) = IsGlobal ts g (option_map expression_trees g.init)
   GlobalFact _ = Unit {0}
 
-  pub globals_are : (static : Bool) (k : Kinded) (ds : List Declarator) (scopes : List Scope) (done : List Top) (fs : Scope) (rs : Scopes.Scope) → let env : Env = record { word = file.word; scopes = scopes } in
-      Shaped scopes fs → Each (IsReadDeclarator file.word) ds → Each (IsFewDeclarator file.word 400) ds → globals_faults k ds env [] ≡ [] → Inv (defined file) done fs rs → Reaches (behind_globals k ds env).scopes
-      → Each GlobalFact (globals static k ds env) × Each MainIsFormed (globals static k ds env) × TopsAreBound (tree_scopes rs) (globals static k ds env) × Each TopIsSpelled (globals static k ds env)
+  pub globals_are : (static : Bool) (k : Kinded) (ds : List Declarator) (scopes : List Scope) (done : List Top) (fs : Scope) (rs : Scopes.Scope) →
+      let env : Env = record { word = file.word; scopes = scopes } in
+      Shaped scopes fs → Each (IsReadDeclarator file.word) ds → Each (IsFewDeclarator file.word 400) ds → globals_faults k ds env [] ≡ [] →
+      Inv (defined file) done fs rs → Reaches (behind_globals k ds env).scopes
+      → Each GlobalFact (globals static k ds env) × Each MainIsFormed (globals static k ds env) ×
+      TopsAreBound (tree_scopes rs) (globals static k ds env) × Each TopIsSpelled (globals static k ds env)
   globals_are static k [] scopes done fs rs s r few e i h = (tt, tt, tt, tt)
   globals_are static k (d ∷ ds) scopes done fs rs s r few e i h =
       let env : Env = record { word = file.word; scopes = scopes } in
@@ -213,7 +230,8 @@ no_elements : {A : Type 0} (xs : List A) → is_empty xs ≡ true → length xs 
 no_elements [] e = refl
 no_elements (x ∷ xs) e = absurd (true≢false (sym e))
 
-main_by : (word : ℕ → List ℕ) (notes : Anchor → List (List ℕ)) (f : Function) (scopes : List Scope) (o : Option Body) → is_main_form word f ≡ true → IsMainForm (the_function.defined word notes f o scopes)
+main_by : (word : ℕ → List ℕ) (notes : Anchor → List (List ℕ)) (f : Function) (scopes : List Scope) (o : Option Body) → is_main_form word f ≡ true →
+    IsMainForm (the_function.defined word notes f o scopes)
 main_by word notes f scopes o e =
     let l = and_left (same_result (result_kind word f) (Some Int) && not f.static) (is_empty f.parameters) e in
     let result = result_same (result_kind word f) (Some Int) (and_left (same_result (result_kind word f) (Some Int)) (not f.static) l) in
@@ -221,7 +239,8 @@ main_by word notes f scopes o e =
     let none = no_elements f.parameters (and_right (same_result (result_kind word f) (Some Int) && not f.static) (is_empty f.parameters) e) in
     formed o result public none
   where
-    formed : (o : Option Body) → result_kind word f ≡ Some Int → f.static ≡ false → length f.parameters ≡ 0 → IsMainForm (the_function.defined word notes f o scopes)
+    formed : (o : Option Body) → result_kind word f ≡ Some Int → f.static ≡ false → length f.parameters ≡ 0 →
+        IsMainForm (the_function.defined word notes f o scopes)
     formed None r p n = record { result = r; parameters = n; public = p }
     formed (Some b) r p n = record { result = r; parameters = n; public = p }
 
@@ -231,7 +250,8 @@ either_true false b e h = absurd (true≢false (sym h))
 
 -- ---- all that stands at file scope
 
-module _ (file : File) (ts : List Top) (known : (slots : List Slot) → IsDefined (defined file) ts slots) (comments : (a : Anchor) → Each IsComment (file.notes a)) where
+module _ (file : File) (ts : List Top) (known : (slots : List Slot) → IsDefined (defined file) ts slots)
+    (comments : (a : Anchor) → Each IsComment (file.notes a)) where
   -- what is proved of each part
   abbrev pub TopHolds : Top → Type 0
   TopHolds (T.Enum xs) = HaveValues ts (negsuc 0) xs
@@ -246,20 +266,30 @@ module _ (file : File) (ts : List Top) (known : (slots : List Slot) → IsDefine
   abbrev pub HoldFrom : List Scopes.Scope → List Top → Type 0
   HoldFrom ss xs = Hold xs × TopsAreBound ss xs
 
-  bound_both : (ss : List Scopes.Scope) (xs ys : List Top) → TopsAreBound ss xs → TopsAreBound (behind_tops (defined file) ss xs) ys → TopsAreBound ss (xs ++ ys)
+  bound_both : (ss : List Scopes.Scope) (xs ys : List Top) → TopsAreBound ss xs → TopsAreBound (behind_tops (defined file) ss xs) ys →
+      TopsAreBound ss (xs ++ ys)
   bound_both ss [] ys h k = k
   bound_both ss (x ∷ xs) ys h k = (h.0, bound_both (Scopes.behind_top ss x) xs ys h.1 k)
 
   hold_both : (ss : List Scopes.Scope) (xs ys : List Top) → HoldFrom ss xs → HoldFrom (behind_tops (defined file) ss xs) ys → HoldFrom ss (xs ++ ys)
-  hold_both ss xs ys h k = ((each_append TopHolds xs ys h.0.0 k.0.0, each_append MainIsFormed xs ys h.0.1 k.0.1, each_append TopIsSpelled xs ys h.0.2 k.0.2), bound_both ss xs ys h.1 k.1)
+  hold_both ss xs ys h k = (
+    (
+      each_append TopHolds xs ys h.0.0 k.0.0,
+      each_append MainIsFormed xs ys h.0.1 k.0.1,
+      each_append TopIsSpelled xs ys h.0.2 k.0.2,
+    ),
+    bound_both ss xs ys h.1 k.1,
+  )
 
   notes_hold : (ss : List Scopes.Scope) (bs : List (List ℕ)) → Each IsComment bs → HoldFrom ss (map T.Note bs)
   notes_hold ss [] h = ((tt, tt, tt), tt)
   notes_hold ss (b ∷ bs) h = let r = notes_hold ss bs h.1 in (((tt, r.0.0), (tt, r.0.1), (h.0, r.0.2)), (tt, r.1))
 
   -- a function is declared once, or again
-  function_named : (at : ℕ) (again : Bool) (s : Signature) (m : List ℕ) (scopes : List Scope) (fs : Scope) (rs : Scopes.Scope) → Shaped scopes fs → Same fs rs → again_faults at again s (bound m scopes) [] ≡ [] → IsFunctionName m (tree_scopes rs)
-  function_named at again s m scopes fs rs h same e = subst (λ o. IfSome o (λ b. b ≡ Scopes.AFunction)) (sym (same m)) (by (found m fs) (subst (λ o. again_faults at again s o [] ≡ []) (ap (bound m) h) e))
+  function_named : (at : ℕ) (again : Bool) (s : Signature) (m : List ℕ) (scopes : List Scope) (fs : Scope) (rs : Scopes.Scope) → Shaped scopes fs →
+      Same fs rs → again_faults at again s (bound m scopes) [] ≡ [] → IsFunctionName m (tree_scopes rs)
+  function_named at again s m scopes fs rs h same e = subst (λ o. IfSome o (λ b. b ≡ Scopes.AFunction)) (sym (same m))
+      (by (found m fs) (subst (λ o. again_faults at again s o [] ≡ []) (ap (bound m) h) e))
     where
       by : (o : Option Binding) → again_faults at again s o [] ≡ [] → IfSome (option_map (meaning_of m) o) (λ b. b ≡ Scopes.AFunction)
       by None e = tt
@@ -269,7 +299,8 @@ module _ (file : File) (ts : List Top) (known : (slots : List Slot) → IsDefine
       by (Some (B.Global shape)) e = absurd (none_left _ _ e)
       by (Some (B.Local k shape)) e = absurd (none_left _ _ e)
 
-  globals_hold : (start : Scope) (z : AtEnd file ts start) (static : Bool) (k : Kinded) (ds : List Declarator) (env : Env) → Each (GlobalFact file ts (known []) start z) (globals static k ds env) → Each TopHolds (globals static k ds env)
+  globals_hold : (start : Scope) (z : AtEnd file ts start) (static : Bool) (k : Kinded) (ds : List Declarator) (env : Env) →
+      Each (GlobalFact file ts (known []) start z) (globals static k ds env) → Each TopHolds (globals static k ds env)
   globals_hold start z static k [] env h = tt
   globals_hold start z static k (d ∷ ds) env h = (h.0, globals_hold start z static k ds (global_declared k d env) h.1)
 
@@ -280,16 +311,20 @@ module _ (file : File) (ts : List Top) (known : (slots : List Slot) → IsDefine
       head [] = []
       head (s ∷ ss) = s
 
-  form_holds : (done : List Top) (first : ℕ) (form : Form) (s : State) (p : Place file done s.scopes) → IsReadTopForm file.word form → IsReadLine file.word first form → (e : form_faults file form s [] ≡ [])
-      → (now : Scope) → Shaped (behind_form file form s).scopes now → (names : Scopes.Scope) → behind_tops (defined file) (tree_scopes p.rs) (form_tops file first form s) ≡ tree_scopes names → Same now names → (z : AtEnd file ts now)
+  form_holds : (done : List Top) (first : ℕ) (form : Form) (s : State) (p : Place file done s.scopes) → IsReadTopForm file.word form →
+      IsReadLine file.word first form → (e : form_faults file form s [] ≡ [])
+      → (now : Scope) → Shaped (behind_form file form s).scopes now → (names : Scopes.Scope) →
+      behind_tops (defined file) (tree_scopes p.rs) (form_tops file first form s) ≡ tree_scopes names → Same now names → (z : AtEnd file ts now)
       → HoldFrom (tree_scopes p.rs) (form_tops file first form s)
   form_holds done first Line s p r line e now h names tree same z = (((tt, tt), (tt, tt), (line, tt)), (tt, tt))
   form_holds done first (Enum es) s p r line e now h names tree same z =
-      let v = values_have file ts (known []) now z es (Some (negsuc 0)) (negsuc 0) refl s.scopes done p.fs p.rs p.shaped r.1 e p.inv (λ fs k. subst (λ a. Grows a z.last) (same_head _ now fs h k) z.grows) in
+      let v = values_have file ts (known []) now z es (Some (negsuc 0)) (negsuc 0) refl s.scopes done p.fs p.rs p.shaped r.1 e p.inv
+      (λ fs k. subst (λ a. Grows a z.last) (same_head _ now fs h k) z.grows) in
       (((v.0, tt), (v.1, tt), (enum_spelled es (Some (negsuc 0)) (env_of file s) r.0 v.3, tt)), (v.2, tt))
   form_holds done first (Globals static d) s p r line e now h names tree same z =
       let k = kinded file.word d in
-      let v = globals_are file ts (known []) now z static k d.names s.scopes done p.fs p.rs p.shaped r.0 r.1 e p.inv (λ fs k. subst (λ a. Grows a z.last) (same_head _ now fs h k) z.grows) in
+      let v = globals_are file ts (known []) now z static k d.names s.scopes done p.fs p.rs p.shaped r.0 r.1 e p.inv
+      (λ fs k. subst (λ a. Grows a z.last) (same_head _ now fs h k) z.grows) in
       ((globals_hold now z static k d.names (env_of file s) v.0, v.1, v.3), v.2)
   form_holds done first (Defines f) s p r line e now h names tree same z =
       let q = function_parts file f s e in
@@ -297,19 +332,27 @@ module _ (file : File) (ts : List Top) (known : (slots : List Slot) → IsDefine
       let m = file.word f.name in
       let named = function_name file.word file.notes f scopes f.body in
       let knows : (slots : List Slot) → Knows (record { tops = ts; slots = slots }) (tree_scopes names) (record { word = file.word; scopes = scopes })
-      = λ slots. subst (λ sc. Knows (record { tops = ts; slots = slots }) (tree_scopes names) (record { word = file.word; scopes = sc })) (sym h) (place_knows file ts slots (known slots) now z now names z.grows same) in
+      = λ slots. subst (λ sc. Knows (record { tops = ts; slots = slots }) (tree_scopes names) (record { word = file.word; scopes = sc })) (sym h)
+      (place_knows file ts slots (known slots) now z now names z.grows same) in
       let holds = resolves file.flat file.word file.notes f scopes ts r q.1 (λ slots. (tree_scopes names, knows slots)) in
       let b = function_is_bound file.flat file.word file.notes f scopes ts (tree_scopes names) knows r q.1 in (
         (
           (holds, tt),
-          (λ k. main_by file.word file.notes f scopes f.body (either_true (bytes_eq m (codes "main")) (is_main_form file.word f) q.0.main (ap (λ w. bytes_eq w (codes "main")) (sym named) ∙ k)), tt),
+          (
+            λ k. main_by file.word file.notes f scopes f.body
+                (either_true (bytes_eq m (codes "main")) (is_main_form file.word f) q.0.main (ap (λ w. bytes_eq w (codes "main")) (sym named) ∙ k)),
+            tt,
+          ),
           (function_is_spelled file.flat file.word file.notes f scopes ts comments r q.1 (λ slots. (tree_scopes names, knows slots)) holds, tt),
         ),
         (
           record {
-            named = subst (λ w. IsFunctionName w (tree_scopes p.rs)) (sym named) (function_named f.name (has_body f && has_function s.bodies m) (signature_in file.bodies file.word f) m s.scopes p.fs p.rs p.shaped p.inv.same q.0.again);
+            named = subst (λ w. IsFunctionName w (tree_scopes p.rs)) (sym named)
+                (function_named f.name (has_body f && has_function s.bodies m) (signature_in file.bodies file.word f) m s.scopes p.fs p.rs p.shaped
+                p.inv.same q.0.again);
             unknown = ap is_known named ∙ q.0.unknown;
-            parameters = subst (λ ss. AreNewParameters (function_of file.word file.notes f scopes).params 0 (function_of file.word file.notes f scopes).slots (Scopes.inside ss)) (sym tree) b.0;
+            parameters = subst (λ ss. AreNewParameters (function_of file.word file.notes f scopes).params 0
+                (function_of file.word file.notes f scopes).slots (Scopes.inside ss)) (sym tree) b.0;
             body = subst (λ ss. BodyIsBound (function_of file.word file.notes f scopes) ss (function_of file.word file.notes f scopes).body) (sym tree) b.1;
           },
           tt,
@@ -317,7 +360,8 @@ module _ (file : File) (ts : List Top) (known : (slots : List Slot) → IsDefine
       )
   form_holds done first Unread s p r line e now h names tree same z = absurd r
 
-  pub file_holds : (xs : List tops.Top) (s : State) (done : List Top) (p : Place file done s.scopes) → IsReadFile file.word xs → file_faults file xs s [] ≡ [] → ts ≡ done ++ tops_of file xs s → HoldFrom (tree_scopes p.rs) (tops_of file xs s)
+  pub file_holds : (xs : List tops.Top) (s : State) (done : List Top) (p : Place file done s.scopes) → IsReadFile file.word xs →
+      file_faults file xs s [] ≡ [] → ts ≡ done ++ tops_of file xs s → HoldFrom (tree_scopes p.rs) (tops_of file xs s)
   file_holds [] s done p r e a = notes_hold (tree_scopes p.rs) (file.notes Last) (comments Last)
   file_holds (tops.From first after form ∷ xs) s done p r e a =
       let q = file_parts file first after form xs s e in
@@ -334,8 +378,11 @@ module _ (file : File) (ts : List Top) (known : (slots : List Slot) → IsDefine
       let quiet = notes_behind (defined file) ss bs in
       let here = form_holds noted_done first form s (noted file done s.scopes bs p) r.0.0 r.0.1 q.0 v.fs' v.shaped v.rs' v.tree v.inv.same z in
       let front = hold_both ss (map T.Note bs) forms (notes_hold ss bs (comments (Before first))) (subst (λ x. HoldFrom x forms) (sym quiet) here) in
-      hold_both ss new rest front (subst (λ x. HoldFrom x rest) (sym (behind_both ss (map T.Note bs) forms ∙ (ap (λ x. behind_tops (defined file) x forms) quiet ∙ v.tree))) (file_holds xs (behind_form file form s) (done ++ new) place r.1 q.1 a'))
+      hold_both ss new rest front (subst (λ x. HoldFrom x rest)
+      (sym (behind_both ss (map T.Note bs) forms ∙ (ap (λ x. behind_tops (defined file) x forms) quiet ∙ v.tree)))
+      (file_holds xs (behind_form file form s) (done ++ new) place r.1 q.1 a'))
     where
-      behind_both : (ss : List Scopes.Scope) (xs ys : List Top) → behind_tops (defined file) ss (xs ++ ys) ≡ behind_tops (defined file) (behind_tops (defined file) ss xs) ys
+      behind_both : (ss : List Scopes.Scope) (xs ys : List Top) → behind_tops (defined file) ss (xs ++ ys) ≡ behind_tops (defined file)
+          (behind_tops (defined file) ss xs) ys
       behind_both ss [] ys = refl
       behind_both ss (x ∷ xs) ys = behind_both (Scopes.behind_top ss x) xs ys

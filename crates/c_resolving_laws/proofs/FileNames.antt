@@ -47,7 +47,8 @@ NoG g = ⊥
 abbrev pub Unnamed : List ℕ → List Top → Type 0
 Unnamed m ts = Named NoF NoG m ts
 
-top_named : (F : Function → Type 0) (G : GlobalVariable → Type 0) (F' : Function → Type 0) (G' : GlobalVariable → Type 0) → ((f : Function) → F f → F' f) → ((g : GlobalVariable) → G g → G' g)
+top_named : (F : Function → Type 0) (G : GlobalVariable → Type 0) (F' : Function → Type 0) (G' : GlobalVariable → Type 0) →
+    ((f : Function) → F f → F' f) → ((g : GlobalVariable) → G g → G' g)
     → (m : List ℕ) (t : Top) → TopFact F G m t → TopFact F' G' m t
 top_named F G F' G' f g m (T.Function x) h = λ e. f x (h e)
 top_named F G F' G' f g m (T.Global x) h = λ e. g x (h e)
@@ -55,7 +56,8 @@ top_named F G F' G' f g m (T.Include bytes) h = tt
 top_named F G F' G' f g m (T.Enum xs) h = tt
 top_named F G F' G' f g m (T.Note bytes) h = tt
 
-pub named_map : (F : Function → Type 0) (G : GlobalVariable → Type 0) (F' : Function → Type 0) (G' : GlobalVariable → Type 0) → ((f : Function) → F f → F' f) → ((g : GlobalVariable) → G g → G' g)
+pub named_map : (F : Function → Type 0) (G : GlobalVariable → Type 0) (F' : Function → Type 0) (G' : GlobalVariable → Type 0) →
+    ((f : Function) → F f → F' f) → ((g : GlobalVariable) → G g → G' g)
     → (m : List ℕ) (ts : List Top) → Named F G m ts → Named F' G' m ts
 named_map F G F' G' f g m ts h = each_map (TopFact F G m) (TopFact F' G' m) (top_named F G F' G' f g m) ts h
 
@@ -70,7 +72,8 @@ skip false x y f = refl
 
 pub global_append : (m : List ℕ) (a b : List Top) → the_global m (a ++ b) ≡ option_or (the_global m a) (the_global m b)
 global_append m [] b = refl
-global_append m (T.Global g ∷ a) b = ap (cond (bytes_eq g.slot.name m) (Some g.slot)) (global_append m a b) ∙ chosen (bytes_eq g.slot.name m) g.slot (the_global m a) (the_global m b)
+global_append m (T.Global g ∷ a) b = ap (cond (bytes_eq g.slot.name m) (Some g.slot)) (global_append m a b) ∙
+    chosen (bytes_eq g.slot.name m) g.slot (the_global m a) (the_global m b)
   where
     chosen : (t : Bool) (s : Slot) (o u : Option Slot) → cond t (Some s) (option_or o u) ≡ option_or (cond t (Some s) o) u
     chosen true s o u = refl
@@ -97,9 +100,11 @@ global_stays m P a b h = subst (λ o. IsSomeAnd o P) (sym (global_append m a b))
 
 -- ---- functions
 
-pub function_append : (p : Function → Bool) (m : List ℕ) (a b : List Top) → first_function p m (a ++ b) ≡ option_or (first_function p m a) (first_function p m b)
+pub function_append : (p : Function → Bool) (m : List ℕ) (a b : List Top) →
+    first_function p m (a ++ b) ≡ option_or (first_function p m a) (first_function p m b)
 function_append p m [] b = refl
-function_append p m (T.Function f ∷ a) b = ap (cond (bytes_eq f.name m && p f) (Some f)) (function_append p m a b) ∙ chosen (bytes_eq f.name m && p f) f (first_function p m a) (first_function p m b)
+function_append p m (T.Function f ∷ a) b = ap (cond (bytes_eq f.name m && p f) (Some f)) (function_append p m a b) ∙ chosen (bytes_eq f.name m && p f)
+    f (first_function p m a) (first_function p m b)
   where
     chosen : (t : Bool) (s : Function) (o u : Option Function) → cond t (Some s) (option_or o u) ≡ option_or (cond t (Some s) o) u
     chosen true s o u = refl
@@ -110,11 +115,13 @@ function_append p m (T.Enum xs ∷ a) b = function_append p m a b
 function_append p m (T.Note bytes ∷ a) b = function_append p m a b
 
 -- the function that is found has the fact, and the test holds of it
-pub first_named : (F : Function → Type 0) (G : GlobalVariable → Type 0) (p : Function → Bool) (m : List ℕ) (ts : List Top) → Named F G m ts → IfSome (first_function p m ts) (λ f. F f × (p f ≡ true))
+pub first_named : (F : Function → Type 0) (G : GlobalVariable → Type 0) (p : Function → Bool) (m : List ℕ) (ts : List Top) → Named F G m ts →
+    IfSome (first_function p m ts) (λ f. F f × (p f ≡ true))
 first_named F G p m [] h = tt
 first_named F G p m (T.Function f ∷ ts) h = by (bytes_eq f.name m && p f) refl (first_named F G p m ts h.1)
   where
-    by : (t : Bool) → (bytes_eq f.name m && p f) ≡ t → IfSome (first_function p m ts) (λ f. F f × (p f ≡ true)) → IfSome (cond t (Some f) (first_function p m ts)) (λ f. F f × (p f ≡ true))
+    by : (t : Bool) → (bytes_eq f.name m && p f) ≡ t → IfSome (first_function p m ts) (λ f. F f × (p f ≡ true)) →
+        IfSome (cond t (Some f) (first_function p m ts)) (λ f. F f × (p f ≡ true))
     by true e k = (h.0 (and_left (bytes_eq f.name m) (p f) e), and_right (bytes_eq f.name m) (p f) e)
     by false e k = k
 first_named F G p m (T.Global g ∷ ts) h = first_named F G p m ts h.1
@@ -123,7 +130,8 @@ first_named F G p m (T.Enum xs ∷ ts) h = first_named F G p m ts h.1
 first_named F G p m (T.Note bytes ∷ ts) h = first_named F G p m ts h.1
 
 pub no_function : (G : GlobalVariable → Type 0) (m : List ℕ) (ts : List Top) → Named NoF G m ts → the_function m ts ≡ None
-no_function G m ts h = by (first_function (λ f. is_some f.body) m ts) (first_function (λ f. true) m ts) (first_named NoF G (λ f. is_some f.body) m ts h) (first_named NoF G (λ f. true) m ts h)
+no_function G m ts h = by (first_function (λ f. is_some f.body) m ts) (first_function (λ f. true) m ts)
+    (first_named NoF G (λ f. is_some f.body) m ts h) (first_named NoF G (λ f. true) m ts h)
   where
     by : (o u : Option Function) → IfSome o (λ f. ⊥ × (is_some f.body ≡ true)) → IfSome u (λ f. ⊥ × (true ≡ true)) → option_or o u ≡ None
     by None None h k = refl
@@ -140,7 +148,8 @@ none_has p m [] e = tt
 none_has p m (T.Function f ∷ ts) e = by (bytes_eq f.name m) (p f) refl refl e (none_has p m ts)
   where
     by : (b c : Bool) → bytes_eq f.name m ≡ b → p f ≡ c → is_some (cond (b && c) (Some f) (first_function p m ts)) ≡ false
-        → (is_some (first_function p m ts) ≡ false → Named (λ f. p f ≡ false) (λ g. Unit {0}) m ts) → Named (λ f. p f ≡ false) (λ g. Unit {0}) m (T.Function f ∷ ts)
+        → (is_some (first_function p m ts) ≡ false → Named (λ f. p f ≡ false) (λ g. Unit {0}) m ts) →
+        Named (λ f. p f ≡ false) (λ g. Unit {0}) m (T.Function f ∷ ts)
     by true true i j e r = absurd (true≢false e)
     by true false i j e r = (λ k. j, r e)
     by false c i j e r = (λ k. absurd (true≢false (sym k ∙ i)), r e)
@@ -158,16 +167,22 @@ named_both F F' m (T.Enum xs ∷ ts) h k = (tt, named_both F F' m ts h.1 k.1)
 named_both F F' m (T.Note bytes ∷ ts) h k = (tt, named_both F F' m ts h.1 k.1)
 
 -- the function of the name, where each of them agrees, and one has a body if the flag says so
-pub function_agrees : (defined : Bool) (s : Signature) (m : List ℕ) (ts : List Top) → IsSome (first_function (λ f. true) m ts) → Named (FunctionAgrees defined s) NoG m ts
+pub function_agrees : (defined : Bool) (s : Signature) (m : List ℕ) (ts : List Top) → IsSome (first_function (λ f. true) m ts) →
+    Named (FunctionAgrees defined s) NoG m ts
     → is_some (first_function (λ f. is_some f.body) m ts) ≡ defined → CalleeAgrees s (declared_or (known m) (the_function m ts))
 function_agrees defined s m ts there h b =
-    by (first_function (λ f. is_some f.body) m ts) (first_function (λ f. true) m ts) refl b there (first_named (FunctionAgrees defined s) NoG (λ f. is_some f.body) m ts h)
-    (λ e. first_named (λ f. FunctionAgrees defined s f × (is_some f.body ≡ false)) NoG (λ f. true) m ts (named_both (FunctionAgrees defined s) (λ f. is_some f.body ≡ false) m ts h (none_has (λ f. is_some f.body) m ts e)))
+    by (first_function (λ f. is_some f.body) m ts) (first_function (λ f. true) m ts) refl b there
+    (first_named (FunctionAgrees defined s) NoG (λ f. is_some f.body) m ts h)
+    (λ e. first_named (λ f. FunctionAgrees defined s f × (is_some f.body ≡ false)) NoG (λ f. true) m ts
+    (named_both (FunctionAgrees defined s) (λ f. is_some f.body ≡ false) m ts h (none_has (λ f. is_some f.body) m ts e)))
   where
-    by : (o u : Option Function) → o ≡ first_function (λ f. is_some f.body) m ts → is_some o ≡ defined → IsSome u → IfSome o (λ f. FunctionAgrees defined s f × (is_some f.body ≡ true))
-        → (is_some (first_function (λ f. is_some f.body) m ts) ≡ false → IfSome u (λ f. (FunctionAgrees defined s f × (is_some f.body ≡ false)) × (true ≡ true))) → CalleeAgrees s (declared_or (known m) (option_or o u))
+    by : (o u : Option Function) → o ≡ first_function (λ f. is_some f.body) m ts → is_some o ≡ defined → IsSome u →
+        IfSome o (λ f. FunctionAgrees defined s f × (is_some f.body ≡ true))
+        → (is_some (first_function (λ f. is_some f.body) m ts) ≡ false →
+        IfSome u (λ f. (FunctionAgrees defined s f × (is_some f.body ≡ false)) × (true ≡ true))) → CalleeAgrees s (declared_or (known m) (option_or o u))
     by (Some f) u i e t h k = (h.0.0, subst (λ d. WantsAgree d s.wants (take f.params f.slots)) (sym e ∙ sym h.1) h.0.1)
-    by None (Some f) i e t h k = let r = k (sym (ap is_some i)) in (r.0.0.0, subst (λ d. WantsAgree d s.wants (take f.params f.slots)) (sym e ∙ sym r.0.1) r.0.0.1)
+    by None (Some f) i e t h k = let r = k (sym (ap is_some i)) in
+        (r.0.0.0, subst (λ d. WantsAgree d s.wants (take f.params f.slots)) (sym e ∙ sym r.0.1) r.0.0.1)
     by None None i e t h k = absurd (true≢false (sym t))
 
 -- ---- what is bound at file scope
@@ -201,7 +216,8 @@ library_bindings a e g p c =
     (cond p (Some B.Printf) (cond c (Some (takes (Some Int) (want.Number Int false ∷ []))) None))))
 
 abbrev library_meanings : Bool → Bool → Bool → Bool → Bool → Option Meaning
-library_meanings a e g p c = cond g (Some AFunction) (cond c (Some AFunction) (cond p (Some AFunction) (cond e (Some AFunction) (cond a (Some AFunction) None))))
+library_meanings a e g p c = cond g (Some AFunction)
+    (cond c (Some AFunction) (cond p (Some AFunction) (cond e (Some AFunction) (cond a (Some AFunction) None))))
 
 library_by : (m : List ℕ) (a e g p c : Bool) → library_meanings a e g p c ≡ option_map (meaning_of m) (library_bindings a e g p c)
 library_by m true true true true true = refl
@@ -238,7 +254,8 @@ library_by m false false false false true = refl
 library_by m false false false false false = refl
 
 pub library_same : Same known_scope library_scope
-library_same m = library_by m (bytes_eq m (codes "abort")) (bytes_eq m (codes "exit")) (bytes_eq m (codes "getchar")) (bytes_eq m (codes "printf")) (bytes_eq m (codes "putchar"))
+library_same m = library_by m (bytes_eq m (codes "abort")) (bytes_eq m (codes "exit")) (bytes_eq m (codes "getchar")) (bytes_eq m (codes "printf"))
+    (bytes_eq m (codes "putchar"))
 
 -- ---- what is known at file scope
 
@@ -250,7 +267,8 @@ module _ (defined : List ℕ → Bool) (ts : List Top) (slots : List Slot) where
   abbrev pub IsDefined : Type 0
   IsDefined = (m : List ℕ) → is_some (first_function (λ f. is_some f.body) m ts) ≡ defined m
 
-  file_known : IsDefined → (ss : List Scopes.Scope) (m : List ℕ) (b : Binding) → FileGood defined ts m b → Scopes.look_up ss m ≡ Some (meaning_of m b) → IsKnown n ss m b
+  file_known : IsDefined → (ss : List Scopes.Scope) (m : List ℕ) (b : Binding) → FileGood defined ts m b →
+      Scopes.look_up ss m ≡ Some (meaning_of m b) → IsKnown n ss m b
   file_known d ss m (B.Constant v) h e = (h.0, e)
   file_known d ss m (B.Global shape) h e = (h.0, e)
   file_known d ss m (B.Local k shape) h e = absurd h
@@ -268,7 +286,8 @@ module _ (defined : List ℕ → Bool) (ts : List Top) (slots : List Slot) where
     named_library : (m c : List ℕ) (b : Binding) → bytes_eq m c ≡ true → IsLibrary c b → IsLibrary m b
     named_library m c b e h = subst (λ w. IsLibrary w b) (sym (same_names m c e)) h
 
-    step : (m : List ℕ) (t : Bool) (b : Binding) (o : Option Binding) → (t ≡ true → IsLibrary m b) → IfSome o (IsLibrary m) → IfSome (cond t (Some b) o) (IsLibrary m)
+    step : (m : List ℕ) (t : Bool) (b : Binding) (o : Option Binding) → (t ≡ true → IsLibrary m b) → IfSome o (IsLibrary m) →
+        IfSome (cond t (Some b) o) (IsLibrary m)
     step m true b o g k = g refl
     step m false b o g k = k
 
@@ -291,7 +310,8 @@ module _ (defined : List ℕ → Bool) (ts : List Top) (slots : List Slot) where
     is_printf l = (ap (declared_or (known (codes "printf"))) (f (codes "printf") refl), l)
 
     is_putchar : IsLibrary (codes "putchar") (takes (Some Int) an_int_taken)
-    is_putchar = library_function (codes "putchar") (record { result = Some Int; wants = an_int_taken }) (f (codes "putchar") refl) (refl, ((refl, refl, refl), tt))
+    is_putchar = library_function (codes "putchar") (record { result = Some Int; wants = an_int_taken }) (f (codes "putchar") refl)
+        (refl, ((refl, refl, refl), tt))
 
     library_known : (m : List ℕ) → IfSome (found m known_scope) (IsLibrary m)
     library_known m =
@@ -299,15 +319,19 @@ module _ (defined : List ℕ → Bool) (ts : List Top) (slots : List Slot) where
         (step m (bytes_eq m (codes "exit")) (takes None an_int_taken) _ (λ e. named_library m (codes "exit") (takes None an_int_taken) e is_exit)
         (step m (bytes_eq m (codes "getchar")) (takes (Some Int) []) _ (λ e. named_library m (codes "getchar") (takes (Some Int) []) e is_getchar)
         (step m (bytes_eq m (codes "printf")) B.Printf _ (λ e. named_library m (codes "printf") B.Printf e is_printf)
-        (step m (bytes_eq m (codes "putchar")) (takes (Some Int) an_int_taken) None (λ e. named_library m (codes "putchar") (takes (Some Int) an_int_taken) e is_putchar) tt))))
+        (step m (bytes_eq m (codes "putchar")) (takes (Some Int) an_int_taken) None
+        (λ e. named_library m (codes "putchar") (takes (Some Int) an_int_taken) e is_putchar) tt))))
 
     -- all that is bound at file scope is known, where it is good in the whole file
-    module _ (d : IsDefined) (word : ℕ → List ℕ) (fs : Scope) (rs : Scopes.Scope) (same : Same fs rs) (e : ss ≡ rs ∷ library_scope ∷ []) (good : (m : List ℕ) → IfSome (found m fs) (FileGood defined ts m)) where
+    module _ (d : IsDefined) (word : ℕ → List ℕ) (fs : Scope) (rs : Scopes.Scope) (same : Same fs rs) (e : ss ≡ rs ∷ library_scope ∷ [])
+        (good : (m : List ℕ) → IfSome (found m fs) (FileGood defined ts m)) where
       meant : (m : List ℕ) (o u : Option Binding) → Scopes.found m rs ≡ option_map (meaning_of m) o → Scopes.found m library_scope ≡ option_map (meaning_of m) u
           → Scopes.look_up ss m ≡ option_map (meaning_of m) (or_else o (or_else u None))
-      meant m o u x y = ap (λ s. Scopes.look_up s m) e ∙ (ap (λ a. option_or a (option_or (Scopes.found m library_scope) None)) x ∙ (ap (λ a. option_or (option_map (meaning_of m) o) (option_or a None)) y ∙ both o u))
+      meant m o u x y = ap (λ s. Scopes.look_up s m) e ∙ (ap (λ a. option_or a (option_or (Scopes.found m library_scope) None)) x ∙
+          (ap (λ a. option_or (option_map (meaning_of m) o) (option_or a None)) y ∙ both o u))
         where
-          both : (o u : Option Binding) → option_or (option_map (meaning_of m) o) (option_or (option_map (meaning_of m) u) None) ≡ option_map (meaning_of m) (or_else o (or_else u None))
+          both : (o u : Option Binding) → option_or (option_map (meaning_of m) o) (option_or (option_map (meaning_of m) u) None) ≡ option_map
+              (meaning_of m) (or_else o (or_else u None))
           both (Some b) u = refl
           both None (Some b) = refl
           both None None = refl
@@ -315,7 +339,8 @@ module _ (defined : List ℕ → Bool) (ts : List Top) (slots : List Slot) where
       pub file_knows : Knows n ss (record { word = word; scopes = fs ∷ known_scope ∷ [] })
       file_knows m = by (found m fs) (found m known_scope) (meant m (found m fs) (found m known_scope) (same m) (library_same m)) (good m) (library_known m)
         where
-          by : (o u : Option Binding) → Scopes.look_up ss m ≡ option_map (meaning_of m) (or_else o (or_else u None)) → IfSome o (FileGood defined ts m) → IfSome u (IsLibrary m) → IfSome (or_else o (or_else u None)) (IsKnown n ss m)
+          by : (o u : Option Binding) → Scopes.look_up ss m ≡ option_map (meaning_of m) (or_else o (or_else u None)) →
+              IfSome o (FileGood defined ts m) → IfSome u (IsLibrary m) → IfSome (or_else o (or_else u None)) (IsKnown n ss m)
           by (Some b) u x g l = file_known d ss m b g x
           by None (Some b) x g l = l x
           by None None x g l = tt

@@ -49,22 +49,40 @@ module _ (file : File) where
 
   -- behind the comments in front of a form
   abbrev pub noted : (done : List Top) (scopes : List Scope) (bs : List (List ℕ)) → Place done scopes → Place (done ++ map T.Note bs) scopes
-  noted done scopes bs p = record { fs = p.fs; rs = p.rs; shaped = p.shaped; inv = inv_neutral defined done (map T.Note bs) p.fs p.rs (λ m. notes_unnamed m bs) p.inv }
+  noted done scopes bs p = record {
+    fs = p.fs;
+    rs = p.rs;
+    shaped = p.shaped;
+    inv = inv_neutral defined done (map T.Note bs) p.fs p.rs (λ m. notes_unnamed m bs) p.inv;
+  }
 
-  pub form_step : (done : List Top) (first : ℕ) (form : Form) (s : State) (p : Place done s.scopes) → IsReadTopForm file.word form → form_faults file form s [] ≡ []
-      → Stepped defined (done ++ form_tops file first form s) p.fs p.rs (behind_form file form s).scopes (behind_tops defined (tree_scopes p.rs) (form_tops file first form s))
+  pub form_step : (done : List Top) (first : ℕ) (form : Form) (s : State) (p : Place done s.scopes) → IsReadTopForm file.word form →
+      form_faults file form s [] ≡ []
+      → Stepped defined (done ++ form_tops file first form s) p.fs p.rs (behind_form file form s).scopes
+      (behind_tops defined (tree_scopes p.rs) (form_tops file first form s))
   form_step done first Line s p r e =
-      record { fs' = p.fs; rs' = p.rs; shaped = p.shaped; inv = inv_neutral defined done (T.Include (file.word first) ∷ []) p.fs p.rs (λ m. (tt, tt)) p.inv; grows = λ m x h. h; tree = refl }
+      record {
+        fs' = p.fs;
+        rs' = p.rs;
+        shaped = p.shaped;
+        inv = inv_neutral defined done (T.Include (file.word first) ∷ []) p.fs p.rs (λ m. (tt, tt))
+            p.inv;
+        grows = λ m x h. h;
+        tree = refl;
+      }
   form_step done first (Enum es) s p r e =
       let env = env_of file s in
       let items = enum_items es (Some (negsuc 0)) env in
-      enums_step defined es (Some (negsuc 0)) env (done ++ T.Enum items ∷ []) p.fs p.rs p.shaped e (inv_neutral defined done (T.Enum items ∷ []) p.fs p.rs (λ m. (tt, tt)) p.inv)
+      enums_step defined es (Some (negsuc 0)) env (done ++ T.Enum items ∷ []) p.fs p.rs p.shaped e
+      (inv_neutral defined done (T.Enum items ∷ []) p.fs p.rs (λ m. (tt, tt)) p.inv)
   form_step done first (Globals static d) s p r e = globals_step defined static (kinded file.word d) d.names (env_of file s) done p.fs p.rs p.shaped e p.inv
   form_step done first (Defines f) s p r e =
       let q = function_parts file f s e in
       let scopes = (function_declared file f s).scopes in
-      function_step defined (function_of file.word file.notes f scopes) (file.word f.name) (signature_in file.bodies file.word f) done p.fs p.rs s.scopes f.name (has_body f && has_function s.bodies (file.word f.name))
-      (function_name file.word file.notes f scopes f.body) p.shaped q.0.again q.0.unknown (own_agrees file.bodies file.flat file.word file.notes f scopes r.body q.1) p.inv
+      function_step defined (function_of file.word file.notes f scopes) (file.word f.name) (signature_in file.bodies file.word f) done p.fs p.rs
+      s.scopes f.name (has_body f && has_function s.bodies (file.word f.name))
+      (function_name file.word file.notes f scopes f.body) p.shaped q.0.again q.0.unknown
+      (own_agrees file.bodies file.flat file.word file.notes f scopes r.body q.1) p.inv
   form_step done first Unread s p r e = absurd r
 
   -- ---- the whole file
@@ -76,15 +94,29 @@ module _ (file : File) where
     pub grows : Grows fs last
 
   -- the place behind a form
-  abbrev pub stepped_place : (done : List Top) (first : ℕ) (form : Form) (s : State) (p : Place done s.scopes) → IsReadTopForm file.word form → form_faults file form s [] ≡ []
+  abbrev pub stepped_place : (done : List Top) (first : ℕ) (form : Form) (s : State) (p : Place done s.scopes) → IsReadTopForm file.word form →
+      form_faults file form s [] ≡ []
       → Place (done ++ (notes_tops file (Before first) ++ form_tops file first form s)) (behind_form file form s).scopes
   stepped_place done first form s p r e =
       let bs = file.notes (Before first) in
       let q = form_step (done ++ map T.Note bs) first form s (noted done s.scopes bs p) r e in
-      record { fs = q.fs'; rs = q.rs'; shaped = q.shaped; inv = subst (λ l. Inv defined l q.fs' q.rs') (append_assoc done (map T.Note bs) (form_tops file first form s)) q.inv }
+      record {
+        fs = q.fs';
+        rs = q.rs';
+        shaped = q.shaped;
+        inv = subst (λ l. Inv defined l q.fs' q.rs')
+            (append_assoc done (map T.Note bs) (form_tops file first form s)) q.inv;
+      }
 
-  pub at_end : (xs : List tops.Top) (s : State) (done : List Top) (p : Place done s.scopes) → IsReadFile file.word xs → file_faults file xs s [] ≡ [] → AtEnd (done ++ tops_of file xs s) p.fs
-  at_end [] s done p r e = record { last = p.fs; names = p.rs; inv = inv_neutral defined done (notes_tops file Last) p.fs p.rs (λ m. notes_unnamed m (file.notes Last)) p.inv; grows = λ m x h. h }
+  pub at_end : (xs : List tops.Top) (s : State) (done : List Top) (p : Place done s.scopes) → IsReadFile file.word xs →
+      file_faults file xs s [] ≡ [] → AtEnd (done ++ tops_of file xs s) p.fs
+  at_end [] s done p r e = record {
+    last = p.fs;
+    names = p.rs;
+    inv = inv_neutral defined done (notes_tops file Last) p.fs p.rs
+        (λ m. notes_unnamed m (file.notes Last)) p.inv;
+    grows = λ m x h. h;
+  }
   at_end (tops.From first after form ∷ xs) s done p r e =
       let q = file_parts file first after form xs s e in
       let bs = file.notes (Before first) in
@@ -113,7 +145,8 @@ module _ (file : File) where
   -- ---- what is known at a place
 
   module _ (all : List Top) (slots : List Slot) (known : IsDefined defined all slots) (fs : Scope) (z : AtEnd all fs) where
-    pub place_knows : (now : Scope) (rs : Scopes.Scope) → Grows now z.last → Same now rs → Knows (record { tops = all; slots = slots }) (tree_scopes rs) (record { word = file.word; scopes = now ∷ known_scope ∷ [] })
+    pub place_knows : (now : Scope) (rs : Scopes.Scope) → Grows now z.last → Same now rs →
+        Knows (record { tops = all; slots = slots }) (tree_scopes rs) (record { word = file.word; scopes = now ∷ known_scope ∷ [] })
     place_knows now rs g same =
         file_knows defined all slots (unknown_functions all fs z) (tree_scopes rs) known file.word now rs same refl (λ m. good m (found m now) refl)
       where

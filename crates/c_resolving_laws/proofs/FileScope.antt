@@ -27,25 +27,37 @@ use Rattle.c_resolving_laws.proofs.Lists.{and_left, and_right, each_append}
 -- ---- signatures that agree
 
 want_again : (defined : Bool) (g s : Want) (p q : Slot) → WantAgrees defined g p → same_want g s ≡ true → WantAgrees defined s q → WantAgrees defined g q
-want_again defined (want.Number a b) (want.Number c d) p q h e k =
-    (k.0 ∙ sym (same_kind_is a c (and_left (same_kind a c) (same_truth b d) e)), k.1 ∙ sym (same_truth_is b d (and_right (same_kind a c) (same_truth b d) e)), k.2)
-want_again defined (want.Array a b x) (want.Array c d y) p q h e k =
-    (k.0 ∙ sym (same_kind_is a c (and_left (same_kind a c) (same_truth b d) e)), k.1 ∙ sym (same_truth_is b d (and_right (same_kind a c) (same_truth b d) e)), k.2, h.3)
+want_again defined (want.Number a b) (want.Number c d) p q h e k = (
+  k.0 ∙ sym (same_kind_is a c (and_left (same_kind a c) (same_truth b d) e)),
+  k.1 ∙
+      sym (same_truth_is b d (and_right (same_kind a c) (same_truth b d) e)),
+  k.2,
+)
+want_again defined (want.Array a b x) (want.Array c d y) p q h e k = (
+  k.0 ∙ sym (same_kind_is a c (and_left (same_kind a c) (same_truth b d) e)),
+  k.1 ∙
+      sym (same_truth_is b d (and_right (same_kind a c) (same_truth b d) e)),
+  k.2,
+  h.3,
+)
 want_again defined (want.Number a b) (want.Array c d y) p q h e k = absurd (true≢false (sym e))
 want_again defined (want.Number a b) (want.Sized w) p q h e k = absurd (true≢false (sym e))
 want_again defined (want.Array a b x) (want.Number c d) p q h e k = absurd (true≢false (sym e))
 want_again defined (want.Array a b x) (want.Sized w) p q h e k = absurd (true≢false (sym e))
 want_again defined (want.Sized w) s p q h e k = absurd h
 
-wants_again : (defined : Bool) (gs ss : List Want) (ps qs : List Slot) → WantsAgree defined gs ps → same_wants gs ss ≡ true → WantsAgree defined ss qs → WantsAgree defined gs qs
+wants_again : (defined : Bool) (gs ss : List Want) (ps qs : List Slot) → WantsAgree defined gs ps → same_wants gs ss ≡ true →
+    WantsAgree defined ss qs → WantsAgree defined gs qs
 wants_again defined [] [] ps [] h e k = tt
 wants_again defined [] [] ps (q ∷ qs) h e k = absurd k
 wants_again defined [] (s ∷ ss) ps qs h e k = absurd (true≢false (sym e))
 wants_again defined (g ∷ gs) [] ps qs h e k = absurd (true≢false (sym e))
 wants_again defined (g ∷ gs) (s ∷ ss) [] qs h e k = absurd h
 wants_again defined (g ∷ gs) (s ∷ ss) (p ∷ ps) [] h e k = absurd k
-wants_again defined (g ∷ gs) (s ∷ ss) (p ∷ ps) (q ∷ qs) h e k =
-    (want_again defined g s p q h.0 (and_left (same_want g s) (same_wants gs ss) e) k.0, wants_again defined gs ss ps qs h.1 (and_right (same_want g s) (same_wants gs ss) e) k.1)
+wants_again defined (g ∷ gs) (s ∷ ss) (p ∷ ps) (q ∷ qs) h e k = (
+  want_again defined g s p q h.0 (and_left (same_want g s) (same_wants gs ss) e) k.0,
+  wants_again defined gs ss ps qs h.1 (and_right (same_want g s) (same_wants gs ss) e) k.1,
+)
 
 pub result_same : (a b : Option IntKind) → same_result a b ≡ true → a ≡ b
 result_same (Some a) (Some b) e = ap Some (same_kind_is a b e)
@@ -54,10 +66,12 @@ result_same (Some a) None e = absurd (true≢false (sym e))
 result_same None (Some b) e = absurd (true≢false (sym e))
 
 -- what agrees with a later declaration agrees with the first
-agrees_again : (defined : Bool) (g s : Signature) (f h : Function) → FunctionAgrees defined g f → same_signature g s ≡ true → FunctionAgrees defined s h → FunctionAgrees defined g h
+agrees_again : (defined : Bool) (g s : Signature) (f h : Function) → FunctionAgrees defined g f → same_signature g s ≡ true →
+    FunctionAgrees defined s h → FunctionAgrees defined g h
 agrees_again defined g s f h a e b = (
   b.0 ∙ sym (result_same g.result s.result (and_left (same_result g.result s.result) (same_wants g.wants s.wants) e)),
-  wants_again defined g.wants s.wants (take f.params f.slots) (take h.params h.slots) a.1 (and_right (same_result g.result s.result) (same_wants g.wants s.wants) e) b.1,
+  wants_again defined g.wants s.wants (take f.params f.slots) (take h.params h.slots) a.1
+      (and_right (same_result g.result s.result) (same_wants g.wants s.wants) e) b.1,
 )
 
 -- ---- scopes that grow
@@ -93,7 +107,11 @@ module _ (defined : List ℕ → Bool) where
 
   good_more : (done new : List Top) (m : List ℕ) (b : Binding) → Unnamed m new → FileGood defined done m b → FileGood defined (done ++ new) m b
   good_more done new m (B.Constant v) u h = (h.0, each_append _ done new h.1 u)
-  good_more done new m (B.Global shape) u h = (global_stays m (HasShape shape) done new h.0, each_append _ done new h.1 (unnamed_all NoF (λ g. Unit {0}) m new u))
+  good_more done new m (B.Global shape) u h = (
+    global_stays m (HasShape shape) done new h.0,
+    each_append _ done new h.1
+        (unnamed_all NoF (λ g. Unit {0}) m new u),
+  )
   good_more done new m (B.Function s) u h = (
     subst IsSome (sym (function_append (λ f. true) m done new)) (some_left (first_function (λ f. true) m done) (first_function (λ f. true) m new) h.0),
     each_append _ done new h.1 (unnamed_all (FunctionAgrees (defined m) s) NoG m new u),
@@ -102,12 +120,14 @@ module _ (defined : List ℕ → Bool) where
   good_more done new m (B.Local k shape) u h = absurd h
   good_more done new m B.Printf u h = absurd h
 
-  some_more : (done new : List Top) (m : List ℕ) (o : Option Binding) → Unnamed m new → IfSome o (FileGood defined done m) → IfSome o (FileGood defined (done ++ new) m)
+  some_more : (done new : List Top) (m : List ℕ) (o : Option Binding) → Unnamed m new → IfSome o (FileGood defined done m) →
+      IfSome o (FileGood defined (done ++ new) m)
   some_more done new m None u h = tt
   some_more done new m (Some b) u h = good_more done new m b u h
 
   -- what has no name, as a comment
-  pub inv_neutral : (done new : List Top) (fs : Scope) (rs : Scopes.Scope) → ((m : List ℕ) → Unnamed m new) → Inv defined done fs rs → Inv defined (done ++ new) fs rs
+  pub inv_neutral : (done new : List Top) (fs : Scope) (rs : Scopes.Scope) → ((m : List ℕ) → Unnamed m new) → Inv defined done fs rs →
+      Inv defined (done ++ new) fs rs
   inv_neutral done new fs rs u i = record {
     same = i.same;
     good = λ m. some_more done new m (found m fs) (u m) (i.good m);
@@ -115,18 +135,21 @@ module _ (defined : List ℕ → Bool) where
   }
 
   -- one more name in both scopes
-  same_bound : (fs : Scope) (rs : Scopes.Scope) (m : List ℕ) (b : Binding) → Same fs rs → is_some (found m fs) ≡ false → Same (with_name m b fs) ((m, meaning_of m b) ∷ rs)
+  same_bound : (fs : Scope) (rs : Scopes.Scope) (m : List ℕ) (b : Binding) → Same fs rs → is_some (found m fs) ≡ false →
+      Same (with_name m b fs) ((m, meaning_of m b) ∷ rs)
   same_bound fs rs m b s e q = by (bytes_eq q m) refl ∙ sym (ap (option_map (meaning_of q)) (found_new q m b fs e))
     where
       by : (t : Bool) → bytes_eq q m ≡ t → cond t (Some (meaning_of m b)) (Scopes.found q rs) ≡ option_map (meaning_of q) (cond t (Some b) (found q fs))
       by true i = ap (λ w. Some (meaning_of w b)) (sym (same_names q m i))
       by false i = s q
 
-  pub same_new : (fs : Scope) (rs : Scopes.Scope) (m : List ℕ) (b : Binding) → Same fs rs → is_some (found m fs) ≡ false → Same (with_name m b fs) ((m, meaning_of m b) ∷ rs)
+  pub same_new : (fs : Scope) (rs : Scopes.Scope) (m : List ℕ) (b : Binding) → Same fs rs → is_some (found m fs) ≡ false →
+      Same (with_name m b fs) ((m, meaning_of m b) ∷ rs)
   same_new fs rs m b s e = same_bound fs rs m b s e
 
   -- a new name, and what stands there by it
-  pub inv_bound : (done new : List Top) (fs : Scope) (rs : Scopes.Scope) (m : List ℕ) (b : Binding) → is_some (found m fs) ≡ false → FileGood defined (done ++ new) m b
+  pub inv_bound : (done new : List Top) (fs : Scope) (rs : Scopes.Scope) (m : List ℕ) (b : Binding) → is_some (found m fs) ≡ false →
+      FileGood defined (done ++ new) m b
       → ((q : List ℕ) → bytes_eq q m ≡ false → Unnamed q new) → Inv defined done fs rs → Inv defined (done ++ new) (with_name m b fs) ((m, meaning_of m b) ∷ rs)
   inv_bound done new fs rs m b e g u i = record {
     same = same_bound fs rs m b i.same e;
@@ -143,7 +166,8 @@ module _ (defined : List ℕ → Bool) where
       not_new q false j h = each_append _ done new (i.fresh q h) (u q j)
 
   -- a function that is declared again
-  again_good : (done : List Top) (f : Function) (m : List ℕ) (g s : Signature) → FileGood defined done m (B.Function g) → same_signature g s ≡ true → FunctionAgrees (defined m) s f
+  again_good : (done : List Top) (f : Function) (m : List ℕ) (g s : Signature) → FileGood defined done m (B.Function g) → same_signature g s ≡ true →
+      FunctionAgrees (defined m) s f
       → FileGood defined (done ++ T.Function f ∷ []) m (B.Function g)
   again_good done f m g s h e a =
       let first = first_function (λ f. true) m done in (
@@ -156,7 +180,8 @@ module _ (defined : List ℕ → Bool) where
       sample None t x = absurd (true≢false (sym t))
       sample (Some x) t y = agrees_again (defined m) g s x f y.0 e a
 
-  pub inv_again : (done : List Top) (f : Function) (fs : Scope) (rs : Scopes.Scope) (g s : Signature) (b : Binding) → found f.name fs ≡ Some (B.Function g) → same_signature g s ≡ true → FunctionAgrees (defined f.name) s f
+  pub inv_again : (done : List Top) (f : Function) (fs : Scope) (rs : Scopes.Scope) (g s : Signature) (b : Binding) →
+      found f.name fs ≡ Some (B.Function g) → same_signature g s ≡ true → FunctionAgrees (defined f.name) s f
       → Inv defined done fs rs → Inv defined (done ++ T.Function f ∷ []) (with_name f.name b fs) ((f.name, AFunction) ∷ rs)
   inv_again done f fs rs g s b j e a i =
       let kept = ap (λ t. cond t fs (with_entry f.name b fs)) (ap is_some j) in
@@ -164,7 +189,8 @@ module _ (defined : List ℕ → Bool) where
       (record {
         same = λ q. as_before q (bytes_eq q f.name) refl;
         good = λ q. at q (bytes_eq q f.name) refl;
-        fresh = λ q h. each_append _ done (T.Function f ∷ []) (i.fresh q h) (λ k. true≢false (sym (ap is_some (ap (λ w. found w fs) (sym (same_names f.name q k)) ∙ j)) ∙ h), tt);
+        fresh = λ q h. each_append _ done (T.Function f ∷ []) (i.fresh q h)
+            (λ k. true≢false (sym (ap is_some (ap (λ w. found w fs) (sym (same_names f.name q k)) ∙ j)) ∙ h), tt);
       })
     where
       as_before : (q : List ℕ) (t : Bool) → bytes_eq q f.name ≡ t → cond t (Some AFunction) (Scopes.found q rs) ≡ option_map (meaning_of q) (found q fs)
@@ -176,4 +202,5 @@ module _ (defined : List ℕ → Bool) where
           subst (λ w. IfSome (found w fs) (FileGood defined (done ++ T.Function f ∷ []) w)) (sym (same_names q f.name k))
           (subst (λ o. IfSome o (FileGood defined (done ++ T.Function f ∷ []) f.name)) (sym j)
           (again_good done f f.name g s (subst (λ o. IfSome o (FileGood defined done f.name)) j (i.good f.name)) e a))
-      at q false k = some_more done (T.Function f ∷ []) q (found q fs) (λ x. true≢false (sym (names_same q f.name (sym (same_names f.name q x))) ∙ k), tt) (i.good q)
+      at q false k = some_more done (T.Function f ∷ []) q (found q fs)
+          (λ x. true≢false (sym (names_same q f.name (sym (same_names f.name q x))) ∙ k), tt) (i.good q)

@@ -92,16 +92,19 @@ module _ (defined : List ℕ → Bool) where
   no_tops : (m : List ℕ) → Unnamed m []
   no_tops m = tt
 
-  constant_good : (done : List Top) (fs : Scope) (rs : Scopes.Scope) (m : List ℕ) (v : ℤ) → is_some (found m fs) ≡ false → IsInRange Int v → Inv defined done fs rs → FileGood defined (done ++ []) m (B.Constant v)
+  constant_good : (done : List Top) (fs : Scope) (rs : Scopes.Scope) (m : List ℕ) (v : ℤ) → is_some (found m fs) ≡ false → IsInRange Int v →
+      Inv defined done fs rs → FileGood defined (done ++ []) m (B.Constant v)
   constant_good done fs rs m v e r i = (r, each_append _ done [] (i.fresh m e) tt)
 
-  pub one_constant : (done : List Top) (fs : Scope) (rs : Scopes.Scope) (m : List ℕ) (v : ℤ) → is_some (found m fs) ≡ false → IsInRange Int v → Inv defined done fs rs
+  pub one_constant : (done : List Top) (fs : Scope) (rs : Scopes.Scope) (m : List ℕ) (v : ℤ) → is_some (found m fs) ≡ false → IsInRange Int v →
+      Inv defined done fs rs
       → Inv defined done (with_name m (B.Constant v) fs) ((m, AConstant v) ∷ rs)
   one_constant done fs rs m v e r i =
       subst (λ l. Inv defined l (with_name m (B.Constant v) fs) ((m, AConstant v) ∷ rs)) (append-nil done)
       (inv_bound defined done [] fs rs m (B.Constant v) e (constant_good done fs rs m v e r i) (λ q h. tt) i)
 
-  pub enums_step : (es : List Enumerator) (before : Option ℤ) (env : Env) (done : List Top) (fs : Scope) (rs : Scopes.Scope) → Shaped env.scopes fs → enum_faults es before env [] ≡ [] → Inv defined done fs rs
+  pub enums_step : (es : List Enumerator) (before : Option ℤ) (env : Env) (done : List Top) (fs : Scope) (rs : Scopes.Scope) → Shaped env.scopes fs →
+      enum_faults es before env [] ≡ [] → Inv defined done fs rs
       → Stepped done fs rs (behind_enum es before env).scopes (bind_constants (enum_items es before env) (tree_scopes rs))
   enums_step [] before env done fs rs s e i = record { fs' = fs; rs' = rs; shaped = s; inv = i; grows = λ m x h. h; tree = refl }
   enums_step (x ∷ es) before env done fs rs s e i =
@@ -112,28 +115,48 @@ module _ (defined : List ℕ → Bool) where
       let n = new_shaped env.scopes fs m s p.name.new in
       let r = enums_step es v (enumerated x v env) done (with_name m b fs) ((m, AConstant (or_zero v)) ∷ rs) (bound_shaped env.scopes fs m b s) p.rest
       (one_constant done fs rs m (or_zero v) n (zero_is_int v (value_is_int env x.value before)) i) in
-      record { fs' = r.fs'; rs' = r.rs'; shaped = r.shaped; inv = r.inv; grows = grows_twice fs (with_name m b fs) r.fs' (name_grows m b fs) r.grows; tree = r.tree }
+      record {
+        fs' = r.fs';
+        rs' = r.rs';
+        shaped = r.shaped;
+        inv = r.inv;
+        grows = grows_twice fs (with_name m b fs) r.fs' (name_grows m b fs) r.grows;
+        tree = r.tree;
+      }
 
   -- the scopes of the tree behind what stands there
   abbrev pub behind_tops : List Scopes.Scope → List Top → List Scopes.Scope
   behind_tops ss [] = ss
   behind_tops ss (t ∷ ts) = behind_tops (behind_top ss t) ts
 
-  pub one_global : (done : List Top) (fs : Scope) (rs : Scopes.Scope) (static : Bool) (k : Kinded) (d : Declarator) (env : Env) → is_some (found (env.word d.name) fs) ≡ false → Inv defined done fs rs
-      → Inv defined (done ++ T.Global (global static k d env) ∷ []) (with_name (env.word d.name) (B.Global (shape_of k d)) fs) ((env.word d.name, AVariable (H.Global (env.word d.name))) ∷ rs)
+  pub one_global : (done : List Top) (fs : Scope) (rs : Scopes.Scope) (static : Bool) (k : Kinded) (d : Declarator) (env : Env) →
+      is_some (found (env.word d.name) fs) ≡ false → Inv defined done fs rs
+      → Inv defined (done ++ T.Global (global static k d env) ∷ []) (with_name (env.word d.name) (B.Global (shape_of k d)) fs)
+      ((env.word d.name, AVariable (H.Global (env.word d.name))) ∷ rs)
   one_global done fs rs static k d env e i =
       let m = env.word d.name in
       let g = global static k d env in
       inv_bound defined done (T.Global g ∷ []) fs rs m (B.Global (shape_of k d)) e (
-        subst (λ o. IsSomeAnd o (HasShape (shape_of k d))) (sym (global_append m done (T.Global g ∷ []) ∙ (ap (λ o. option_or o (the_global m (T.Global g ∷ []))) (no_global NoF m done (i.fresh m e)))))
-            (is_some_and (HasShape (shape_of k d)) (the_global m (T.Global g ∷ [])) g.slot (ap (λ t. cond t (Some g.slot) None) (names_same m m refl)) (slot_shape env k d)),
+        subst (λ o. IsSomeAnd o (HasShape (shape_of k d)))
+            (sym (global_append m done (T.Global g ∷ []) ∙ (ap (λ o. option_or o (the_global m (T.Global g ∷ []))) (no_global NoF m done (i.fresh m e)))))
+            (is_some_and (HasShape (shape_of k d)) (the_global m (T.Global g ∷ [])) g.slot (ap (λ t. cond t (Some g.slot) None) (names_same m m refl))
+            (slot_shape env k d)),
         each_append _ done (T.Global g ∷ []) (unnamed_all NoF (λ g. Unit {0}) m done (i.fresh m e)) (λ h. tt, tt),
       )
       (λ q h. (λ j. true≢false (sym (names_same q m (sym (same_names m q j))) ∙ h), tt)) i
 
-  pub globals_step : (static : Bool) (k : Kinded) (ds : List Declarator) (env : Env) (done : List Top) (fs : Scope) (rs : Scopes.Scope) → Shaped env.scopes fs → globals_faults k ds env [] ≡ [] → Inv defined done fs rs
+  pub globals_step : (static : Bool) (k : Kinded) (ds : List Declarator) (env : Env) (done : List Top) (fs : Scope) (rs : Scopes.Scope) →
+      Shaped env.scopes fs → globals_faults k ds env [] ≡ [] → Inv defined done fs rs
       → Stepped (done ++ globals static k ds env) fs rs (behind_globals k ds env).scopes (behind_tops (tree_scopes rs) (globals static k ds env))
-  globals_step static k [] env done fs rs s e i = record { fs' = fs; rs' = rs; shaped = s; inv = subst (λ l. Inv defined l fs rs) (sym (append-nil done)) i; grows = λ m x h. h; tree = refl }
+  globals_step static k [] env done fs rs s e i = record {
+    fs' = fs;
+    rs' = rs;
+    shaped = s;
+    inv = subst (λ l. Inv defined l fs rs)
+        (sym (append-nil done)) i;
+    grows = λ m x h. h;
+    tree = refl;
+  }
   globals_step static k (d ∷ ds) env done fs rs s e i =
       let p = globals_parts k d ds env e in
       let q = global_parts k d env p.0 in
@@ -142,7 +165,8 @@ module _ (defined : List ℕ → Bool) where
       let n = new_shaped env.scopes fs m s q.name.new in
       let g = T.Global (global static k d env) in
       let more = globals static k ds (global_declared k d env) in
-      let r = globals_step static k ds (global_declared k d env) (done ++ g ∷ []) (with_name m b fs) _ (bound_shaped env.scopes fs m b s) p.1 (one_global done fs rs static k d env n i) in
+      let r = globals_step static k ds (global_declared k d env) (done ++ g ∷ []) (with_name m b fs) _ (bound_shaped env.scopes fs m b s) p.1
+      (one_global done fs rs static k d env n i) in
       record {
         fs' = r.fs';
         rs' = r.rs';
@@ -152,12 +176,15 @@ module _ (defined : List ℕ → Bool) where
         tree = r.tree;
       }
 
-  new_function : (f : tree.Function) (s : Signature) (done : List Top) (fs : Scope) (rs : Scopes.Scope) → is_some (found f.name fs) ≡ false → is_known f.name ≡ false → FunctionAgrees (defined f.name) s f → Inv defined done fs rs
+  new_function : (f : tree.Function) (s : Signature) (done : List Top) (fs : Scope) (rs : Scopes.Scope) → is_some (found f.name fs) ≡ false →
+      is_known f.name ≡ false → FunctionAgrees (defined f.name) s f → Inv defined done fs rs
       → Inv defined (done ++ T.Function f ∷ []) (with_name f.name (B.Function s) fs) ((f.name, AFunction) ∷ rs)
   new_function f s done fs rs e u a i =
       let m = f.name in
       inv_bound defined done (T.Function f ∷ []) fs rs m (B.Function s) e (
-        subst IsSome (sym (function_append (λ f. true) m done (T.Function f ∷ []))) (right_there (first_function (λ f. true) m done) (first_function (λ f. true) m (T.Function f ∷ [])) (ap (λ t. is_some (cond (t && true) (Some f) None)) (names_same m m refl))),
+        subst IsSome (sym (function_append (λ f. true) m done (T.Function f ∷ [])))
+            (right_there (first_function (λ f. true) m done) (first_function (λ f. true) m (T.Function f ∷ []))
+            (ap (λ t. is_some (cond (t && true) (Some f) None)) (names_same m m refl))),
         each_append _ done (T.Function f ∷ []) (unnamed_all (FunctionAgrees (defined m) s) NoG m done (i.fresh m e)) (λ k. a, tt),
         u,
       )
@@ -167,7 +194,8 @@ module _ (defined : List ℕ → Bool) where
       right_there None v h = h
       right_there (Some x) v h = refl
 
-  function_by : (f : tree.Function) (m : List ℕ) (s : Signature) (done : List Top) (fs : Scope) (rs : Scopes.Scope) (scopes : List Scope) (at : ℕ) (again : Bool) → f.name ≡ m → Shaped scopes fs
+  function_by : (f : tree.Function) (m : List ℕ) (s : Signature) (done : List Top) (fs : Scope) (rs : Scopes.Scope) (scopes : List Scope) (at : ℕ)
+      (again : Bool) → f.name ≡ m → Shaped scopes fs
       → is_known m ≡ false → FunctionAgrees (defined m) s f → Inv defined done fs rs → (o : Option Binding) → found m fs ≡ o → again_faults at again s o [] ≡ []
       → Stepped (done ++ T.Function f ∷ []) fs rs (bind m (B.Function s) scopes) (behind_tops (tree_scopes rs) (T.Function f ∷ []))
   function_by f m s done fs rs scopes at again j h u a i None k e =
@@ -176,7 +204,8 @@ module _ (defined : List ℕ → Bool) where
         rs' = (f.name, AFunction) ∷ rs;
         shaped = bound_shaped scopes fs m (B.Function s) h;
         inv = subst (λ w. Inv defined (done ++ T.Function f ∷ []) (with_name w (B.Function s) fs) ((f.name, AFunction) ∷ rs)) j
-            (new_function f s done fs rs (ap (λ w. is_some (found w fs)) j ∙ ap is_some k) (ap is_known j ∙ u) (subst (λ w. FunctionAgrees (defined w) s f) (sym j) a) i);
+            (new_function f s done fs rs (ap (λ w. is_some (found w fs)) j ∙ ap is_some k) (ap is_known j ∙ u)
+            (subst (λ w. FunctionAgrees (defined w) s f) (sym j) a) i);
         grows = name_grows m (B.Function s) fs;
         tree = refl;
       }
@@ -188,7 +217,8 @@ module _ (defined : List ℕ → Bool) where
         rs' = (f.name, AFunction) ∷ rs;
         shaped = bound_shaped scopes fs m (B.Function s) h;
         inv = subst (λ w. Inv defined (done ++ T.Function f ∷ []) (with_name w (B.Function s) fs) ((f.name, AFunction) ∷ rs)) j
-            (inv_again defined done f fs rs g s (B.Function s) (ap (λ w. found w fs) j ∙ k) (not_true (same_signature g s) q.1) (subst (λ w. FunctionAgrees (defined w) s f) (sym j) a) i);
+            (inv_again defined done f fs rs g s (B.Function s) (ap (λ w. found w fs) j ∙ k) (not_true (same_signature g s) q.1)
+            (subst (λ w. FunctionAgrees (defined w) s f) (sym j) a) i);
         grows = name_grows m (B.Function s) fs;
         tree = refl;
       }
@@ -198,7 +228,8 @@ module _ (defined : List ℕ → Bool) where
   function_by f m s done fs rs scopes at again j h u a i (Some B.Printf) k e = absurd (none_left _ _ e)
 
   -- a function, new or declared again
-  pub function_step : (f : tree.Function) (m : List ℕ) (s : Signature) (done : List Top) (fs : Scope) (rs : Scopes.Scope) (scopes : List Scope) (at : ℕ) (again : Bool) → f.name ≡ m → Shaped scopes fs
+  pub function_step : (f : tree.Function) (m : List ℕ) (s : Signature) (done : List Top) (fs : Scope) (rs : Scopes.Scope) (scopes : List Scope)
+      (at : ℕ) (again : Bool) → f.name ≡ m → Shaped scopes fs
       → again_faults at again s (bound m scopes) [] ≡ [] → is_known m ≡ false → FunctionAgrees (defined m) s f → Inv defined done fs rs
       → Stepped (done ++ T.Function f ∷ []) fs rs (bind m (B.Function s) scopes) (behind_tops (tree_scopes rs) (T.Function f ∷ []))
   function_step f m s done fs rs scopes at again j h e u a i =

@@ -23,13 +23,15 @@ one_more out b (Some ws) = ap Some (append_assoc out (Sized b ∷ []) (sizes ws)
 none_more : (out : List Want) (o : Option (List Bool)) → behind (out ++ []) o ≡ behind out o
 none_more out o = ap (λ w. behind w o) (append-nil out)
 
-plain_step : (b : ℕ) (out : List Want) (bs : List ℕ) (p q : Option (List Bool)) → ((out : List Want) → wanted_from out Percent bs ≡ behind out p) → ((out : List Want) → wanted_from out Plain bs ≡ behind out q) → (t : Bool)
+plain_step : (b : ℕ) (out : List Want) (bs : List ℕ) (p q : Option (List Bool)) → ((out : List Want) → wanted_from out Percent bs ≡ behind out p) →
+    ((out : List Want) → wanted_from out Plain bs ≡ behind out q) → (t : Bool)
     → wanted_from (out ++ []) (cond t Percent Plain) bs ≡ behind out (elim t [ true ↦ p | false ↦ q ])
 plain_step b out bs p q f g true = f (out ++ []) ∙ none_more out p
 plain_step b out bs p q f g false = g (out ++ []) ∙ none_more out q
 
 -- behind `%`: another `%`, a long conversion, a short one, or none that there is
-percent_step : (out : List Want) (bs : List ℕ) (p q : Option (List Bool)) → ((out : List Want) → wanted_from out Plain bs ≡ behind out p) → ((out : List Want) → wanted_from out PercentLong bs ≡ behind out q) → (t l s : Bool)
+percent_step : (out : List Want) (bs : List ℕ) (p q : Option (List Bool)) → ((out : List Want) → wanted_from out Plain bs ≡ behind out p) →
+    ((out : List Want) → wanted_from out PercentLong bs ≡ behind out q) → (t l s : Bool)
     → (t ≡ true → s ≡ false) → (l ≡ true → s ≡ false)
     → elim (cond (t || s) (Some Plain) (cond l (Some PercentLong) None)) [ None ↦ None | Some f ↦ wanted_from (out ++ cond s (Sized false ∷ []) []) f bs ]
     ≡ behind out (elim t [ true ↦ p | false ↦ elim l [ true ↦ q | false ↦ elim s [ true ↦ option_map (λ ws. false ∷ ws) p | false ↦ None ] ] ])
@@ -41,7 +43,8 @@ percent_step out bs p q f g false false true c d = f (out ++ Sized false ∷ [])
 percent_step out bs p q f g false false false c d = refl
 
 long_step : (out : List Want) (bs : List ℕ) (p : Option (List Bool)) → ((out : List Want) → wanted_from out Plain bs ≡ behind out p) → (s : Bool)
-    → elim (cond s (Some Plain) None) [ None ↦ None | Some f ↦ wanted_from (out ++ cond s (Sized true ∷ []) []) f bs ] ≡ behind out (elim s [ true ↦ option_map (λ ws. true ∷ ws) p | false ↦ None ])
+    → elim (cond s (Some Plain) None) [ None ↦ None | Some f ↦ wanted_from (out ++ cond s (Sized true ∷ []) []) f bs ] ≡ behind out
+    (elim s [ true ↦ option_map (λ ws. true ∷ ws) p | false ↦ None ])
 long_step out bs p f true = f (out ++ Sized true ∷ []) ∙ one_more out true p
 long_step out bs p f false = refl
 
@@ -58,7 +61,8 @@ mutual
 
   from_percent : (bs : List ℕ) (out : List Want) → wanted_from out Percent bs ≡ behind out (after_percent bs)
   from_percent [] out = refl
-  from_percent (b ∷ bs) out = percent_step out bs (wanted bs) (after_l bs) (from_plain bs) (from_long bs) (b == 37) (b == 108) (is_short b) (percent_is_no_short b) (l_is_no_short b)
+  from_percent (b ∷ bs) out = percent_step out bs (wanted bs) (after_l bs) (from_plain bs) (from_long bs) (b == 37) (b == 108) (is_short b)
+      (percent_is_no_short b) (l_is_no_short b)
 
   from_long : (bs : List ℕ) (out : List Want) → wanted_from out PercentLong bs ≡ behind out (after_l bs)
   from_long [] out = refl

@@ -23,8 +23,10 @@ module _ (ctx : Context) (around : Around) where
   none_outside (items.Then (Declares first after d) xs) w e = absurd (outside_declares ctx around w first after d xs e)
   none_outside (items.Then (States ls p) xs) w e = by (has_case ls) (outside_parts ctx around w ls p xs e).1 (none_outside xs (behind_plain ctx p w))
     where
-      by : (b : Bool) → Outside ctx around w b ls p xs → (outside_faults ctx around xs (behind_plain ctx p w) [] ≡ [] → outside_items ctx xs (behind_plain ctx p w) ≡ [])
-          → cond b [] (cond (b || is_null ls p) [] (labels_items ctx (env_at ctx w) ls ++ plain_items ctx p w) ++ outside_items ctx xs (behind_plain ctx p w)) ≡ []
+      by : (b : Bool) → Outside ctx around w b ls p xs → (outside_faults ctx around xs (behind_plain ctx p w) [] ≡ [] →
+          outside_items ctx xs (behind_plain ctx p w) ≡ [])
+          → cond b [] (cond (b || is_null ls p) [] (labels_items ctx (env_at ctx w) ls ++ plain_items ctx p w) ++
+          outside_items ctx xs (behind_plain ctx p w)) ≡ []
       by true o f = refl
       by false o f = ap (λ n. cond n [] (labels_items ctx (env_at ctx w) ls ++ plain_items ctx p w) ++ outside_items ctx xs (behind_plain ctx p w)) o.0 ∙ f o.1
 

@@ -41,7 +41,8 @@ drop_all g (x ∷ xs) more = drop_all g xs more
 
 -- ---- the slots of a function
 
-pub body_grown : (ctx : Context) (Q : Slot → Type 0) (declares : (k : Kinded) (d : Declarator) (w : Walk) → IsReadDeclarator ctx.word d → local_faults ctx.word k d w [] ≡ [] → Q (slot_of (env_in ctx.word w) k d))
+pub body_grown : (ctx : Context) (Q : Slot → Type 0) (declares : (k : Kinded) (d : Declarator) (w : Walk) → IsReadDeclarator ctx.word d →
+    local_faults ctx.word k d w [] ≡ [] → Q (slot_of (env_in ctx.word w) k d))
     → (b : Body) (w : Walk) → IsReadBody ctx.word b → body_faults ctx b w [] ≡ [] → Grown Q w.slots (behind_body ctx b w).slots
 body_grown ctx Q declares (Braces first after xs) w r e = list_grows ctx Q declares no_construct xs w r e
 body_grown ctx Q declares (Lone first after y) w r e = item_grows ctx Q declares no_construct y w r e
@@ -51,9 +52,14 @@ pub record Behind (word : ℕ → List ℕ) (f : Function) (slots : List Slot) :
   pub more : List Slot
   pub whole : slots ≡ map (parameter_slot word) f.parameters ++ more
 
-pub behind_parameters : (flat : FlatCounts) (word : ℕ → List ℕ) (notes : Anchor → List (List ℕ)) (f : Function) (scopes : List Scope) (o : Option Body) → IfSome o (IsReadBody word) → BodyParts flat word notes f o scopes
+pub behind_parameters : (flat : FlatCounts) (word : ℕ → List ℕ) (notes : Anchor → List (List ℕ)) (f : Function) (scopes : List Scope)
+    (o : Option Body) → IfSome o (IsReadBody word) → BodyParts flat word notes f o scopes
     → Behind word f (defined word notes f o scopes).slots
-behind_parameters flat word notes f scopes None r p = record { more = []; whole = inside_slots word f scopes ∙ sym (append-nil (map (parameter_slot word) f.parameters)) }
+behind_parameters flat word notes f scopes None r p = record {
+  more = [];
+  whole = inside_slots word f scopes ∙ sym
+      (append-nil (map (parameter_slot word) f.parameters));
+}
 behind_parameters flat word notes f scopes (Some b) r p =
     let g = body_grown (context word notes f b) Any (λ k d w r e. tt) b (inside word f scopes) r p.body in
     record { more = g.more; whole = g.whole ∙ ap (λ l. l ++ g.more) (inside_slots word f scopes) }
@@ -72,19 +78,29 @@ wants_own : (word : ℕ → List ℕ) (D : Bool) (ys : List Parameter) → Wants
 wants_own word D [] = tt
 wants_own word D (y ∷ ys) = (want_own word D y, wants_own word D ys)
 
-own_by : (bodies : List (List ℕ)) (flat : FlatCounts) (word : ℕ → List ℕ) (notes : Anchor → List (List ℕ)) (f : Function) (scopes : List Scope) (o : Option Body)
-    → Behind word f (defined word notes f o scopes).slots → FunctionAgrees (has_function bodies (word f.name)) (signature_in bodies word f) (defined word notes f o scopes)
+own_by : (bodies : List (List ℕ)) (flat : FlatCounts) (word : ℕ → List ℕ) (notes : Anchor → List (List ℕ)) (f : Function) (scopes : List Scope)
+    (o : Option Body)
+    → Behind word f (defined word notes f o scopes).slots → FunctionAgrees (has_function bodies (word f.name)) (signature_in bodies word f)
+    (defined word notes f o scopes)
 own_by bodies flat word notes f scopes None b =
-    let D = has_function bodies (word f.name) in
-    (refl, subst (WantsAgree D (map (want_of word (not D)) f.parameters)) (sym (ap (take (length f.parameters)) b.whole ∙ take_all (parameter_slot word) f.parameters b.more)) (wants_own word D f.parameters))
+    let D = has_function bodies (word f.name) in (
+      refl,
+      subst (WantsAgree D (map (want_of word (not D)) f.parameters))
+          (sym (ap (take (length f.parameters)) b.whole ∙ take_all (parameter_slot word) f.parameters b.more)) (wants_own word D f.parameters),
+    )
 own_by bodies flat word notes f scopes (Some k) b =
-    let D = has_function bodies (word f.name) in
-    (refl, subst (WantsAgree D (map (want_of word (not D)) f.parameters)) (sym (ap (take (length f.parameters)) b.whole ∙ take_all (parameter_slot word) f.parameters b.more)) (wants_own word D f.parameters))
+    let D = has_function bodies (word f.name) in (
+      refl,
+      subst (WantsAgree D (map (want_of word (not D)) f.parameters))
+          (sym (ap (take (length f.parameters)) b.whole ∙ take_all (parameter_slot word) f.parameters b.more)) (wants_own word D f.parameters),
+    )
 
-pub own_agrees : (bodies : List (List ℕ)) (flat : FlatCounts) (word : ℕ → List ℕ) (notes : Anchor → List (List ℕ)) (f : Function) (scopes : List Scope) → IfSome f.body (IsReadBody word) → BodyParts flat word notes f f.body scopes
+pub own_agrees : (bodies : List (List ℕ)) (flat : FlatCounts) (word : ℕ → List ℕ) (notes : Anchor → List (List ℕ)) (f : Function)
+    (scopes : List Scope) → IfSome f.body (IsReadBody word) → BodyParts flat word notes f f.body scopes
     → FunctionAgrees (has_function bodies (word f.name)) (signature_in bodies word f) (function_of word notes f scopes)
 own_agrees bodies flat word notes f scopes r p = own_by bodies flat word notes f scopes f.body (behind_parameters flat word notes f scopes f.body r p)
 
-pub function_name : (word : ℕ → List ℕ) (notes : Anchor → List (List ℕ)) (f : Function) (scopes : List Scope) (o : Option Body) → (defined word notes f o scopes).name ≡ word f.name
+pub function_name : (word : ℕ → List ℕ) (notes : Anchor → List (List ℕ)) (f : Function) (scopes : List Scope) (o : Option Body) →
+    (defined word notes f o scopes).name ≡ word f.name
 function_name word notes f scopes None = refl
 function_name word notes f scopes (Some b) = refl

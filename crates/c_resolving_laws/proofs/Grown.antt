@@ -33,16 +33,19 @@ grown_twice Q a b c g h =
     }
 
 module _ (ctx : Context) (Q : Slot → Type 0)
-    (declares : (k : Kinded) (d : Declarator) (w : Walk) → IsReadDeclarator ctx.word d → local_faults ctx.word k d w [] ≡ [] → Q (slot_of (env_in ctx.word w) k d)) where
+    (declares : (k : Kinded) (d : Declarator) (w : Walk) → IsReadDeclarator ctx.word d → local_faults ctx.word k d w [] ≡ [] →
+    Q (slot_of (env_in ctx.word w) k d)) where
   abbrev Grows : Walk → Walk → Type 0
   Grows v w = Grown Q v.slots w.slots
 
-  pub locals_grow : (k : Kinded) (ds : List Declarator) (w : Walk) → Each (IsReadDeclarator ctx.word) ds → locals_faults ctx.word k ds w [] ≡ [] → Grows w (all_declared ctx.word k ds w)
+  pub locals_grow : (k : Kinded) (ds : List Declarator) (w : Walk) → Each (IsReadDeclarator ctx.word) ds → locals_faults ctx.word k ds w [] ≡ [] →
+      Grows w (all_declared ctx.word k ds w)
   locals_grow k [] w r e = not_grown Q w.slots
   locals_grow k (d ∷ ds) w r e =
       let p = locals_parts ctx.word k d ds w e in
       grown_twice Q w.slots (w.slots ++ slot_of (env_in ctx.word w) k d ∷ []) (all_declared ctx.word k (d ∷ ds) w).slots
-      (record { more = slot_of (env_in ctx.word w) k d ∷ []; whole = refl; good = (declares k d w r.0 p.0, tt) }) (locals_grow k ds (declared ctx.word k d w) r.1 p.1)
+      (record { more = slot_of (env_in ctx.word w) k d ∷ []; whole = refl; good = (declares k d w r.0 p.0, tt) })
+      (locals_grow k ds (declared ctx.word k d w) r.1 p.1)
 
   pub start_grows : (start : Start) (w : Walk) → IsReadStart ctx.word start → start_faults ctx start w [] ≡ [] → Grows w (behind_start ctx start w)
   start_grows NoStart w r e = not_grown Q w.slots
@@ -64,7 +67,8 @@ module _ (ctx : Context) (Q : Slot → Type 0)
     pub plain_grows : (around : Around) (p : Plain) (w : Walk) → IsReadPlain ctx.word p → plain_faults ctx around p w [] ≡ [] → Grows w (behind_plain ctx p w)
     plain_grows around (From first after s) w r e = statement_grows around first s w r e
 
-    statement_grows : (around : Around) (first : ℕ) (s : Statement) (w : Walk) → IsReadStatement ctx.word s → statement_faults ctx around first s w [] ≡ [] → Grows w (behind_statement ctx s w)
+    statement_grows : (around : Around) (first : ℕ) (s : Statement) (w : Walk) → IsReadStatement ctx.word s →
+        statement_faults ctx around first s w [] ≡ [] → Grows w (behind_statement ctx s w)
     statement_grows around first Null w r e = not_grown Q w.slots
     statement_grows around first (Evaluate t) w r e = not_grown Q w.slots
     statement_grows around first (If t b) w r e = body_grows around b w r.1 (if_parts ctx around w first t b e).1
@@ -90,18 +94,21 @@ module _ (ctx : Context) (Q : Slot → Type 0)
     body_grows around (Braces first after xs) w r e = list_grows around xs (enter w) r e
     body_grows around (Lone first after x) w r e = item_grows around x (enter w) r e
 
-    pub list_grows : (around : Around) (xs : Items) (w : Walk) → AreReadItems ctx.word xs → list_faults ctx around xs w [] ≡ [] → Grows w (behind_items ctx xs w)
+    pub list_grows : (around : Around) (xs : Items) (w : Walk) → AreReadItems ctx.word xs → list_faults ctx around xs w [] ≡ [] →
+        Grows w (behind_items ctx xs w)
     list_grows around NoItem w r e = not_grown Q w.slots
     list_grows around (items.Then x xs) w r e =
         let p = list_parts ctx around w x xs e in
         let v = behind_item ctx x w in
         grown_twice Q w.slots v.slots (behind_items ctx xs v).slots (item_grows around x w r.0 p.0) (list_grows around xs v r.1 p.1)
 
-    pub switch_grows : (around : Around) (b : Body) (w : Walk) → IsReadBody ctx.word b → switch_body_faults ctx around b w [] ≡ [] → Grows w (behind_body ctx b w)
+    pub switch_grows : (around : Around) (b : Body) (w : Walk) → IsReadBody ctx.word b → switch_body_faults ctx around b w [] ≡ [] →
+        Grows w (behind_body ctx b w)
     switch_grows around (Braces first after xs) w r e = outside_grows around xs (enter w) r e
     switch_grows around (Lone first after x) w r e = outside_one_grows around x (enter w) r e
 
-    pub outside_grows : (around : Around) (xs : Items) (w : Walk) → AreReadItems ctx.word xs → outside_faults ctx around xs w [] ≡ [] → Grows w (behind_items ctx xs w)
+    pub outside_grows : (around : Around) (xs : Items) (w : Walk) → AreReadItems ctx.word xs → outside_faults ctx around xs w [] ≡ [] →
+        Grows w (behind_items ctx xs w)
     outside_grows around NoItem w r e = not_grown Q w.slots
     outside_grows around (items.Then (Declares first after d) xs) w r e = absurd (outside_declares ctx around w first after d xs e)
     outside_grows around (items.Then (States ls p) xs) w r e =

@@ -25,11 +25,13 @@ use Rattle.c_resolving_laws.proofs.Sectioned.{are_sections}
 use Rattle.c_resolving_laws.proofs.Walk.{each_note, Begins, Any, begins_before, Closed}
 
 module _ (ctx : Context) (f : Function) where
-  slot_is : (k : Kinded) (d : Declarator) (w : Walk) → Begins (declared ctx.word k d w).slots f.slots → slice_get f.slots (length w.slots) ≡ Some (slot_of (env_in ctx.word w) k d)
+  slot_is : (k : Kinded) (d : Declarator) (w : Walk) → Begins (declared ctx.word k d w).slots f.slots →
+      slice_get f.slots (length w.slots) ≡ Some (slot_of (env_in ctx.word w) k d)
   slot_is k d w b = ap (λ l. slice_get l (length w.slots)) b.1 ∙ slot_there w.slots b.0 (slot_of (env_in ctx.word w) k d)
 
   -- the names of one declaration
-  alike : (k : Kinded) (ds : List Declarator) (w : Walk) (s : Slot) → s.kind ≡ k.kind → s.constant ≡ k.constant → Each (IsReadDeclarator ctx.word) ds → locals_faults ctx.word k ds w [] ≡ [] → Begins (all_declared ctx.word k ds w).slots f.slots
+  alike : (k : Kinded) (ds : List Declarator) (w : Walk) (s : Slot) → s.kind ≡ k.kind → s.constant ≡ k.constant →
+      Each (IsReadDeclarator ctx.word) ds → locals_faults ctx.word k ds w [] ≡ [] → Begins (all_declared ctx.word k ds w).slots f.slots
       → AreAlike f.slots s (trees_of (locals ctx.word k ds w))
   alike k [] w s i j r e z = subst (AreAlike f.slots s) (sym trees-none) tt
   alike k (d ∷ ds) w s i j r e z =
@@ -37,20 +39,25 @@ module _ (ctx : Context) (f : Function) where
       let v = declared ctx.word k d w in
       let b = begins_before v.slots (all_declared ctx.word k ds v).slots f.slots (locals_grow ctx Any (λ k d w r e. tt) k ds v r.1 p.1) z in
       let x = local ctx.word k d w in
-      subst (AreAlike f.slots s) (sym (trees-more x (locals ctx.word k ds v) ∙ ap (λ t. Then t (trees_of (locals ctx.word k ds v))) (tree-Local (length w.slots) (initial (value_at (env_in ctx.word v)) d.value))))
+      subst (AreAlike f.slots s) (sym (trees-more x (locals ctx.word k ds v) ∙
+      ap (λ t. Then t (trees_of (locals ctx.word k ds v))) (tree-Local (length w.slots) (initial (value_at (env_in ctx.word v)) d.value))))
       (is_some_and _ (slice_get f.slots (length w.slots)) (slot_of (env_in ctx.word w) k d) (slot_is k d w b) (sym i, sym j), alike k ds v s i j r.1 p.1 z)
 
-  declared_first : (k : Kinded) (ds : List Declarator) (w : Walk) → Each (IsReadDeclarator ctx.word) ds → locals_faults ctx.word k ds w [] ≡ [] → Begins (all_declared ctx.word k ds w).slots f.slots → IsFirstPart f.slots (trees_of (locals ctx.word k ds w))
+  declared_first : (k : Kinded) (ds : List Declarator) (w : Walk) → Each (IsReadDeclarator ctx.word) ds → locals_faults ctx.word k ds w [] ≡ [] →
+      Begins (all_declared ctx.word k ds w).slots f.slots → IsFirstPart f.slots (trees_of (locals ctx.word k ds w))
   declared_first k [] w r e z = subst (IsFirstPart f.slots) (sym trees-none) tt
   declared_first k (d ∷ ds) w r e z =
       let p = locals_parts ctx.word k d ds w e in
       let v = declared ctx.word k d w in
       let b = begins_before v.slots (all_declared ctx.word k ds v).slots f.slots (locals_grow ctx Any (λ k d w r e. tt) k ds v r.1 p.1) z in
       let x = local ctx.word k d w in
-      subst (IsFirstPart f.slots) (sym (trees-more x (locals ctx.word k ds v) ∙ ap (λ t. Then t (trees_of (locals ctx.word k ds v))) (tree-Local (length w.slots) (initial (value_at (env_in ctx.word v)) d.value))))
-      (is_some_and _ (slice_get f.slots (length w.slots)) (slot_of (env_in ctx.word w) k d) (slot_is k d w b) (alike k ds v (slot_of (env_in ctx.word w) k d) refl refl r.1 p.1 z))
+      subst (IsFirstPart f.slots) (sym (trees-more x (locals ctx.word k ds v) ∙
+      ap (λ t. Then t (trees_of (locals ctx.word k ds v))) (tree-Local (length w.slots) (initial (value_at (env_in ctx.word v)) d.value))))
+      (is_some_and _ (slice_get f.slots (length w.slots)) (slot_of (env_in ctx.word w) k d) (slot_is k d w b)
+      (alike k ds v (slot_of (env_in ctx.word w) k d) refl refl r.1 p.1 z))
 
-  first_part : (start : Start) (w : Walk) → IsReadStart ctx.word start → start_faults ctx start w [] ≡ [] → Begins (behind_start ctx start w).slots f.slots → IsFirstPart f.slots (trees_of (start_items ctx start w))
+  first_part : (start : Start) (w : Walk) → IsReadStart ctx.word start → start_faults ctx start w [] ≡ [] →
+      Begins (behind_start ctx start w).slots f.slots → IsFirstPart f.slots (trees_of (start_items ctx start w))
   first_part NoStart w r e z = subst (IsFirstPart f.slots) (sym trees-none) tt
   first_part (StartValue t) w r e z =
       let x = dropped_at (env_at ctx w) t in

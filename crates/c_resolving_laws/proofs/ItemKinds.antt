@@ -62,7 +62,10 @@ module _ (n : Names) where
     pub consts : Within (WritesNoConst n) x
 
   pub good : (ss : List Scopes.Scope) (x : ExpressionTree) → Sound n ss x → Good x
-  good ss x h = record { kinds = within_map (IsSound n ss) (KindAgrees n) (λ x h. h.0) x h; consts = within_map (IsSound n ss) (WritesNoConst n) (λ x h. h.1) x h }
+  good ss x h = record {
+    kinds = within_map (IsSound n ss) (KindAgrees n) (λ x h. h.0) x h;
+    consts = within_map (IsSound n ss) (WritesNoConst n) (λ x h. h.1) x h;
+  }
 
   abbrev GoodValue : ExpressionTree → Type 0
   GoodValue x = Good x × HasValue x
@@ -88,21 +91,26 @@ module _ (ctx : Context) (n : Names) where
   abbrev pub KnownAt : List Scope → Type 0
   KnownAt scopes = (ss : List Scopes.Scope) × Knows n ss (record { word = ctx.word; scopes = scopes })
 
-  value_good : (w : Walk) (t : Term) → KnownAt w.scopes → IsReadTerm ctx.word t → value_faults (env_at ctx w) t [] ≡ [] → GoodValue n (expression_tree (value_at (env_at ctx w) t))
+  value_good : (w : Walk) (t : Term) → KnownAt w.scopes → IsReadTerm ctx.word t → value_faults (env_at ctx w) t [] ≡ [] →
+      GoodValue n (expression_tree (value_at (env_at ctx w) t))
   value_good w t i r e = let v = value_is n i.0 (env_at ctx w) i.1 t r e in (good n i.0 _ v.0.0, v.1)
 
-  dropped_good : (w : Walk) (t : Term) → KnownAt w.scopes → IsReadTerm ctx.word t → dropped_faults (env_at ctx w) t [] ≡ [] → GoodOperand n (expression_tree (dropped_at (env_at ctx w) t))
+  dropped_good : (w : Walk) (t : Term) → KnownAt w.scopes → IsReadTerm ctx.word t → dropped_faults (env_at ctx w) t [] ≡ [] →
+      GoodOperand n (expression_tree (dropped_at (env_at ctx w) t))
   dropped_good w t i r e = let v = dropped_is n i.0 (env_at ctx w) i.1 t r e in (good n i.0 _ v.0, v.1)
 
-  values_good : (w : Walk) (o : Option Term) → KnownAt w.scopes → IfSome o (IsReadTerm ctx.word) → optional_faults (value_faults (env_at ctx w)) o [] ≡ [] → IfSome (option_map expression_tree (option_map (value_at (env_at ctx w)) o)) (GoodValue n)
+  values_good : (w : Walk) (o : Option Term) → KnownAt w.scopes → IfSome o (IsReadTerm ctx.word) →
+      optional_faults (value_faults (env_at ctx w)) o [] ≡ [] → IfSome (option_map expression_tree (option_map (value_at (env_at ctx w)) o)) (GoodValue n)
   values_good w None i r e = tt
   values_good w (Some t) i r e = value_good w t i r e
 
-  drops_good : (w : Walk) (o : Option Term) → KnownAt w.scopes → IfSome o (IsReadTerm ctx.word) → optional_faults (dropped_faults (env_at ctx w)) o [] ≡ [] → IfSome (option_map expression_tree (option_map (dropped_at (env_at ctx w)) o)) (GoodOperand n)
+  drops_good : (w : Walk) (o : Option Term) → KnownAt w.scopes → IfSome o (IsReadTerm ctx.word) →
+      optional_faults (dropped_faults (env_at ctx w)) o [] ≡ [] → IfSome (option_map expression_tree (option_map (dropped_at (env_at ctx w)) o)) (GoodOperand n)
   drops_good w None i r e = tt
   drops_good w (Some t) i r e = dropped_good w t i r e
 
-  returned_good : (k : Option IntKind) (w : Walk) (first : ℕ) (o : Option Term) → KnownAt w.scopes → IfSome o (IsReadTerm ctx.word) → return_faults k (env_at ctx w) first o [] ≡ []
+  returned_good : (k : Option IntKind) (w : Walk) (first : ℕ) (o : Option Term) → KnownAt w.scopes → IfSome o (IsReadTerm ctx.word) →
+      return_faults k (env_at ctx w) first o [] ≡ []
       → IfSome (option_map expression_tree (option_map (value_at (env_at ctx w)) o)) (GoodValue n)
   returned_good k w first None i r e = tt
   returned_good (Some k) w first (Some t) i r e = value_good w t i r e
@@ -140,7 +148,10 @@ module _ (ctx : Context) (n : Names) where
         let g = values_good inner t j rt et in
         let h = drops_good inner u j ru eu in
         record {
-          agrees = record { kinds = (some_map (GoodValue n) K (λ x h. h.0.kinds) _ g, some_map (GoodOperand n) K (λ x h. h.0.kinds) _ h); values = (some_map (GoodValue n) HasValue (λ x h. h.1) _ g, some_map (GoodOperand n) IsOperand (λ x h. h.1) _ h) };
+          agrees = record {
+            kinds = (some_map (GoodValue n) K (λ x h. h.0.kinds) _ g, some_map (GoodOperand n) K (λ x h. h.0.kinds) _ h);
+            values = (some_map (GoodValue n) HasValue (λ x h. h.1) _ g, some_map (GoodOperand n) IsOperand (λ x h. h.1) _ h);
+          };
           consts = (some_map (GoodValue n) W (λ x h. h.0.consts) _ g, some_map (GoodOperand n) W (λ x h. h.0.consts) _ h);
         };
     switches = λ around w t b i r rb nb ev eb es cs.
@@ -150,16 +161,30 @@ module _ (ctx : Context) (n : Names) where
     block = λ a. record { agrees = record { kinds = tt; values = tt }; consts = tt };
     locals = λ k d w r e b i j.
         let v = declared ctx.word k d w in
-        let g = values_are ctx.word (value_faults (env_in ctx.word v)) (value_empty (env_in ctx.word v)) (value_at (env_in ctx.word v)) (GoodValue n) (λ t r e. value_good v t j r e) d.value r.value (local_parts ctx.word k d w e).values in
-        record { agrees = record { kinds = lists_map (GoodValue n) K (λ x h. h.0.kinds) _ g; values = lists_map (GoodValue n) HasValue (λ x h. h.1) _ g }; consts = lists_map (GoodValue n) W (λ x h. h.0.consts) _ g };
+        let g = values_are ctx.word (value_faults (env_in ctx.word v)) (value_empty (env_in ctx.word v)) (value_at (env_in ctx.word v)) (GoodValue n)
+        (λ t r e. value_good v t j r e) d.value r.value (local_parts ctx.word k d w e).values in
+        record {
+          agrees = record {
+            kinds = lists_map (GoodValue n) K (λ x h. h.0.kinds) _ g;
+            values = lists_map (GoodValue n) HasValue (λ x h. h.1) _ g;
+          };
+          consts = lists_map (GoodValue n) W (λ x h. h.0.consts) _ g;
+        };
     breaks = record { agrees = record { kinds = tt; values = tt }; consts = tt };
     continues = record { agrees = record { kinds = tt; values = tt }; consts = tt };
     gotos = λ at h. record { agrees = record { kinds = tt; values = tt }; consts = tt };
     returns = λ w first t i r e.
         let g = returned_good ctx.result w first t i r e in
-        record { agrees = record { kinds = some_map (GoodValue n) K (λ x h. h.0.kinds) _ g; values = some_map (GoodValue n) HasValue (λ x h. h.1) _ g }; consts = some_map (GoodValue n) W (λ x h. h.0.consts) _ g };
+        record {
+          agrees = record {
+            kinds = some_map (GoodValue n) K (λ x h. h.0.kinds) _ g;
+            values = some_map (GoodValue n) HasValue (λ x h. h.1) _ g;
+          };
+          consts = some_map (GoodValue n) W (λ x h. h.0.consts) _ g;
+        };
     marks = λ at. record { agrees = record { kinds = tt; values = tt }; consts = tt };
-    arrives = λ w t i r e. let c = constant_is_value n i.0 (env_at ctx w) i.1 t r e in let g = good n i.0 _ c.operand.0 in record { agrees = record { kinds = g.kinds; values = tt }; consts = g.consts };
+    arrives = λ w t i r e. let c = constant_is_value n i.0 (env_at ctx w) i.1 t r e in let g = good n i.0 _ c.operand.0 in
+        record { agrees = record { kinds = g.kinds; values = tt }; consts = g.consts };
     defaults = record { agrees = record { kinds = tt; values = tt }; consts = tt };
     cases = λ w t i r e. good n i.0 _ (constant_is_value n i.0 (env_at ctx w) i.1 t r e).operand.0;
   }

@@ -39,7 +39,8 @@ other_fits None _ h = tt
 other_fits (Some k) (tree.Return e) h = absurd h
 other_fits (Some k) _ h = tt
 
-return_fits : (k : Option IntKind) (env : Env) (first : ℕ) (t : Option Term) → return_faults k env first t [] ≡ [] → ReturnFits k (tree.Return (option_map expression_tree (option_map (value_at env) t)))
+return_fits : (k : Option IntKind) (env : Env) (first : ℕ) (t : Option Term) → return_faults k env first t [] ≡ [] →
+    ReturnFits k (tree.Return (option_map expression_tree (option_map (value_at env) t)))
 return_fits (Some k) env first (Some t) e = tt
 return_fits (Some k) env first None e = absurd (none_left _ _ e)
 return_fits None env first (Some t) e = absurd (none_left _ _ e)
@@ -70,8 +71,10 @@ returns_closed ctx final =
       cases = λ w t i r e. tt;
     }
 
-local_initialised : (ctx : Context) (final : List Slot) (k : Kinded) (d : Declarator) (w : Walk) → IsReadDeclarator ctx.word d → local_faults ctx.word k d w [] ≡ [] → Begins (declared ctx.word k d w).slots final
-    → SlotIsInitialised (slice_get final (length w.slots)) (option_map expression_trees (initial (value_at (env_in ctx.word (declared ctx.word k d w))) d.value))
+local_initialised : (ctx : Context) (final : List Slot) (k : Kinded) (d : Declarator) (w : Walk) → IsReadDeclarator ctx.word d →
+    local_faults ctx.word k d w [] ≡ [] → Begins (declared ctx.word k d w).slots final
+    → SlotIsInitialised (slice_get final (length w.slots))
+    (option_map expression_trees (initial (value_at (env_in ctx.word (declared ctx.word k d w))) d.value))
 local_initialised ctx final k d w r e b =
     let p = local_parts ctx.word k d w e in
     let s = slot_of (env_in ctx.word w) k d in

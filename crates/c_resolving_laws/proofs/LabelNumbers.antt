@@ -49,7 +49,8 @@ module _ (ctx : Context) where
   locals_none k (d ∷ ds) w =
       let v = declared ctx.word k d w in
       ap (gathered marked_label) (trees-more (local ctx.word k d w) (locals ctx.word k ds v))
-      ∙ (ap (λ t. gathered_of marked_label t ++ gathered marked_label (trees_of (locals ctx.word k ds v))) (tree-Local (length w.slots) (initial (value_at (env_in ctx.word v)) d.value)) ∙ locals_none k ds v)
+      ∙ (ap (λ t. gathered_of marked_label t ++ gathered marked_label (trees_of (locals ctx.word k ds v)))
+      (tree-Local (length w.slots) (initial (value_at (env_in ctx.word v)) d.value)) ∙ locals_none k ds v)
 
   start_none : (start : Start) (w : Walk) → of_start ctx marked_label m start w ≡ []
   start_none NoStart w = refl
@@ -62,7 +63,8 @@ module _ (ctx : Context) where
   mutual
     pub item_list : (x : Item) (w : Walk) (rest : List ℕ) → Lists (item_labels x rest) (of_item ctx marked_label m x w) rest
     item_list (Declares first after d) w rest = sym (ap (λ l. l ++ map number_at rest) (locals_none (kinded ctx.word d) d.names w))
-    item_list (States ls p) w rest = two (item_labels (States ls p) rest) (plain_labels p rest) rest (of_labels ctx marked_label m ls) (of_plain ctx marked_label m p w) (labels_list ls (plain_labels p rest)) (plain_list p w rest)
+    item_list (States ls p) w rest = two (item_labels (States ls p) rest) (plain_labels p rest) rest (of_labels ctx marked_label m ls)
+        (of_plain ctx marked_label m p w) (labels_list ls (plain_labels p rest)) (plain_list p w rest)
 
     plain_list : (p : Plain) (w : Walk) (rest : List ℕ) → Lists (plain_labels p rest) (of_plain ctx marked_label m p w) rest
     plain_list (From first after s) w rest = statement_list s w rest
@@ -71,7 +73,8 @@ module _ (ctx : Context) where
     statement_list Null w rest = refl
     statement_list (Evaluate t) w rest = refl
     statement_list (If t b) w rest = body_list b w rest
-    statement_list (IfElse t b c) w rest = two _ (body_labels c rest) rest (of_body ctx marked_label m b w) (of_body ctx marked_label m c (behind_body ctx b w)) (body_list b w (body_labels c rest)) (body_list c (behind_body ctx b w) rest)
+    statement_list (IfElse t b c) w rest = two _ (body_labels c rest) rest (of_body ctx marked_label m b w)
+        (of_body ctx marked_label m c (behind_body ctx b w)) (body_list b w (body_labels c rest)) (body_list c (behind_body ctx b w) rest)
     statement_list (While t b) w rest = body_list b w rest
     statement_list (DoWhile b t) w rest = body_list b w rest
     statement_list (For start t u b) w rest =
@@ -91,11 +94,13 @@ module _ (ctx : Context) where
 
     pub list_list : (xs : Items) (w : Walk) (rest : List ℕ) → Lists (list_labels xs rest) (of_list ctx marked_label m xs w) rest
     list_list NoItem w rest = refl
-    list_list (items.Then x xs) w rest = two _ (list_labels xs rest) rest (of_item ctx marked_label m x w) (of_list ctx marked_label m xs (behind_item ctx x w)) (item_list x w (list_labels xs rest)) (list_list xs (behind_item ctx x w) rest)
+    list_list (items.Then x xs) w rest = two _ (list_labels xs rest) rest (of_item ctx marked_label m x w)
+        (of_list ctx marked_label m xs (behind_item ctx x w)) (item_list x w (list_labels xs rest)) (list_list xs (behind_item ctx x w) rest)
 
 -- ---- numbers of names that differ
 
-longer_at : (n : ℕ) (a : List ℕ) (e : List ℕ × ℕ) (es : Names ℕ) (o : Ordering) → is_eq o ≡ bytes_eq a e.0 → bytes_eq a e.0 ≡ false → length (with_entry a n es) ≡ suc (length es)
+longer_at : (n : ℕ) (a : List ℕ) (e : List ℕ × ℕ) (es : Names ℕ) (o : Ordering) → is_eq o ≡ bytes_eq a e.0 → bytes_eq a e.0 ≡ false →
+    length (with_entry a n es) ≡ suc (length es)
     → length (match_ordering o ((a, n) ∷ e ∷ es) ((e.0, n) ∷ es) (e ∷ with_entry a n es)) ≡ suc (suc (length es))
 longer_at n a e es Less i f h = refl
 longer_at n a e es Equal i f h = absurd (true≢false (i ∙ f))
@@ -107,7 +112,8 @@ not_first false n o e = (refl, e)
 
 pub longer : (a : List ℕ) (n : ℕ) (es : Names ℕ) → has_label es a ≡ false → length (with_entry a n es) ≡ suc (length es)
 longer a n [] e = refl
-longer a n (x ∷ es) e = let p = not_first (bytes_eq a x.0) x.1 (found a es) e in longer_at n a x es (name_cmp a x.0) (is_eq-slice_cmp a x.0) p.0 (longer a n es p.1)
+longer a n (x ∷ es) e = let p = not_first (bytes_eq a x.0) x.1 (found a es) e in
+    longer_at n a x es (name_cmp a x.0) (is_eq-slice_cmp a x.0) p.0 (longer a n es p.1)
 
 -- a new name gets the next number
 numbered : (a : List ℕ) (known : Names ℕ) → has_label known a ≡ false → with_number a known ≡ with_entry a (length known) known
@@ -124,7 +130,8 @@ number_keeps a known e q n h = ap (found q) (numbered a known e) ∙ (found_entr
     other false i = h
 
 new_found : (a : List ℕ) (known : Names ℕ) → has_label known a ≡ false → found a (with_number a known) ≡ Some (length known)
-new_found a known e = ap (found a) (numbered a known e) ∙ (found_entry a a (length known) known ∙ ap (λ t. cond t (Some (length known)) (found a known)) (names_same a a refl))
+new_found a known e = ap (found a) (numbered a known e) ∙ (found_entry a a (length known) known ∙
+    ap (λ t. cond t (Some (length known)) (found a known)) (names_same a a refl))
 
 -- each number is below the count
 abbrev pub Below : Names ℕ → Type 0
@@ -163,7 +170,8 @@ still_new a q known e h = by (bytes_eq q a) refl (sym (ap is_some (ap (found q) 
     by true i k = absurd (true≢false k)
     by false i k = (k, λ s. true≢false (sym (names_same q a s) ∙ i))
 
-pub numbered_all : (known : Names ℕ) (word : ℕ → List ℕ) (ats : List ℕ) → twice_from known word ats [] ≡ [] → Numbered known (numbers_from known (map word ats)) word ats
+pub numbered_all : (known : Names ℕ) (word : ℕ → List ℕ) (ats : List ℕ) → twice_from known word ats [] ≡ [] →
+    Numbered known (numbers_from known (map word ats)) word ats
 numbered_all known word [] e = record { keeps = λ q n h. h; below = λ b. b; count = omega arith; numbers = refl; names = refl; new = tt; differ = tt }
 numbered_all known word (at ∷ ats) e =
     let p = twice_parts known word at ats e in
@@ -175,7 +183,8 @@ numbered_all known word (at ∷ ats) e =
       keeps = λ q n h. r.keeps q n (number_keeps a known p.0 q n h);
       below = λ b. r.below (below_next a known p.0 b);
       count = r.count ∙ (ap (λ k. k + length ats) l ∙ shift (length known) (length ats));
-      numbers = λ i. some_number (found a (numbers_from next (map word ats))) (length known) (length (numbers_from next (map word ats))) (r.keeps a (length known) (new_found a known p.0)) i ∷ (r.numbers ∙ ap (λ k. Form.numbers_from k (length ats)) l) i;
+      numbers = λ i. some_number (found a (numbers_from next (map word ats))) (length known) (length (numbers_from next (map word ats)))
+          (r.keeps a (length known) (new_found a known p.0)) i ∷ (r.numbers ∙ ap (λ k. Form.numbers_from k (length ats)) l) i;
       names = ap (λ b. new_name b a (distinct_from next (map word ats))) p.0 ∙ ap (λ l. a ∷ l) r.names;
       new = (p.0, each_map (λ y. has_label next y ≡ false) (λ y. has_label known y ≡ false) (λ y h. (still_new a y known p.0 h).0) (map word ats) r.new);
       differ = (each_map (λ y. has_label next y ≡ false) (λ y. y ≢ a) (λ y h. (still_new a y known p.0 h).1) (map word ats) r.new, r.differ);

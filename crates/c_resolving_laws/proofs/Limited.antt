@@ -53,7 +53,8 @@ module _ (ctx : Context) (K : ℕ) where
   short_one d x t e h k = subst (Within d) (sym (trees-more x [] ∙ (λ i. tree.Then (e i) (trees-none i)))) (record { shallow = omega arith; few = omega arith })
 
   pub short_both : (d : ℕ) (xs ys : List item.Item) → Short d xs → Short d ys → Short d (xs ++ ys)
-  short_both d xs ys h k = subst (Within d) (sym (trees-append xs ys)) (record { shallow = depth_join (trees_of xs) (trees_of ys) d h.shallow k.shallow; few = most_join (trees_of xs) (trees_of ys) K h.few k.few })
+  short_both d xs ys h k = subst (Within d) (sym (trees-append xs ys))
+      (record { shallow = depth_join (trees_of xs) (trees_of ys) d h.shallow k.shallow; few = most_join (trees_of xs) (trees_of ys) K h.few k.few })
 
   short_more : (d : ℕ) (x : item.Item) (xs : List item.Item) (t : Tree) → tree_of x ≡ t → depth_of t ≤ d → most_counted_of t ≤ K → Short d xs → Short d (x ∷ xs)
   short_more d x xs t e h k l = short_both d (x ∷ []) xs (short_one d x t e h k) l
@@ -72,7 +73,8 @@ module _ (ctx : Context) (K : ℕ) where
   behind_notes d x xs h = short_both d (notes_at ctx x) xs (short_notes d x) h
 
   short_mark : (d at : ℕ) → Short d (mark ctx at)
-  short_mark d at = let l = number_in ctx.labels (ctx.word at) in behind_notes d (Before at) (item.Mark l ∷ []) (short_one d (item.Mark l) (tree.Mark l) (tree-Mark l) (omega arith) (omega arith))
+  short_mark d at = let l = number_in ctx.labels (ctx.word at) in behind_notes d (Before at) (item.Mark l ∷ [])
+      (short_one d (item.Mark l) (tree.Mark l) (tree-Mark l) (omega arith) (omega arith))
 
   short_labels : (d : ℕ) (w : Walk) (ls : List Label) → Each (IsFewLabel ctx.word K) ls → Short d (labels_items ctx (env_at ctx w) ls)
   short_labels d w [] h = short_none d
@@ -81,10 +83,12 @@ module _ (ctx : Context) (K : ℕ) where
       let e = constant_at (env_at ctx w) t in
       let q = constant_few (env_at ctx w) 3 t (omega arith) in
       short_both d (notes_at ctx (Before at) ++ item.Arrival (Some e) ∷ []) (labels_items ctx (env_at ctx w) ls)
-      (behind_notes d (Before at) (item.Arrival (Some e) ∷ []) (short_one d (item.Arrival (Some e)) _ (tree-Arrival (Some e)) (omega arith) (let k = h.0 in omega arith))) (short_labels d w ls h.1)
+      (behind_notes d (Before at) (item.Arrival (Some e) ∷ [])
+      (short_one d (item.Arrival (Some e)) _ (tree-Arrival (Some e)) (omega arith) (let k = h.0 in omega arith))) (short_labels d w ls h.1)
   short_labels d w (Default at after ∷ ls) h =
       short_both d (notes_at ctx (Before at) ++ item.Arrival None ∷ []) (labels_items ctx (env_at ctx w) ls)
-      (behind_notes d (Before at) (item.Arrival None ∷ []) (short_one d (item.Arrival None) (tree.Arrival None) (tree-Arrival None) (omega arith) (omega arith))) (short_labels d w ls h.1)
+      (behind_notes d (Before at) (item.Arrival None ∷ []) (short_one d (item.Arrival None) (tree.Arrival None) (tree-Arrival None) (omega arith)
+      (omega arith))) (short_labels d w ls h.1)
 
   short_marks : (d : ℕ) (ls : List Label) → Short d (section_marks ctx ls)
   short_marks d [] = short_none d
@@ -96,7 +100,8 @@ module _ (ctx : Context) (K : ℕ) where
   few_values env [] e h = omega arith
   few_values env (t ∷ ts) e h = let q = value_few env 2 t (omega arith) in let k = h.0 in let r = few_values env ts e h.1 in up_to _ _ K (omega arith) r
 
-  few_given : (env : Env) (i : Initialiser) → env.word ≡ ctx.word → IsFewInitialiser env.word K i → most_listed (option_map expression_trees (initial (value_at env) i)) ≤ K
+  few_given : (env : Env) (i : Initialiser) → env.word ≡ ctx.word → IsFewInitialiser env.word K i →
+      most_listed (option_map expression_trees (initial (value_at env) i)) ≤ K
   few_given env NoValue e h = omega arith
   few_given env (OneValue t) e h = let q = value_few env 2 t (omega arith) in up_to _ 0 K (omega arith) (omega arith)
   few_given env (ValueList ts) e h = few_values env ts e h
@@ -106,7 +111,8 @@ module _ (ctx : Context) (K : ℕ) where
   short_locals d k (x ∷ ds) w h =
       let v = declared ctx.word k x w in
       let given = initial (value_at (env_in ctx.word v)) x.value in
-      short_more d (local ctx.word k x w) (locals ctx.word k ds v) _ (tree-Local (length w.slots) given) (omega arith) (few_given (env_in ctx.word v) x.value refl h.0) (short_locals d k ds v h.1)
+      short_more d (local ctx.word k x w) (locals ctx.word k ds v) _ (tree-Local (length w.slots) given) (omega arith)
+      (few_given (env_in ctx.word v) x.value refl h.0) (short_locals d k ds v h.1)
 
   value_one : (env : Env) (t : Term) → IsFew env.word K 1 t → counted (expression_tree (value_at env t)) ≤ K
   value_one env t h = let q = value_few env 1 t (omega arith) in omega arith
@@ -124,7 +130,8 @@ module _ (ctx : Context) (K : ℕ) where
 
   short_start : (d : ℕ) (start : Start) (w : Walk) → IsFewStart ctx.word K start → Short d (start_items ctx start w)
   short_start d NoStart w h = short_none d
-  short_start d (StartValue t) w h = let e = dropped_at (env_at ctx w) t in short_one d (item.Evaluate e) _ (tree-Evaluate e) (omega arith) (dropped_one (env_at ctx w) t h)
+  short_start d (StartValue t) w h = let e = dropped_at (env_at ctx w) t in
+      short_one d (item.Evaluate e) _ (tree-Evaluate e) (omega arith) (dropped_one (env_at ctx w) t h)
   short_start d (StartNames x) w h = short_locals d (kinded ctx.word x) x.names w h
 
   tested : (env : Env) (t : Term) → IsFew env.word K 1 t → most_tested (test_tree (test.Source (value_at env t))) ≤ K
@@ -175,19 +182,29 @@ module _ (ctx : Context) (K : ℕ) where
   short_front d [] h = tt
   short_front d (x ∷ xs) h =
       let nothing = item.Evaluate placeholder ∷ [] in
-      short_closed d (Some (record { cases = []; default = false; list = (x ∷ xs) ++ nothing })) (short_both d (x ∷ xs) nothing h (short_one d (item.Evaluate placeholder) _ (tree-Evaluate placeholder) (omega arith) (let q = placeholder_few 1 K (omega arith) in omega arith)), tt)
+      short_closed d (Some (record { cases = []; default = false; list = (x ∷ xs) ++ nothing })) (
+        short_both d (x ∷ xs) nothing h (short_one d (item.Evaluate placeholder) _ (tree-Evaluate placeholder) (omega arith)
+            (let q = placeholder_few 1 K (omega arith) in omega arith)),
+        tt,
+      )
 
-  few_cases : (w : Walk) (ls : List Label) → Each (IsFewLabel ctx.word K) ls → Each (λ e. counted_at 3 e ≤ K) (expression_trees (section_cases (env_at ctx w) ls))
+  few_cases : (w : Walk) (ls : List Label) → Each (IsFewLabel ctx.word K) ls →
+      Each (λ e. counted_at 3 e ≤ K) (expression_trees (section_cases (env_at ctx w) ls))
   few_cases w [] h = tt
   few_cases w (Named at after ∷ ls) h = few_cases w ls h.1
   few_cases w (Case at after t ∷ ls) h = ((let q = constant_few (env_at ctx w) 3 t (omega arith) in let k = h.0 in omega arith), few_cases w ls h.1)
   few_cases w (Default at after ∷ ls) h = few_cases w ls h.1
 
-  short_begun : (d : ℕ) (w : Walk) (ls : List Label) (xs : List item.Item) → Each (IsFewLabel ctx.word K) ls → Short d xs → ShortReading d (begun ctx (env_at ctx w) ls xs)
-  short_begun d w ls xs h k =
-      (short_both d (notes_at ctx (AtSection (items.first_label ls)) ++ section_marks ctx ls) xs (behind_notes d (AtSection (items.first_label ls)) (section_marks ctx ls) (short_marks d ls)) k, few_cases w ls h)
+  short_begun : (d : ℕ) (w : Walk) (ls : List Label) (xs : List item.Item) → Each (IsFewLabel ctx.word K) ls → Short d xs →
+      ShortReading d (begun ctx (env_at ctx w) ls xs)
+  short_begun d w ls xs h k = (
+    short_both d (notes_at ctx (AtSection (items.first_label ls)) ++ section_marks ctx ls) xs
+        (behind_notes d (AtSection (items.first_label ls)) (section_marks ctx ls) (short_marks d ls)) k,
+    few_cases w ls h,
+  )
 
-  section_by : (d : ℕ) (b : Bool) (o : Option Reading) (xs ys : List Section) → ShortReading d o → ShortSections d xs → ShortSections d ys → ShortSections d (elim b [ true ↦ closed o ++ xs | false ↦ ys ])
+  section_by : (d : ℕ) (b : Bool) (o : Option Reading) (xs ys : List Section) → ShortReading d o → ShortSections d xs → ShortSections d ys →
+      ShortSections d (elim b [ true ↦ closed o ++ xs | false ↦ ys ])
   section_by d true o xs ys h f g = each_append _ (closed o) xs (short_closed d o h) f
   section_by d false o xs ys h f g = g
 
@@ -195,13 +212,15 @@ module _ (ctx : Context) (K : ℕ) where
   lone_by d true xs ys f g = f
   lone_by d false xs ys f g = g
 
-  passed_by : (d : ℕ) (cs : List ExpressionTree) (f : Bool) (s : SectionTree) (ts : List SectionTree) (b : Bool) → Each (λ e. counted_at 3 e ≤ K) cs → IsFewSection d s
+  passed_by : (d : ℕ) (cs : List ExpressionTree) (f : Bool) (s : SectionTree) (ts : List SectionTree) (b : Bool) → Each (λ e. counted_at 3 e ≤ K) cs →
+      IsFewSection d s
       → ((es : List ExpressionTree) (e : Bool) → Each (λ e. counted_at 3 e ≤ K) es → Each (IsFewSection d) (passed_trees es e ts))
       → Each (IsFewSection d) (elim b [ true ↦ passed_trees (cs ++ s.cases) (f || s.default) ts | false ↦ with_entries cs f s ∷ passed_trees [] false ts ])
   passed_by d cs f s ts true c h g = g (cs ++ s.cases) (f || s.default) (each_append _ cs s.cases c h.1)
   passed_by d cs f s ts false c h g = ((h.0, each_append _ cs s.cases c h.1), g [] false tt)
 
-  short_passed : (d : ℕ) (cs : List ExpressionTree) (f : Bool) (ts : List SectionTree) → Each (λ e. counted_at 3 e ≤ K) cs → Each (IsFewSection d) ts → Each (IsFewSection d) (passed_trees cs f ts)
+  short_passed : (d : ℕ) (cs : List ExpressionTree) (f : Bool) (ts : List SectionTree) → Each (λ e. counted_at 3 e ≤ K) cs →
+      Each (IsFewSection d) ts → Each (IsFewSection d) (passed_trees cs f ts)
   short_passed d cs f [] c h = tt
   short_passed d cs f (s ∷ []) c h = ((h.0.0, each_append _ cs s.cases c h.0.1), tt)
   short_passed d cs f (s ∷ t ∷ ts) c h = passed_by d cs f s (t ∷ ts) (passes s) c h.0 (λ es e k. short_passed d es e (t ∷ ts) k h.1)
@@ -213,14 +232,18 @@ module _ (ctx : Context) (K : ℕ) where
   sections_within : (d : ℕ) (ts : List SectionTree) → Each (IsFewSection d) ts → (depth_in (sections ts) ≤ d) × (most_counted_in (sections ts) ≤ K)
   sections_within d [] h = (omega arith, omega arith)
   sections_within d (s ∷ ts) h =
-      let r = sections_within d ts h.1 in
-      (up_to (depth s.list) (depth_in (sections ts)) d h.0.0.shallow r.0, up_to (most_of 3 s.cases) (max (most_counted s.list) (most_counted_in (sections ts))) K (cases_most s.cases h.0.1) (up_to (most_counted s.list) (most_counted_in (sections ts)) K h.0.0.few r.1))
+      let r = sections_within d ts h.1 in (
+        up_to (depth s.list) (depth_in (sections ts)) d h.0.0.shallow r.0,
+        up_to (most_of 3 s.cases) (max (most_counted s.list) (most_counted_in (sections ts))) K (cases_most s.cases h.0.1)
+            (up_to (most_counted s.list) (most_counted_in (sections ts)) K h.0.0.few r.1),
+      )
 
   few_trees : (d : ℕ) (cs : List Section) → ShortSections d cs → Each (IsFewSection d) (map section_tree cs)
   few_trees d [] h = tt
   few_trees d (c ∷ cs) h = (h.0, few_trees d cs h.1)
 
-  switch_within : (d : ℕ) (cs : List Section) → ShortSections d cs → (depth_in (sections_of (passed_on [] false cs)) ≤ d) × (most_counted_in (sections_of (passed_on [] false cs)) ≤ K)
+  switch_within : (d : ℕ) (cs : List Section) → ShortSections d cs → (depth_in (sections_of (passed_on [] false cs)) ≤ d) ×
+      (most_counted_in (sections_of (passed_on [] false cs)) ≤ K)
   switch_within d cs h =
       subst (λ c. (depth_in c ≤ d) × (most_counted_in c ≤ K)) (sym (sections_are (passed_on [] false cs) ∙ ap sections (passed_same [] false cs)))
       (sections_within d (passed_trees [] false (map section_tree cs)) (short_passed d [] false (map section_tree cs) tt (few_trees d cs h)))
@@ -255,20 +278,24 @@ module _ (ctx : Context) (K : ℕ) where
 
   mutual
     pub item_short : (x : Item) (w : Walk) (d : ℕ) → IsFewItem ctx.word K x → item_depth x ≤ d → Short d (item_items ctx x w)
-    item_short (Declares first after x) w d h q = behind_notes d (Before first) (locals ctx.word (kinded ctx.word x) x.names w) (short_locals d (kinded ctx.word x) x.names w h)
-    item_short (States ls p) w d h q = short_both d (labels_items ctx (env_at ctx w) ls) (plain_items ctx p w) (short_labels d w ls h.0) (plain_short p w d h.1 q)
+    item_short (Declares first after x) w d h q = behind_notes d (Before first) (locals ctx.word (kinded ctx.word x) x.names w)
+        (short_locals d (kinded ctx.word x) x.names w h)
+    item_short (States ls p) w d h q = short_both d (labels_items ctx (env_at ctx w) ls) (plain_items ctx p w) (short_labels d w ls h.0)
+        (plain_short p w d h.1 q)
 
     plain_short : (p : Plain) (w : Walk) (d : ℕ) → IsFewPlain ctx.word K p → plain_depth p ≤ d → Short d (plain_items ctx p w)
     plain_short (From first after s) w d h q = behind_notes d (Before first) (statement_items ctx s w) (statement_short s w d h q)
 
     statement_short : (s : Statement) (w : Walk) (d : ℕ) → IsFewStatement ctx.word K s → statement_depth s ≤ d → Short d (statement_items ctx s w)
     statement_short Null w d h q = short_none d
-    statement_short (Evaluate t) w d h q = let e = dropped_at (env_at ctx w) t in short_one d (item.Evaluate e) _ (tree-Evaluate e) (omega arith) (dropped_one (env_at ctx w) t h)
+    statement_short (Evaluate t) w d h q = let e = dropped_at (env_at ctx w) t in
+        short_one d (item.Evaluate e) _ (tree-Evaluate e) (omega arith) (dropped_one (env_at ctx w) t h)
     statement_short (If t b) w d h q =
         let x = test.Source (value_at (env_at ctx w) t) in
         let a = body_items ctx b w in
         let k = body_short b w h.1 in
-        short_one d (item.If x a []) _ (tree-If x a []) (if_depth (test_tree x) (trees_of a) (trees_of []) d (let z = k.shallow in omega arith) (no_items d (let z = k.shallow in omega arith)))
+        short_one d (item.If x a []) _ (tree-If x a []) (if_depth (test_tree x) (trees_of a) (trees_of []) d (let z = k.shallow in omega arith)
+        (no_items d (let z = k.shallow in omega arith)))
         (three (most_tested (test_tree x)) (most_counted (trees_of a)) (most_counted (trees_of [])) (tested (env_at ctx w) t h.0) k.few (short_none d).few)
     statement_short (IfElse t b c) w d h q =
         let x = test.Source (value_at (env_at ctx w) t) in
@@ -278,18 +305,21 @@ module _ (ctx : Context) (K : ℕ) where
         let k = body_short b w h.1 in
         let l = body_short c u h.2 in
         short_one d (item.If x a e) _ (tree-If x a e)
-        (if_depth (test_tree x) (trees_of a) (trees_of e) d (let z = k.shallow in let y = max_left (body_depth b) (body_depth c) d q in omega arith) (let z = l.shallow in let y = max_right (body_depth b) (body_depth c) d q in omega arith))
+        (if_depth (test_tree x) (trees_of a) (trees_of e) d (let z = k.shallow in let y = max_left (body_depth b) (body_depth c) d q in omega arith)
+        (let z = l.shallow in let y = max_right (body_depth b) (body_depth c) d q in omega arith))
         (three (most_tested (test_tree x)) (most_counted (trees_of a)) (most_counted (trees_of e)) (tested (env_at ctx w) t h.0) k.few l.few)
     statement_short (While t b) w d h q =
         let x = test.Source (value_at (env_at ctx w) t) in
         let a = body_items ctx b w in
         let k = body_short b w h.1 in
-        short_one d (item.While x a) _ (tree-While x a) (let z = k.shallow in omega arith) (up_to (most_tested (test_tree x)) (most_counted (trees_of a)) K (tested (env_at ctx w) t h.0) k.few)
+        short_one d (item.While x a) _ (tree-While x a) (let z = k.shallow in omega arith)
+        (up_to (most_tested (test_tree x)) (most_counted (trees_of a)) K (tested (env_at ctx w) t h.0) k.few)
     statement_short (DoWhile b t) w d h q =
         let x = test.Source (value_at (env_at ctx w) t) in
         let a = body_items ctx b w in
         let k = body_short b w h.0 in
-        short_one d (item.Do a x) _ (tree-Do a x) (let z = k.shallow in omega arith) (up_to (most_counted (trees_of a)) (most_tested (test_tree x)) K k.few (tested (env_at ctx w) t h.1))
+        short_one d (item.Do a x) _ (tree-Do a x) (let z = k.shallow in omega arith)
+        (up_to (most_counted (trees_of a)) (most_tested (test_tree x)) K k.few (tested (env_at ctx w) t h.1))
     statement_short (For start t u b) w d h q =
         let inner = behind_start ctx start (enter w) in
         let env = env_at ctx inner in
@@ -299,63 +329,77 @@ module _ (ctx : Context) (K : ℕ) where
         let y = option_map (dropped_at env) u in
         let k = body_short b inner h.3 in
         short_one d (item.For f x y a) _ (tree-For f x y a) (let z = k.shallow in omega arith)
-        (four (most_counted (trees_of f)) (most_if (option_map expression_tree x)) (most_if (option_map expression_tree y)) (most_counted (trees_of a)) (short_start d start (enter w) h.0).few (values_one env t h.1) (drops_one env u h.2) k.few)
+        (four (most_counted (trees_of f)) (most_if (option_map expression_tree x)) (most_if (option_map expression_tree y))
+        (most_counted (trees_of a)) (short_start d start (enter w) h.0).few (values_one env t h.1) (drops_one env u h.2) k.few)
     statement_short (Switch t b) w d h q =
         let v = selector.Source (value_at (env_at ctx w) t) in
         let cs = switch_sections ctx b w in
         let k = switch_within (inner_depth b) cs (sections_short b w h.1) in
         short_one d (item.Switch v (passed_on [] false cs)) _ (tree-Switch v (passed_on [] false cs)) (let z = k.0 in let y = one_deeper b in omega arith)
         (up_to (counted (selector_source (selector_tree v))) (most_counted_in (sections_of (passed_on [] false cs))) K (selected (env_at ctx w) t h.0) k.1)
-    statement_short (Block b) w d h q = let a = body_items ctx b w in let k = body_short b w h in short_one d (item.Block a) _ (tree-Block a) (let z = k.shallow in omega arith) k.few
+    statement_short (Block b) w d h q = let a = body_items ctx b w in let k = body_short b w h in
+        short_one d (item.Block a) _ (tree-Block a) (let z = k.shallow in omega arith) k.few
     statement_short (Goto at) w d h q = short_one d _ _ (tree-Goto (number_in ctx.labels (ctx.word at))) (omega arith) (omega arith)
     statement_short Break w d h q = short_one d _ _ tree-Break (omega arith) (omega arith)
     statement_short Continue w d h q = short_one d _ _ tree-Continue (omega arith) (omega arith)
-    statement_short (Return t) w d h q = let x = option_map (value_at (env_at ctx w)) t in short_one d (item.Return x) _ (tree-Return x) (omega arith) (values_one (env_at ctx w) t h)
+    statement_short (Return t) w d h q = let x = option_map (value_at (env_at ctx w)) t in
+        short_one d (item.Return x) _ (tree-Return x) (omega arith) (values_one (env_at ctx w) t h)
     statement_short Unread w d h q = short_none d
 
     body_short : (b : Body) (w : Walk) → IsFewBody ctx.word K b → Inner b (body_items ctx b w)
     body_short (Braces first after xs) w h =
-        let l = short_both (list_depth xs) (list_items ctx xs (enter w)) (notes_at ctx (AtEnd first)) (list_short xs (enter w) (list_depth xs) h (omega arith)) (short_notes (list_depth xs) (AtEnd first)) in
+        let l = short_both (list_depth xs) (list_items ctx xs (enter w)) (notes_at ctx (AtEnd first))
+        (list_short xs (enter w) (list_depth xs) h (omega arith)) (short_notes (list_depth xs) (AtEnd first)) in
         record { shallow = let z = l.shallow in omega arith; few = l.few }
     body_short (Lone first after x) w h =
-        let l = short_both (item_depth x) (item_items ctx x (enter w)) (notes_at ctx (AtEnd first)) (item_short x (enter w) (item_depth x) h (omega arith)) (short_notes (item_depth x) (AtEnd first)) in
+        let l = short_both (item_depth x) (item_items ctx x (enter w)) (notes_at ctx (AtEnd first))
+        (item_short x (enter w) (item_depth x) h (omega arith)) (short_notes (item_depth x) (AtEnd first)) in
         record { shallow = let z = l.shallow in omega arith; few = l.few }
 
     pub list_short : (xs : Items) (w : Walk) (d : ℕ) → AreFewItems ctx.word K xs → list_depth xs ≤ d → Short d (list_items ctx xs w)
     list_short NoItem w d h q = short_none d
     list_short (items.Then x xs) w d h q =
         let v = behind_item ctx x w in
-        short_both d (item_items ctx x w) (list_items ctx xs v) (item_short x w d h.0 (max_left (item_depth x) (list_depth xs) d q)) (list_short xs v d h.1 (max_right (item_depth x) (list_depth xs) d q))
+        short_both d (item_items ctx x w) (list_items ctx xs v) (item_short x w d h.0 (max_left (item_depth x) (list_depth xs) d q))
+        (list_short xs v d h.1 (max_right (item_depth x) (list_depth xs) d q))
 
     sections_short : (b : Body) (w : Walk) → IsFewBody ctx.word K b → ShortSections (inner_depth b) (switch_sections ctx b w)
     sections_short (Braces first after xs) w h =
         let k = list_depth xs in
         let later = from_short None xs (notes_at ctx (AtEnd first)) (enter w) k tt (short_notes k (AtEnd first)) h (omega arith) in
-        each_append _ (front (outside_items ctx xs (enter w))) (sections_from ctx None xs (notes_at ctx (AtEnd first)) (enter w)) (short_front k (outside_items ctx xs (enter w)) (outside_short xs (enter w) k h (omega arith))) later
+        each_append _ (front (outside_items ctx xs (enter w))) (sections_from ctx None xs (notes_at ctx (AtEnd first)) (enter w))
+        (short_front k (outside_items ctx xs (enter w)) (outside_short xs (enter w) k h (omega arith))) later
     sections_short (Lone first after x) w h =
         let k = item_depth x in
         let later = at_short x (notes_at ctx (AtEnd first)) (enter w) k (short_notes k (AtEnd first)) h (omega arith) in
-        each_append _ (front (outside_item ctx x (enter w))) (sections_at ctx None x (notes_at ctx (AtEnd first)) (enter w)) (short_front k (outside_item ctx x (enter w)) (outside_one x (enter w) k h (omega arith))) later
+        each_append _ (front (outside_item ctx x (enter w))) (sections_at ctx None x (notes_at ctx (AtEnd first)) (enter w))
+        (short_front k (outside_item ctx x (enter w)) (outside_one x (enter w) k h (omega arith))) later
 
     -- in front of the first section
     outside_short : (xs : Items) (w : Walk) (d : ℕ) → AreFewItems ctx.word K xs → list_depth xs ≤ d → Short d (outside_items ctx xs w)
     outside_short NoItem w d h q = short_none d
     outside_short (items.Then x xs) w d h q =
         short_if d (begins x) (outside_item ctx x w ++ outside_items ctx xs (behind_item ctx x w))
-        (short_both d (outside_item ctx x w) (outside_items ctx xs (behind_item ctx x w)) (outside_one x w d h.0 (max_left (item_depth x) (list_depth xs) d q)) (outside_short xs (behind_item ctx x w) d h.1 (max_right (item_depth x) (list_depth xs) d q)))
+        (short_both d (outside_item ctx x w) (outside_items ctx xs (behind_item ctx x w))
+        (outside_one x w d h.0 (max_left (item_depth x) (list_depth xs) d q))
+        (outside_short xs (behind_item ctx x w) d h.1 (max_right (item_depth x) (list_depth xs) d q)))
 
     outside_one : (x : Item) (w : Walk) (d : ℕ) → IsFewItem ctx.word K x → item_depth x ≤ d → Short d (outside_item ctx x w)
-    outside_one (Declares first after x) w d h q = behind_notes d (Before first) (locals ctx.word (kinded ctx.word x) x.names w) (short_locals d (kinded ctx.word x) x.names w h)
+    outside_one (Declares first after x) w d h q = behind_notes d (Before first) (locals ctx.word (kinded ctx.word x) x.names w)
+        (short_locals d (kinded ctx.word x) x.names w h)
     outside_one (States ls p) w d h q =
         short_if d (has_case ls || is_null ls p) (labels_items ctx (env_at ctx w) ls ++ plain_items ctx p w)
         (short_both d (labels_items ctx (env_at ctx w) ls) (plain_items ctx p w) (short_labels d w ls h.0) (plain_short p w d h.1 q))
 
-    from_short : (o : Option Reading) (xs : Items) (notes : List item.Item) (w : Walk) (d : ℕ) → ShortReading d o → Short d notes → AreFewItems ctx.word K xs → list_depth xs ≤ d → ShortSections d (sections_from ctx o xs notes w)
+    from_short : (o : Option Reading) (xs : Items) (notes : List item.Item) (w : Walk) (d : ℕ) → ShortReading d o → Short d notes →
+        AreFewItems ctx.word K xs → list_depth xs ≤ d → ShortSections d (sections_from ctx o xs notes w)
     from_short o NoItem notes w d r k h q = short_end d o notes r k
     from_short o (items.Then (Declares first after x) xs) notes w d r k h q =
         let l = locals ctx.word (kinded ctx.word x) x.names w in
         let new = notes_at ctx (Before first) ++ l in
-        from_short (extended o new) xs notes (declared_by ctx x w) d (short_extended d o new r (behind_notes d (Before first) l (short_locals d (kinded ctx.word x) x.names w h.0))) k h.1 (max_right 0 (list_depth xs) d q)
+        from_short (extended o new) xs notes (declared_by ctx x w) d
+        (short_extended d o new r (behind_notes d (Before first) l (short_locals d (kinded ctx.word x) x.names w h.0))) k h.1
+        (max_right 0 (list_depth xs) d q)
     from_short o (items.Then (States ls p) xs) notes w d r k h q =
         let v = behind_plain ctx p w in
         let env = env_at ctx w in
@@ -365,11 +409,14 @@ module _ (ctx : Context) (K : ℕ) where
         let rest = max_right (plain_depth p) (list_depth xs) d q in
         section_by d (has_case ls) o (sections_from ctx (begun ctx env ls ps) xs notes v) (sections_from ctx (extended o new) xs notes v) r
         (from_short (begun ctx env ls ps) xs notes v d (short_begun d w ls ps h.0.0 m) k h.1 rest)
-        (from_short (extended o new) xs notes v d (short_extended d o new r (short_both d (labels_items ctx env ls) ps (short_labels d w ls h.0.0) m)) k h.1 rest)
+        (from_short (extended o new) xs notes v d (short_extended d o new r (short_both d (labels_items ctx env ls) ps (short_labels d w ls h.0.0) m))
+        k h.1 rest)
 
-    at_short : (x : Item) (notes : List item.Item) (w : Walk) (d : ℕ) → Short d notes → IsFewItem ctx.word K x → item_depth x ≤ d → ShortSections d (sections_at ctx None x notes w)
+    at_short : (x : Item) (notes : List item.Item) (w : Walk) (d : ℕ) → Short d notes → IsFewItem ctx.word K x → item_depth x ≤ d →
+        ShortSections d (sections_at ctx None x notes w)
     at_short (Declares first after x) notes w d k h q = tt
     at_short (States ls p) notes w d k h q =
         let ps = plain_items ctx p w in
         let sections = begun ctx (env_at ctx w) ls ps in
-        lone_by d (has_case ls) (statements.sections_of sections notes) [] (short_end d sections notes (short_begun d w ls ps h.0 (plain_short p w d h.1 q)) k) tt
+        lone_by d (has_case ls) (statements.sections_of sections notes) []
+        (short_end d sections notes (short_begun d w ls ps h.0 (plain_short p w d h.1 q)) k) tt

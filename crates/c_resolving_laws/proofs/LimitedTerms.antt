@@ -41,23 +41,27 @@ max_right a b c h = omega arith
 
 pub depth_join : (a b : Forest) (d : ℕ) → depth a ≤ d → depth b ≤ d → depth (join a b) ≤ d
 depth_join Nil b d h k = k
-depth_join (tree.Then x a) b d h k = up_to (depth_of x) (depth (join a b)) d (max_left (depth_of x) (depth a) d h) (depth_join a b d (max_right (depth_of x) (depth a) d h) k)
+depth_join (tree.Then x a) b d h k = up_to (depth_of x) (depth (join a b)) d (max_left (depth_of x) (depth a) d h)
+    (depth_join a b d (max_right (depth_of x) (depth a) d h) k)
 
 pub most_join : (a b : Forest) (d : ℕ) → most_counted a ≤ d → most_counted b ≤ d → most_counted (join a b) ≤ d
 most_join Nil b d h k = k
-most_join (tree.Then x a) b d h k = up_to (most_counted_of x) (most_counted (join a b)) d (max_left (most_counted_of x) (most_counted a) d h) (most_join a b d (max_right (most_counted_of x) (most_counted a) d h) k)
+most_join (tree.Then x a) b d h k = up_to (most_counted_of x) (most_counted (join a b)) d (max_left (most_counted_of x) (most_counted a) d h)
+    (most_join a b d (max_right (most_counted_of x) (most_counted a) d h) k)
 
 pub depth_cut : (a : Forest) (d : ℕ) → depth a ≤ d → depth (without_end a) ≤ d
 depth_cut Nil d h = h
 depth_cut (tree.Then x Nil) d h = omega arith
 depth_cut (tree.Then x (tree.Then y a)) d h =
-    up_to (depth_of x) (depth (without_end (tree.Then y a))) d (max_left (depth_of x) (depth (tree.Then y a)) d h) (depth_cut (tree.Then y a) d (max_right (depth_of x) (depth (tree.Then y a)) d h))
+    up_to (depth_of x) (depth (without_end (tree.Then y a))) d (max_left (depth_of x) (depth (tree.Then y a)) d h)
+    (depth_cut (tree.Then y a) d (max_right (depth_of x) (depth (tree.Then y a)) d h))
 
 pub most_cut : (a : Forest) (d : ℕ) → most_counted a ≤ d → most_counted (without_end a) ≤ d
 most_cut Nil d h = h
 most_cut (tree.Then x Nil) d h = omega arith
 most_cut (tree.Then x (tree.Then y a)) d h =
-    up_to (most_counted_of x) (most_counted (without_end (tree.Then y a))) d (max_left (most_counted_of x) (most_counted (tree.Then y a)) d h) (most_cut (tree.Then y a) d (max_right (most_counted_of x) (most_counted (tree.Then y a)) d h))
+    up_to (most_counted_of x) (most_counted (without_end (tree.Then y a))) d (max_left (most_counted_of x) (most_counted (tree.Then y a)) d h)
+    (most_cut (tree.Then y a) d (max_right (most_counted_of x) (most_counted (tree.Then y a)) d h))
 
 -- ---- expressions
 
@@ -77,36 +81,49 @@ placeholder_few need n h =
 pub measured_few : (need n l : ℕ) (x : ExpressionTree) → Sized n l x → counted_at need x ≤ n + bracket_count l need
 measured_few need n l x h = let e : counted_at need x ≡ n + bracket_count l need = (λ i. h.counts i + bracket_count (h.level i) need) in omega arith
 
-pub value_few : (env : Env) (need : ℕ) (t : Term) → need ≤ 14 → counted_at need (expression_tree (value_at env t)) ≤ term_counted env.word t + bracket_count (term_level env.word t) need
+pub value_few : (env : Env) (need : ℕ) (t : Term) → need ≤ 14 → counted_at need (expression_tree (value_at env t)) ≤ term_counted env.word
+    t + bracket_count (term_level env.word t) need
 value_few env need t q = by (typed env t) (measured env t)
   where
-    by : (x : kinds.Typed) → Measured (term_counted env.word t) (term_level env.word t) x → counted_at need (expression_tree (or_placeholder (value_of x))) ≤ term_counted env.word t + bracket_count (term_level env.word t) need
-    by (T.Value v) h = measured_few need (term_counted env.word t) (term_level env.word t) (expression_tree (expression v)) (subst (Sized (term_counted env.word t) (term_level env.word t)) (sym (value_rolls v)) h)
+    by : (x : kinds.Typed) → Measured (term_counted env.word t) (term_level env.word t) x →
+        counted_at need (expression_tree (or_placeholder (value_of x))) ≤ term_counted env.word t + bracket_count (term_level env.word t) need
+    by (T.Value v) h = measured_few need (term_counted env.word t) (term_level env.word t) (expression_tree (expression v))
+        (subst (Sized (term_counted env.word t) (term_level env.word t)) (sym (value_rolls v)) h)
     by (T.Void a) h = placeholder_few need _ q
     by (T.Text bytes) h = placeholder_few need _ q
     by (T.Array a) h = placeholder_few need _ q
     by T.Wrong h = placeholder_few need _ q
 
-pub dropped_few : (env : Env) (need : ℕ) (t : Term) → need ≤ 14 → counted_at need (expression_tree (dropped_at env t)) ≤ term_counted env.word t + bracket_count (term_level env.word t) need
+pub dropped_few : (env : Env) (need : ℕ) (t : Term) → need ≤ 14 → counted_at need (expression_tree (dropped_at env t)) ≤ term_counted env.word
+    t + bracket_count (term_level env.word t) need
 dropped_few env need t q = by (typed env t) (measured env t)
   where
-    by : (x : kinds.Typed) → Measured (term_counted env.word t) (term_level env.word t) x → counted_at need (expression_tree (elim (dropped x) [ Some e ↦ e | None ↦ placeholder ])) ≤ term_counted env.word t + bracket_count (term_level env.word t) need
-    by (T.Value v) h = measured_few need (term_counted env.word t) (term_level env.word t) (expression_tree (expression v)) (subst (Sized (term_counted env.word t) (term_level env.word t)) (sym (value_rolls v)) h)
-    by (T.Void a) h = measured_few need (term_counted env.word t) (term_level env.word t) (expression_tree (expression_of None a)) (subst (Sized (term_counted env.word t) (term_level env.word t)) (sym (void_rolls a)) h)
+    by : (x : kinds.Typed) → Measured (term_counted env.word t) (term_level env.word t) x →
+        counted_at need (expression_tree (elim (dropped x) [ Some e ↦ e | None ↦ placeholder ])) ≤ term_counted env.word t + bracket_count
+        (term_level env.word t) need
+    by (T.Value v) h = measured_few need (term_counted env.word t) (term_level env.word t) (expression_tree (expression v))
+        (subst (Sized (term_counted env.word t) (term_level env.word t)) (sym (value_rolls v)) h)
+    by (T.Void a) h = measured_few need (term_counted env.word t) (term_level env.word t) (expression_tree (expression_of None a))
+        (subst (Sized (term_counted env.word t) (term_level env.word t)) (sym (void_rolls a)) h)
     by (T.Text bytes) h = placeholder_few need _ q
     by (T.Array a) h = placeholder_few need _ q
     by T.Wrong h = placeholder_few need _ q
 
-pub constant_few : (env : Env) (need : ℕ) (t : Term) → need ≤ 14 → counted_at need (expression_tree (constant_at env t)) ≤ term_counted env.word t + bracket_count (term_level env.word t) need
+pub constant_few : (env : Env) (need : ℕ) (t : Term) → need ≤ 14 → counted_at need (expression_tree (constant_at env t)) ≤ term_counted env.word
+    t + bracket_count (term_level env.word t) need
 constant_few env need t q = by (typed env t) (measured env t)
   where
-    by : (x : kinds.Typed) → Measured (term_counted env.word t) (term_level env.word t) x → counted_at need (expression_tree (constant_or_placeholder (constant_of x))) ≤ term_counted env.word t + bracket_count (term_level env.word t) need
+    by : (x : kinds.Typed) → Measured (term_counted env.word t) (term_level env.word t) x →
+        counted_at need (expression_tree (constant_or_placeholder (constant_of x))) ≤ term_counted env.word t + bracket_count (term_level env.word t) need
     by (T.Value v) h =
         either (is_constant (expression_tree (expression v))) (constant_value (expression_tree (expression v)))
-        (measured_few need (term_counted env.word t) (term_level env.word t) (expression_tree (expression v)) (subst (Sized (term_counted env.word t) (term_level env.word t)) (sym (value_rolls v)) h))
+        (measured_few need (term_counted env.word t) (term_level env.word t) (expression_tree (expression v))
+        (subst (Sized (term_counted env.word t) (term_level env.word t)) (sym (value_rolls v)) h))
       where
-        either : (b : Bool) (o : Option ℤ) → counted_at need (expression_tree (expression v)) ≤ term_counted env.word t + bracket_count (term_level env.word t) need
-            → counted_at need (expression_tree (constant_or_placeholder (cond b (option_map (λ n. (expression v, n)) o) None))) ≤ term_counted env.word t + bracket_count (term_level env.word t) need
+        either : (b : Bool) (o : Option ℤ) → counted_at need (expression_tree (expression v)) ≤ term_counted env.word t + bracket_count
+            (term_level env.word t) need
+            → counted_at need (expression_tree (constant_or_placeholder (cond b (option_map (λ n. (expression v, n)) o) None))) ≤ term_counted
+            env.word t + bracket_count (term_level env.word t) need
         either true (Some z) k = k
         either true None k = placeholder_few need _ q
         either false o k = placeholder_few need _ q

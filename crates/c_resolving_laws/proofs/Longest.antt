@@ -26,14 +26,19 @@ module _ (ctx : Context) (L : ℕ) where
 
   named_short : (ls : List Label) (rest : List ℕ) → longest_label ctx.word ls ≤ L → Each Short rest → Each Short (named_in ls rest)
   named_short [] rest h r = r
-  named_short (Named at after ∷ ls) rest h r = (max_left (length (ctx.word at)) (longest_label ctx.word ls) L h, named_short ls rest (max_right (length (ctx.word at)) (longest_label ctx.word ls) L h) r)
+  named_short (Named at after ∷ ls) rest h r = (
+    max_left (length (ctx.word at)) (longest_label ctx.word ls) L h,
+    named_short ls rest
+        (max_right (length (ctx.word at)) (longest_label ctx.word ls) L h) r,
+  )
   named_short (Case at after t ∷ ls) rest h r = named_short ls rest (max_right 0 (longest_label ctx.word ls) L h) r
   named_short (Default at after ∷ ls) rest h r = named_short ls rest (max_right 0 (longest_label ctx.word ls) L h) r
 
   mutual
     pub item_names : (x : Item) (rest : List ℕ) → item_longest ctx.word x ≤ L → Each Short rest → Each Short (item_labels x rest)
     item_names (Declares first after d) rest h r = r
-    item_names (States ls p) rest h r = named_short ls (plain_labels p rest) (max_left (longest_label ctx.word ls) (plain_longest ctx.word p) L h) (plain_names p rest (max_right (longest_label ctx.word ls) (plain_longest ctx.word p) L h) r)
+    item_names (States ls p) rest h r = named_short ls (plain_labels p rest) (max_left (longest_label ctx.word ls) (plain_longest ctx.word p) L h)
+        (plain_names p rest (max_right (longest_label ctx.word ls) (plain_longest ctx.word p) L h) r)
 
     plain_names : (p : Plain) (rest : List ℕ) → plain_longest ctx.word p ≤ L → Each Short rest → Each Short (plain_labels p rest)
     plain_names (From first after s) rest h r = statement_names s rest h r
@@ -42,7 +47,8 @@ module _ (ctx : Context) (L : ℕ) where
     statement_names Null rest h r = r
     statement_names (Evaluate t) rest h r = r
     statement_names (If t b) rest h r = body_names b rest h r
-    statement_names (IfElse t b c) rest h r = body_names b (body_labels c rest) (max_left (body_longest ctx.word b) (body_longest ctx.word c) L h) (body_names c rest (max_right (body_longest ctx.word b) (body_longest ctx.word c) L h) r)
+    statement_names (IfElse t b c) rest h r = body_names b (body_labels c rest) (max_left (body_longest ctx.word b) (body_longest ctx.word c) L h)
+        (body_names c rest (max_right (body_longest ctx.word b) (body_longest ctx.word c) L h) r)
     statement_names (While t b) rest h r = body_names b rest h r
     statement_names (DoWhile b t) rest h r = body_names b rest h r
     statement_names (For start t u b) rest h r = body_names b rest (max_right (start_longest ctx.word start) (body_longest ctx.word b) L h) r
@@ -60,7 +66,8 @@ module _ (ctx : Context) (L : ℕ) where
 
     list_names : (xs : Items) (rest : List ℕ) → list_longest ctx.word xs ≤ L → Each Short rest → Each Short (list_labels xs rest)
     list_names NoItem rest h r = r
-    list_names (items.Then x xs) rest h r = item_names x (list_labels xs rest) (max_left (item_longest ctx.word x) (list_longest ctx.word xs) L h) (list_names xs rest (max_right (item_longest ctx.word x) (list_longest ctx.word xs) L h) r)
+    list_names (items.Then x xs) rest h r = item_names x (list_labels xs rest) (max_left (item_longest ctx.word x) (list_longest ctx.word xs) L h)
+        (list_names xs rest (max_right (item_longest ctx.word x) (list_longest ctx.word xs) L h) r)
 
   -- ---- variables
 
@@ -74,7 +81,11 @@ module _ (ctx : Context) (L : ℕ) where
   locals_short k [] w h = not_grown ShortName w.slots
   locals_short k (d ∷ ds) w h =
       grown_twice ShortName w.slots (w.slots ++ slot_of (env_in ctx.word w) k d ∷ []) (all_declared ctx.word k (d ∷ ds) w).slots
-      (record { more = slot_of (env_in ctx.word w) k d ∷ []; whole = refl; good = (max_left (length (ctx.word d.name)) (longest_declared ctx.word ds) L h, tt) })
+      (record {
+        more = slot_of (env_in ctx.word w) k d ∷ [];
+        whole = refl;
+        good = (max_left (length (ctx.word d.name)) (longest_declared ctx.word ds) L h, tt);
+      })
       (locals_short k ds (declared ctx.word k d w) (max_right (length (ctx.word d.name)) (longest_declared ctx.word ds) L h))
 
   start_short : (start : Start) (w : Walk) → start_longest ctx.word start ≤ L → Grows w (behind_start ctx start w)
@@ -96,12 +107,16 @@ module _ (ctx : Context) (L : ℕ) where
     statement_slots (If t b) w h = body_slots b w h
     statement_slots (IfElse t b c) w h =
         let v = behind_body ctx b w in
-        grown_twice ShortName w.slots v.slots (behind_body ctx c v).slots (body_slots b w (max_left (body_longest ctx.word b) (body_longest ctx.word c) L h)) (body_slots c v (max_right (body_longest ctx.word b) (body_longest ctx.word c) L h))
+        grown_twice ShortName w.slots v.slots (behind_body ctx c v).slots
+        (body_slots b w (max_left (body_longest ctx.word b) (body_longest ctx.word c) L h))
+        (body_slots c v (max_right (body_longest ctx.word b) (body_longest ctx.word c) L h))
     statement_slots (While t b) w h = body_slots b w h
     statement_slots (DoWhile b t) w h = body_slots b w h
     statement_slots (For start t u b) w h =
         let v = behind_start ctx start (enter w) in
-        grown_twice ShortName w.slots v.slots (behind_body ctx b v).slots (start_short start (enter w) (max_left (start_longest ctx.word start) (body_longest ctx.word b) L h)) (body_slots b v (max_right (start_longest ctx.word start) (body_longest ctx.word b) L h))
+        grown_twice ShortName w.slots v.slots (behind_body ctx b v).slots
+        (start_short start (enter w) (max_left (start_longest ctx.word start) (body_longest ctx.word b) L h))
+        (body_slots b v (max_right (start_longest ctx.word start) (body_longest ctx.word b) L h))
     statement_slots (Switch t b) w h = body_slots b w h
     statement_slots (Block b) w h = body_slots b w h
     statement_slots (Goto at) w h = not_grown ShortName w.slots
@@ -118,4 +133,6 @@ module _ (ctx : Context) (L : ℕ) where
     list_slots NoItem w h = not_grown ShortName w.slots
     list_slots (items.Then x xs) w h =
         let v = behind_item ctx x w in
-        grown_twice ShortName w.slots v.slots (behind_items ctx xs v).slots (item_slots x w (max_left (item_longest ctx.word x) (list_longest ctx.word xs) L h)) (list_slots xs v (max_right (item_longest ctx.word x) (list_longest ctx.word xs) L h))
+        grown_twice ShortName w.slots v.slots (behind_items ctx xs v).slots
+        (item_slots x w (max_left (item_longest ctx.word x) (list_longest ctx.word xs) L h))
+        (list_slots xs v (max_right (item_longest ctx.word x) (list_longest ctx.word xs) L h))

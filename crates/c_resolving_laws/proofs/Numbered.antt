@@ -50,7 +50,8 @@ pub apart : (q v : ℤ) (seen : List ℤ) → is_among q (with_value v seen) ≡
 apart q v [] e = (refl, differs q v (or_left (is_eq (int_cmp q v)) false e))
 apart q v (x ∷ xs) e = by (int_cmp v x) refl e (apart q v xs)
   where
-    by : (o : Ordering) → int_cmp v x ≡ o → is_among q (match_ordering o (v ∷ x ∷ xs) (x ∷ xs) (x ∷ with_value v xs)) ≡ false → (is_among q (with_value v xs) ≡ false → (is_among q xs ≡ false) × (q ≢ v)) → (is_among q (x ∷ xs) ≡ false) × (q ≢ v)
+    by : (o : Ordering) → int_cmp v x ≡ o → is_among q (match_ordering o (v ∷ x ∷ xs) (x ∷ xs) (x ∷ with_value v xs)) ≡ false →
+        (is_among q (with_value v xs) ≡ false → (is_among q xs ≡ false) × (q ≢ v)) → (is_among q (x ∷ xs) ≡ false) × (q ≢ v)
     by Less i e r = (or_right (is_eq (int_cmp q v)) (is_among q (x ∷ xs)) e, differs q v (or_left (is_eq (int_cmp q v)) (is_among q (x ∷ xs)) e))
     by Equal i e r = (e, λ s. differs q x (or_left (is_eq (int_cmp q x)) (is_among q xs) e) (s ∙ equal_is v x (int_cmp v x) (int_ranks v x) i))
     by Greater i e r =
@@ -84,8 +85,15 @@ compared K seen default (Value at v ∷ es) e =
     let r = compared K (with_value n seen) default es p.1 in
     record {
       single = r.single;
-      new = (c.1, each_map (λ q. is_among q (with_value n seen) ≡ false) (λ q. is_among q seen ≡ false) (λ q h. (apart q n seen h).0) (map (converted K) (vals es)) r.new);
-      differ = (each_map (λ q. is_among q (with_value n seen) ≡ false) (λ q. q ≢ n) (λ q h. (apart q n seen h).1) (map (converted K) (vals es)) r.new, r.differ);
+      new = (
+        c.1,
+        each_map (λ q. is_among q (with_value n seen) ≡ false) (λ q. is_among q seen ≡ false) (λ q h. (apart q n seen h).0)
+            (map (converted K) (vals es)) r.new,
+      );
+      differ = (
+        each_map (λ q. is_among q (with_value n seen) ≡ false) (λ q. q ≢ n) (λ q h. (apart q n seen h).1) (map (converted K) (vals es)) r.new,
+        r.differ,
+      );
     }
 compared K seen default (Other at ∷ es) e =
     let p = parted (entry_faults K seen true es) (fault_if default at 31) (entries_empty K seen true es) e in
@@ -128,23 +136,29 @@ pub record Passes (cs : List ExpressionTree) (d : Bool) (old new : List SectionT
   pub cases : CS new ≡ cs ++ CS old
   pub defaults : DS new ≤ cond d 1 0 + DS old
 
-pub front_section : (cs : List ExpressionTree) (d : Bool) (s : SectionTree) (ts more : List SectionTree) → CS more ≡ CS ts → DS more ≤ DS ts → Passes cs d (s ∷ ts) (with_entries cs d s ∷ more)
+pub front_section : (cs : List ExpressionTree) (d : Bool) (s : SectionTree) (ts more : List SectionTree) → CS more ≡ CS ts → DS more ≤ DS ts →
+    Passes cs d (s ∷ ts) (with_entries cs d s ∷ more)
 front_section cs d s ts more e l = record {
-  cases = cs_cons (with_entries cs d s) more ∙ (ap (λ x. (cs ++ s.cases) ++ (CL s.list ++ x)) e ∙ (append_assoc cs s.cases (CL s.list ++ CS ts) ∙ ap (λ x. cs ++ x) (sym (cs_cons s ts))));
+  cases = cs_cons (with_entries cs d s) more ∙ (ap (λ x. (cs ++ s.cases) ++ (CL s.list ++ x)) e ∙
+      (append_assoc cs s.cases (CL s.list ++ CS ts) ∙ ap (λ x. cs ++ x) (sym (cs_cons s ts))));
   defaults = let a = ds_cons (with_entries cs d s) more in let b = ds_cons s ts in let c = either_default d s.default in omega arith;
 }
 
-pub empty_section : (cs : List ExpressionTree) (d : Bool) (s : SectionTree) (ts new : List SectionTree) → passes s ≡ true → Passes (cs ++ s.cases) (d || s.default) ts new → Passes cs d (s ∷ ts) new
+pub empty_section : (cs : List ExpressionTree) (d : Bool) (s : SectionTree) (ts new : List SectionTree) → passes s ≡ true →
+    Passes (cs ++ s.cases) (d || s.default) ts new → Passes cs d (s ∷ ts) new
 empty_section cs d s ts new e p = record {
-  cases = p.cases ∙ (append_assoc cs s.cases (CS ts) ∙ ap (λ x. cs ++ x) (sym (cs_cons s ts ∙ ap (λ x. s.cases ++ (x ++ CS ts)) (ap cases_among (none s.list s.ends e)))));
-  defaults = let a = ds_cons s ts in let b = ap defaults_among (none s.list s.ends e) in let c = either_default d s.default in let h = p.defaults in omega arith;
+  cases = p.cases ∙ (append_assoc cs s.cases (CS ts) ∙ ap (λ x. cs ++ x)
+      (sym (cs_cons s ts ∙ ap (λ x. s.cases ++ (x ++ CS ts)) (ap cases_among (none s.list s.ends e)))));
+  defaults = let a = ds_cons s ts in let b = ap defaults_among (none s.list s.ends e) in let c = either_default d s.default in let h = p.defaults in
+      omega arith;
 }
   where
     none : (a : Forest) (ends : Bool) → ◌≡◌ {A = Bool} (elim a [ Nil ↦ not ends | tree.Then x xs ↦ false ]) true → arrivals a ≡ []
     none Nil ends e = refl
     none (tree.Then x a) ends e = absurd (true≢false (sym e))
 
-pub passed_by : (cs : List ExpressionTree) (d : Bool) (s : SectionTree) (ts : List SectionTree) (b : Bool) → passes s ≡ b → ((es : List ExpressionTree) (e : Bool) → Passes es e ts (passed_trees es e ts))
+pub passed_by : (cs : List ExpressionTree) (d : Bool) (s : SectionTree) (ts : List SectionTree) (b : Bool) → passes s ≡ b →
+    ((es : List ExpressionTree) (e : Bool) → Passes es e ts (passed_trees es e ts))
     → Passes cs d (s ∷ ts) (elim b [ true ↦ passed_trees (cs ++ s.cases) (d || s.default) ts | false ↦ with_entries cs d s ∷ passed_trees [] false ts ])
 passed_by cs d s ts true e f = empty_section cs d s ts (passed_trees (cs ++ s.cases) (d || s.default) ts) e (f (cs ++ s.cases) (d || s.default))
 passed_by cs d s ts false e f = let r = f [] false in front_section cs d s ts (passed_trees [] false ts) r.cases (let h = r.defaults in omega arith)

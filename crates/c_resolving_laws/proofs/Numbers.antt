@@ -38,7 +38,8 @@ chosen : (P : IntKind → Type 0) (b : Bool) (k : IntKind) (o : Option IntKind) 
 chosen P true k o f h = f refl
 chosen P false k o f h = h
 
-found_held : (v : ℕ) (kinds : List IntKind) → Each IsConstantKind kinds → IfSome (find (λ kind. int_le (pos v) (greatest kind)) kinds) (λ kind. IsNumberOf kind v)
+found_held : (v : ℕ) (kinds : List IntKind) → Each IsConstantKind kinds →
+    IfSome (find (λ kind. int_le (pos v) (greatest kind)) kinds) (λ kind. IsNumberOf kind v)
 found_held v [] h = tt
 found_held v (kind ∷ kinds) h = chosen (λ k. IsNumberOf k v) (int_le (pos v) (greatest kind)) kind _ (held kind v h.0) (found_held v kinds h.1)
 

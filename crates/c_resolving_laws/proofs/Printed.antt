@@ -133,13 +133,15 @@ module _ (slots : List Slot) where
   variable_prints : (at : ℕ) (x : Variable) → NamedVariable x → Printed (variable at x)
   variable_prints at x h = by x.shape.array
     where
-      by : (b : Bool) → Printed (cond b (T.Array (record { token = at; home = x.home; kind = x.shape.kind; constant = x.shape.constant })) (of_kind x.shape.kind (node.Read (place.Var x.home))))
+      by : (b : Bool) → Printed (cond b (T.Array (record { token = at; home = x.home; kind = x.shape.kind; constant = x.shape.constant }))
+          (of_kind x.shape.kind (node.Read (place.Var x.home))))
       by true = h
       by false = read_prints (Some (target (place.Var x.home) x.shape)) (var_prints x h)
 
   unary_prints : (op : UnaryOp) (o : Option Valued) → IfSome o PrintedValue → Printed (unary op o)
   unary_prints op None h = tt
-  unary_prints op (Some a) h = subst (λ x. Prints slots (Typed (Some (unary_kind op a.kind)) x)) (sym (node-Unary op (expression a) ∙ ap (Unary op) (value_rolls a))) h
+  unary_prints op (Some a) h = subst (λ x. Prints slots (Typed (Some (unary_kind op a.kind)) x))
+      (sym (node-Unary op (expression a) ∙ ap (Unary op) (value_rolls a))) h
 
   counting_prints : (up after : Bool) (o : Option Target) → IfSome o PrintedTarget → Printed (counting up after o)
   counting_prints up after None h = tt
@@ -158,9 +160,11 @@ module _ (slots : List Slot) where
   binary_prints op (Some a) None h k = tt
   binary_prints op (Some a) (Some b) h k =
       subst (λ x. Prints slots (Typed (Some (binary_kind op a.kind b.kind)) x))
-      (sym (node-Binary op (expression a) (expression b) ∙ (ap (λ x. Binary op x (expression_tree (expression b))) (value_rolls a) ∙ ap (Binary op (value_tree a)) (value_rolls b)))) (h, k)
+      (sym (node-Binary op (expression a) (expression b) ∙ (ap (λ x. Binary op x (expression_tree (expression b))) (value_rolls a) ∙
+      ap (Binary op (value_tree a)) (value_rolls b)))) (h, k)
 
-  choice_node : (a b c : Valued) → node_tree (node.Conditional (expression a) (expression b) (expression c)) ≡ Conditional (value_tree a) (value_tree b) (value_tree c)
+  choice_node : (a b c : Valued) → node_tree (node.Conditional (expression a) (expression b) (expression c)) ≡ Conditional (value_tree a)
+      (value_tree b) (value_tree c)
   choice_node a b c = rw (node-Conditional (expression a) (expression b) (expression c), value_rolls a, value_rolls b, value_rolls c) refl
 
   choice_prints : (o u w : Option Valued) → IfSome o PrintedValue → IfSome u PrintedValue → IfSome w PrintedValue → Printed (choice o u w)
@@ -169,15 +173,20 @@ module _ (slots : List Slot) where
   choice_prints (Some a) (Some b) None h k l = tt
   choice_prints (Some a) (Some b) (Some c) h k l = subst (λ x. Prints slots (Typed (Some (usual_kind b.kind c.kind)) x)) (sym (choice_node a b c)) (h, k, l)
 
-  assignment_prints : (op : Option ArithOp) (o : Option Target) (u : Option Valued) → IfSome o PrintedTarget → IfSome u PrintedValue → Printed (assignment op o u)
+  assignment_prints : (op : Option ArithOp) (o : Option Target) (u : Option Valued) → IfSome o PrintedTarget → IfSome u PrintedValue →
+      Printed (assignment op o u)
   assignment_prints op None u h k = tt
   assignment_prints op (Some t) None h k = tt
-  assignment_prints None (Some t) (Some a) h k = subst (λ x. Prints slots (Typed (Some t.kind) x)) (sym (node-Assign t.place (expression a) ∙ ap (Assign (place_tree t.place)) (value_rolls a))) (h, k)
-  assignment_prints (Some op) (Some t) (Some a) h k = subst (λ x. Prints slots (Typed (Some t.kind) x)) (sym (node-Update op t.place (expression a) ∙ ap (Update op (place_tree t.place)) (value_rolls a))) (h, k)
+  assignment_prints None (Some t) (Some a) h k = subst (λ x. Prints slots (Typed (Some t.kind) x))
+      (sym (node-Assign t.place (expression a) ∙ ap (Assign (place_tree t.place)) (value_rolls a))) (h, k)
+  assignment_prints (Some op) (Some t) (Some a) h k = subst (λ x. Prints slots (Typed (Some t.kind) x))
+      (sym (node-Update op t.place (expression a) ∙ ap (Update op (place_tree t.place)) (value_rolls a))) (h, k)
 
   left_prints : (a : Expression) (b : kinds.Typed) → PrintedDropped a → Printed b → Printed (with_left a b)
-  left_prints a (T.Value b) h k = subst (λ x. Prints slots (Typed (Some b.kind) x)) (sym (node-Comma a (expression b) ∙ ap (Comma (expression_tree a)) (value_rolls b))) (h, k)
-  left_prints a (T.Void b) h k = subst (λ x. Prints slots (Typed None x)) (sym (node-Comma a (expression_of None b) ∙ ap (Comma (expression_tree a)) (void_rolls b))) (h, k)
+  left_prints a (T.Value b) h k = subst (λ x. Prints slots (Typed (Some b.kind) x))
+      (sym (node-Comma a (expression b) ∙ ap (Comma (expression_tree a)) (value_rolls b))) (h, k)
+  left_prints a (T.Void b) h k = subst (λ x. Prints slots (Typed None x))
+      (sym (node-Comma a (expression_of None b) ∙ ap (Comma (expression_tree a)) (void_rolls b))) (h, k)
   left_prints a (T.Text bytes) h k = tt
   left_prints a (T.Array b) h k = tt
   left_prints a T.Wrong h k = tt
@@ -196,7 +205,8 @@ module _ (slots : List Slot) where
   as_argument (Typed kind (Text bytes)) h = absurd h
   as_argument (Typed kind _) h = h
 
-  argument_prints : (x : kinds.Typed) → Printed x → (rest : List Expression) → AllPrint slots (arguments (map expression_tree rest)) → AllPrint slots (arguments (map expression_tree (handed x ++ rest)))
+  argument_prints : (x : kinds.Typed) → Printed x → (rest : List Expression) → AllPrint slots (arguments (map expression_tree rest)) →
+      AllPrint slots (arguments (map expression_tree (handed x ++ rest)))
   argument_prints (T.Value v) h rest k = let p = subst (Prints slots) (sym (value_rolls v)) h in (as_argument (expression_tree (expression v)) p, k)
   argument_prints (T.Array a) h rest k =
       let e = expression_rolls (record { kind = Some a.kind; node = node.Array a.home }) ∙ ap (Typed (Some a.kind)) (node-Array a.home) in
@@ -210,18 +220,21 @@ module _ (slots : List Slot) where
   all_print [] h = tt
   all_print (g ∷ gs) h = argument_prints g.typed h.0 (all_handed gs) (all_print gs h.1)
 
-  result_prints : (result : Option IntKind) (m : List ℕ) (es : List Expression) → IsName m → AllPrint slots (arguments (map expression_tree es)) → Printed (of_result result (node.Call m es))
+  result_prints : (result : Option IntKind) (m : List ℕ) (es : List Expression) → IsName m → AllPrint slots (arguments (map expression_tree es)) →
+      Printed (of_result result (node.Call m es))
   result_prints (Some k) m es i h = subst (λ x. Prints slots (Typed (Some k) x)) (sym (node-Call m es)) (i, h)
   result_prints None m es i h = subst (λ x. Prints slots (Typed None x)) (sym (node-Call m es)) (i, h)
 
-  call_prints : (result : Option IntKind) (m : List ℕ) (front : List Expression) (ws : List Want) (gs : List Given) → IsName m → AllPrint slots (arguments (map expression_tree (front ++ all_handed gs))) → Printed (call result m front ws gs)
+  call_prints : (result : Option IntKind) (m : List ℕ) (front : List Expression) (ws : List Want) (gs : List Given) → IsName m →
+      AllPrint slots (arguments (map expression_tree (front ++ all_handed gs))) → Printed (call result m front ws gs)
   call_prints result m front ws gs i h = by (all_fit ws gs)
     where
       by : (b : Bool) → Printed (cond b (of_result result (node.Call m (front ++ all_handed gs))) T.Wrong)
       by true = result_prints result m (front ++ all_handed gs) i h
       by false = tt
 
-  printing_prints : (m bytes : List ℕ) (o : Option (List Want)) (gs : List Given) → IsName m → AreBytes bytes → Each PrintedGiven gs → Printed (printing m bytes o gs)
+  printing_prints : (m bytes : List ℕ) (o : Option (List Want)) (gs : List Given) → IsName m → AreBytes bytes → Each PrintedGiven gs →
+      Printed (printing m bytes o gs)
   printing_prints m bytes None gs i b h = tt
   printing_prints m bytes (Some ws) gs i b h =
       let e = void_rolls (node.Text bytes) ∙ ap (Typed None) (node-Text bytes) in
@@ -281,17 +294,24 @@ module _ (n : Names) (ss : List Scope) (env : Env) (knows : Knows n ss env) wher
     form_printed (s.Cell at i) r =
         let m = env.word at in
         let o = variable_of m (meaning env at) in
-        read_prints n.slots (cell_target o (value_of (typed env i))) (cell_target_prints n.slots o (value_of (typed env i)) (variable_named m (meaning env at) r.0 (knows m)) (value_prints n.slots (typed env i) (printed i r.1)))
+        read_prints n.slots (cell_target o (value_of (typed env i)))
+        (cell_target_prints n.slots o (value_of (typed env i)) (variable_named m (meaning env at) r.0 (knows m))
+        (value_prints n.slots (typed env i) (printed i r.1)))
     form_printed (s.Prefix m a) r = prefix_prints (step_of (mark_of (env.word m))) (unary_op (mark_of (env.word m))) a (printed a r.1) (target_printed a r.1)
-    form_printed (s.Suffix m a) r = counting_prints n.slots (counts_up (mark_of (env.word m))) true (writable (target_of env a)) (writable_prints n.slots (target_of env a) (target_printed a r.1))
+    form_printed (s.Suffix m a) r = counting_prints n.slots (counts_up (mark_of (env.word m))) true (writable (target_of env a))
+        (writable_prints n.slots (target_of env a) (target_printed a r.1))
     form_printed (s.CastTo words a) r = cast_prints n.slots (kind_of env.word words) (value_of (typed env a)) (value_prints n.slots (typed env a) (printed a r))
     form_printed (s.CastVoid a) r = cast_void_prints n.slots (dropped (typed env a)) (dropped_prints n.slots (typed env a) (printed a r))
     form_printed (s.Binary m a b) r =
-        binary_prints n.slots (binary_op (mark_of (env.word m))) (value_of (typed env a)) (value_of (typed env b)) (value_prints n.slots (typed env a) (printed a r.0)) (value_prints n.slots (typed env b) (printed b r.1))
+        binary_prints n.slots (binary_op (mark_of (env.word m))) (value_of (typed env a)) (value_of (typed env b))
+        (value_prints n.slots (typed env a) (printed a r.0)) (value_prints n.slots (typed env b) (printed b r.1))
     form_printed (s.Choice a b c) r =
-        choice_prints n.slots (value_of (typed env a)) (value_of (typed env b)) (value_of (typed env c)) (value_prints n.slots (typed env a) (printed a r.0)) (value_prints n.slots (typed env b) (printed b r.1)) (value_prints n.slots (typed env c) (printed c r.2))
+        choice_prints n.slots (value_of (typed env a)) (value_of (typed env b)) (value_of (typed env c))
+        (value_prints n.slots (typed env a) (printed a r.0)) (value_prints n.slots (typed env b) (printed b r.1))
+        (value_prints n.slots (typed env c) (printed c r.2))
     form_printed (s.Assign m t a) r =
-        assignment_prints n.slots (update_op (mark_of (env.word m))) (writable (target_of env t)) (value_of (typed env a)) (writable_prints n.slots (target_of env t) (target_printed t r.1)) (value_prints n.slots (typed env a) (printed a r.2))
+        assignment_prints n.slots (update_op (mark_of (env.word m))) (writable (target_of env t)) (value_of (typed env a))
+        (writable_prints n.slots (target_of env t) (target_printed t r.1)) (value_prints n.slots (typed env a) (printed a r.2))
     form_printed (s.Commas a bs) r = commas_printed bs (typed env a) (printed a r.0) r.1
     form_printed (s.Call at xs) r = called_prints n.slots (env.word at) (meaning env at) (given env xs) r.0 (given_printed xs r.1)
     form_printed (s.Texts ats) r = r
@@ -299,13 +319,16 @@ module _ (n : Names) (ss : List Scope) (env : Env) (knows : Knows n ss env) wher
 
     commas_printed : (bs : Terms) (a : kinds.Typed) → Printed n.slots a → AreReadTerms env.word bs → Printed n.slots (commas env a bs)
     commas_printed NoTerm a h r = h
-    commas_printed (Then b bs) a h r = commas_printed bs (comma (dropped a) (typed env b)) (comma_prints n.slots (dropped a) (typed env b) (dropped_prints n.slots a h) (printed b r.0)) r.1
+    commas_printed (Then b bs) a h r = commas_printed bs (comma (dropped a) (typed env b))
+        (comma_prints n.slots (dropped a) (typed env b) (dropped_prints n.slots a h) (printed b r.0)) r.1
 
     target_printed : (t : Term) → IsReadTerm env.word t → IfSome (target_of env t) (PrintedTarget n.slots)
-    target_printed (At first (s.Variable at)) r = number_target_prints n.slots (variable_of (env.word at) (meaning env at)) (variable_named (env.word at) (meaning env at) r (knows (env.word at)))
+    target_printed (At first (s.Variable at)) r = number_target_prints n.slots (variable_of (env.word at) (meaning env at))
+        (variable_named (env.word at) (meaning env at) r (knows (env.word at)))
     target_printed (At first (s.Cell at i)) r =
         let m = env.word at in
-        cell_target_prints n.slots (variable_of m (meaning env at)) (value_of (typed env i)) (variable_named m (meaning env at) r.0 (knows m)) (value_prints n.slots (typed env i) (printed i r.1))
+        cell_target_prints n.slots (variable_of m (meaning env at)) (value_of (typed env i)) (variable_named m (meaning env at) r.0 (knows m))
+        (value_prints n.slots (typed env i) (printed i r.1))
     target_printed (At first _) r = tt
 
     given_printed : (xs : Terms) → AreReadTerms env.word xs → Each (PrintedGiven n.slots) (given env xs)

@@ -46,7 +46,8 @@ use Rattle.c_resolving_laws.proofs.Walk.{Begins, Closed}
 
 module _ (slots : List Slot) where
   placeholder_prints : Prints slots (expression_tree placeholder)
-  placeholder_prints = subst (Prints slots) (sym (expression_rolls (record { kind = Some Int; node = node.Number (pos 0) }) ∙ ap (Typed (Some Int)) (node-Number (pos 0)))) (zero_prints slots)
+  placeholder_prints = subst (Prints slots)
+      (sym (expression_rolls (record { kind = Some Int; node = node.Number (pos 0) }) ∙ ap (Typed (Some Int)) (node-Number (pos 0)))) (zero_prints slots)
 
   value_by : (x : kinds.Typed) → Printed slots x → Prints slots (expression_tree (or_placeholder (value_of x)))
   value_by (T.Value v) h = subst (Prints slots) (sym (value_rolls v)) h
@@ -62,13 +63,15 @@ module _ (slots : List Slot) where
   dropped_by (T.Array a) h = placeholder_prints
   dropped_by T.Wrong h = placeholder_prints
 
-  chosen_by : (e : Expression) (b : Bool) (o : Option ℤ) → Prints slots (expression_tree e) → Prints slots (expression_tree (constant_or_placeholder (cond b (option_map (λ n. (e, n)) o) None)))
+  chosen_by : (e : Expression) (b : Bool) (o : Option ℤ) → Prints slots (expression_tree e) →
+      Prints slots (expression_tree (constant_or_placeholder (cond b (option_map (λ n. (e, n)) o) None)))
   chosen_by e true (Some z) h = h
   chosen_by e true None h = placeholder_prints
   chosen_by e false o h = placeholder_prints
 
   constant_by : (x : kinds.Typed) → Printed slots x → Prints slots (expression_tree (constant_or_placeholder (constant_of x)))
-  constant_by (T.Value v) h = chosen_by (expression v) (is_constant (expression_tree (expression v))) (constant_value (expression_tree (expression v))) (subst (Prints slots) (sym (value_rolls v)) h)
+  constant_by (T.Value v) h = chosen_by (expression v) (is_constant (expression_tree (expression v)))
+      (constant_value (expression_tree (expression v))) (subst (Prints slots) (sym (value_rolls v)) h)
   constant_by (T.Void a) h = placeholder_prints
   constant_by (T.Text bytes) h = placeholder_prints
   constant_by (T.Array a) h = placeholder_prints
@@ -110,23 +113,27 @@ module _ (n : Names) (ss : List Scopes.Scope) (env : Env) (knows : Knows n ss en
   drops_print None r = tt
   drops_print (Some t) r = dropped_prints t r
 
-  list_prints : (v : Term → Expression) → ((t : Term) → IsReadTerm env.word t → Prints n.slots (expression_tree (v t))) → (ts : List Term) → Each (IsReadTerm env.word) ts → Each (Prints n.slots) (expression_trees (map v ts))
+  list_prints : (v : Term → Expression) → ((t : Term) → IsReadTerm env.word t → Prints n.slots (expression_tree (v t))) → (ts : List Term) →
+      Each (IsReadTerm env.word) ts → Each (Prints n.slots) (expression_trees (map v ts))
   list_prints v f [] r = tt
   list_prints v f (t ∷ ts) r = (f t r.0, list_prints v f ts r.1)
 
-  pub given_prints : (v : Term → Expression) → ((t : Term) → IsReadTerm env.word t → Prints n.slots (expression_tree (v t))) → (i : Initialiser) → IsReadInitialiser env.word i
+  pub given_prints : (v : Term → Expression) → ((t : Term) → IsReadTerm env.word t → Prints n.slots (expression_tree (v t))) → (i : Initialiser) →
+      IsReadInitialiser env.word i
       → IfSome (option_map expression_trees (initial v i)) (Each (Prints n.slots))
   given_prints v f NoValue r = tt
   given_prints v f (OneValue t) r = (f t r, tt)
   given_prints v f (ValueList ts) r = list_prints v f ts r.1
 
-pub given_there : (word : ℕ → List ℕ) (slots : List Slot) (v : Term → Expression) (i : Initialiser) → IsReadInitialiser word i → IfSome (option_map expression_trees (initial v i)) (IsGivenList slots)
+pub given_there : (word : ℕ → List ℕ) (slots : List Slot) (v : Term → Expression) (i : Initialiser) → IsReadInitialiser word i →
+    IfSome (option_map expression_trees (initial v i)) (IsGivenList slots)
 given_there word slots v NoValue r = tt
 given_there word slots v (OneValue t) r = omega arith
 given_there word slots v (ValueList ts) r = subst (λ k. 0 < k) (sym (length-map (map v ts) expression_tree ∙ length-map ts v)) r.0
 
 module _ (ctx : Context) (n : Names) (comments : (a : Anchor) → Each IsComment (ctx.notes a)) where
-  slot_fine : (k : Kinded) (d : Declarator) (w : Walk) → IsReadDeclarator ctx.word d → local_faults ctx.word k d w [] ≡ [] → Begins (declared ctx.word k d w).slots n.slots → IsSomeAnd (slice_get n.slots (length w.slots)) (IsNamedSlot n.slots)
+  slot_fine : (k : Kinded) (d : Declarator) (w : Walk) → IsReadDeclarator ctx.word d → local_faults ctx.word k d w [] ≡ [] →
+      Begins (declared ctx.word k d w).slots n.slots → IsSomeAnd (slice_get n.slots (length w.slots)) (IsNamedSlot n.slots)
   slot_fine k d w r e b =
       let p = local_parts ctx.word k d w e in
       let s = slot_of (env_in ctx.word w) k d in
@@ -146,12 +153,15 @@ module _ (ctx : Context) (n : Names) (comments : (a : Anchor) → Each IsComment
     ifs = λ w t a b i r e. (value_prints n i.0 (env_at ctx w) i.1 t r, tt);
     whiles = λ w t a i r e. (value_prints n i.0 (env_at ctx w) i.1 t r, tt);
     dos = λ w t a i r e. (value_prints n i.0 (env_at ctx w) i.1 t r, tt);
-    fors = λ w start t u a i j b rs rt ru es et eu. let inner = behind_start ctx start (enter w) in ((values_print n j.0 (env_at ctx inner) j.1 t rt, drops_print n j.0 (env_at ctx inner) j.1 u ru), tt);
+    fors = λ w start t u a i j b rs rt ru es et eu. let inner = behind_start ctx start (enter w) in
+        ((values_print n j.0 (env_at ctx inner) j.1 t rt, drops_print n j.0 (env_at ctx inner) j.1 u ru), tt);
     switches = λ around w t b i r rb nb ev eb es cs. ((value_prints n i.0 (env_at ctx w) i.1 t r, cs), tt);
     block = λ a. (tt, tt);
     locals = λ k d w r e b i j.
-        let env = env_in ctx.word (declared ctx.word k d w) in
-        (given_prints n j.0 env j.1 (value_at env) (λ t r. value_prints n j.0 env j.1 t r) d.value r.value, (slot_fine k d w r e b, given_there ctx.word n.slots (value_at env) d.value r.value));
+        let env = env_in ctx.word (declared ctx.word k d w) in (
+          given_prints n j.0 env j.1 (value_at env) (λ t r. value_prints n j.0 env j.1 t r) d.value r.value,
+          (slot_fine k d w r e b, given_there ctx.word n.slots (value_at env) d.value r.value),
+        );
     breaks = (tt, tt);
     continues = (tt, tt);
     gotos = λ at h. (tt, tt);

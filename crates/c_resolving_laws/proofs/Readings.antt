@@ -16,7 +16,11 @@ longer s xs = record { cases = s.cases; default = s.default; list = s.list ++ xs
 module _ (ctx : Context) (w : Walk) where
   -- the section that a statement with these labels begins
   abbrev pub beginning : List Label → List item.Item → Reading
-  beginning ls xs = record { cases = section_cases (env_at ctx w) ls; default = has_default ls; list = notes_at ctx (AtSection (items.first_label ls)) ++ section_marks ctx ls ++ xs }
+  beginning ls xs = record {
+    cases = section_cases (env_at ctx w) ls;
+    default = has_default ls;
+    list = notes_at ctx (AtSection (items.first_label ls)) ++ section_marks ctx ls ++ xs;
+  }
 
   -- a statement alone is a list of one
   pub sections_alone : (x : Item) (notes : List item.Item) → sections_at ctx None x notes w ≡ sections_from ctx None (items.Then x NoItem) notes w

@@ -24,7 +24,8 @@ abbrev pub section_of : List ExpressionTree → Bool → Forest → Bool → Sec
 section_of cases default list ends = record { cases = cases; default = default; list = list; ends = ends }
 
 abbrev pub ended_tree : List ExpressionTree → Bool → Forest → SectionTree
-ended_tree cases default a = cond (has_entry cases default && ends_with_break a) (section_of cases default (without_end a) true) (section_of cases default a false)
+ended_tree cases default a = cond (has_entry cases default && ends_with_break a) (section_of cases default (without_end a) true)
+    (section_of cases default a false)
 
 abbrev pub passes : SectionTree → Bool
 passes s = elim s.list [ Nil ↦ not s.ends | Then x xs ↦ false ]
@@ -47,9 +48,11 @@ pub trees-map-append : (xs ys : List Expression) → expression_trees (xs ++ ys)
 trees-map-append [] ys = refl
 trees-map-append (x ∷ xs) ys = ap (λ l. expression_tree x ∷ l) (trees-map-append xs ys)
 
-pub section_rolls : (cases : List Expression) (default : Bool) (list : List Item) (ends : Bool) → section_tree (section cases default list ends) ≡ section_of (expression_trees cases) default (trees_of list) ends
+pub section_rolls : (cases : List Expression) (default : Bool) (list : List Item) (ends : Bool) →
+    section_tree (section cases default list ends) ≡ section_of (expression_trees cases) default (trees_of list) ends
 unfolding section_tree trees_of tree_of
-section_rolls cases default list ends = fold-roll-Section Tree SectionTree layer section_layer (record { cases = cases; default = default; list = list; ends = ends })
+section_rolls cases default list ends = fold-roll-Section Tree SectionTree layer section_layer
+    (record { cases = cases; default = default; list = list; ends = ends })
 
 abbrev open_break : Item-F Item Section → Bool
 open_break y = elim y [ Open.Break ↦ true | _ ↦ false ]
@@ -65,11 +68,13 @@ tree_rolls y = fold-roll-Item Tree SectionTree layer section_layer y
 is_break_same : (x : Item) → is_break x ≡ ends_with_break (Then (tree_of x) Nil)
 is_break_same x = open_same (out-Item x) ∙ ap (λ t. ends_with_break (Then t Nil)) (sym (ap tree_of (sym (roll-out-Item x)) ∙ tree_rolls (out-Item x)))
 
-with_same : (cases : List Expression) (default : Bool) (s : Section) → section_tree (with_labels cases default s) ≡ with_entries (expression_trees cases) default (section_tree s)
+with_same : (cases : List Expression) (default : Bool) (s : Section) →
+    section_tree (with_labels cases default s) ≡ with_entries (expression_trees cases) default (section_tree s)
 with_same cases default s =
     let o = out-Section s in
     section_rolls (cases ++ o.cases) (default || o.default) o.list o.ends
-    ∙ (ap (λ cs. section_of cs (default || o.default) (trees_of o.list) o.ends) (trees-map-append cases o.cases) ∙ ap (with_entries (expression_trees cases) default) (sym (section-parts s)))
+    ∙ (ap (λ cs. section_of cs (default || o.default) (trees_of o.list) o.ends) (trees-map-append cases o.cases) ∙
+    ap (with_entries (expression_trees cases) default) (sym (section-parts s)))
 
 passing_at : (l : List Item) (e : Bool) → ◌≡◌ {A = Bool} (elim l [ [] ↦ not e | x ∷ xs ↦ false ]) (elim (trees_of l) [ Nil ↦ not e | Then x xs ↦ false ])
 unfolding trees_of
@@ -82,7 +87,11 @@ passes_same s = let o = out-Section s in passing_at o.list o.ends ∙ ap passes 
 -- by whether the first hands on its cases
 passed_by : (cases : List Expression) (default : Bool) (s : Section) (ss : List Section) (b c : Bool) → b ≡ c
     → ((cs : List Expression) (d : Bool) → map section_tree (passed_on cs d ss) ≡ passed_trees (expression_trees cs) d (map section_tree ss))
-    → map section_tree (elim b [ true ↦ passed_on (cases ++ (out-Section s).cases) (default || (out-Section s).default) ss | false ↦ with_labels cases default s ∷ passed_on [] false ss ])
+    → map section_tree (elim b [
+      | true ↦ passed_on (cases ++ (out-Section s).cases) (default || (out-Section s).default) ss
+      | false ↦ with_labels cases
+          default s ∷ passed_on [] false ss
+    ])
     ≡ elim c [
       | true ↦ passed_trees (expression_trees cases ++ (section_tree s).cases) (default || (section_tree s).default) (map section_tree ss)
       | false ↦ with_entries (expression_trees cases) default (section_tree s) ∷ passed_trees [] false (map section_tree ss)
@@ -92,12 +101,14 @@ passed_by cases default s ss true true e f =
     f (cases ++ o.cases) (default || o.default)
     ∙ (ap (λ cs. passed_trees cs (default || o.default) (map section_tree ss)) (trees-map-append cases o.cases)
     ∙ ap (λ (t : SectionTree). passed_trees (expression_trees cases ++ t.cases) (default || t.default) (map section_tree ss)) (sym (section-parts s)))
-passed_by cases default s ss false false e f = ap (λ x. x ∷ map section_tree (passed_on [] false ss)) (with_same cases default s) ∙ ap (λ l. with_entries (expression_trees cases) default (section_tree s) ∷ l) (f [] false)
+passed_by cases default s ss false false e f = ap (λ x. x ∷ map section_tree (passed_on [] false ss)) (with_same cases default s) ∙
+    ap (λ l. with_entries (expression_trees cases) default (section_tree s) ∷ l) (f [] false)
 passed_by cases default s ss true false e f = absurd (true≢false e)
 passed_by cases default s ss false true e f = absurd (true≢false (sym e))
 
 -- empty sections hand on their cases
-pub passed_same : (cases : List Expression) (default : Bool) (ss : List Section) → map section_tree (passed_on cases default ss) ≡ passed_trees (expression_trees cases) default (map section_tree ss)
+pub passed_same : (cases : List Expression) (default : Bool) (ss : List Section) →
+    map section_tree (passed_on cases default ss) ≡ passed_trees (expression_trees cases) default (map section_tree ss)
 passed_same cases default [] = refl
 passed_same cases default (s ∷ []) = ap (λ x. x ∷ []) (with_same cases default s)
 passed_same cases default (s ∷ t ∷ ss) =
@@ -132,8 +143,10 @@ ended_same s = by (has_label s && ends_in_break s.list) (has_entry (expression_t
     (ap (λ b. b && ends_in_break s.list) (entry_same s) ∙ ap (λ b. has_entry (expression_trees s.cases) s.default && b) (break_same s.list))
   where
     by : (b c : Bool) → b ≡ c → section_tree (cond b (section s.cases s.default (without_last s.list) true) (section s.cases s.default s.list false))
-        ≡ cond c (section_of (expression_trees s.cases) s.default (without_end (trees_of s.list)) true) (section_of (expression_trees s.cases) s.default (trees_of s.list) false)
-    by true true e = section_rolls s.cases s.default (without_last s.list) true ∙ ap (λ l. section_of (expression_trees s.cases) s.default l true) (last_same s.list)
+        ≡ cond c (section_of (expression_trees s.cases) s.default (without_end (trees_of s.list)) true)
+        (section_of (expression_trees s.cases) s.default (trees_of s.list) false)
+    by true true e = section_rolls s.cases s.default (without_last s.list) true ∙
+        ap (λ l. section_of (expression_trees s.cases) s.default l true) (last_same s.list)
     by false false e = section_rolls s.cases s.default s.list false
     by true false e = absurd (true≢false e)
     by false true e = absurd (true≢false (sym e))

@@ -83,10 +83,17 @@ is_kept Nil true c e = tt
 is_kept Nil false c e = absurd (true≢false e)
 is_kept (tree.Then x a) ends c e = tt
 
-passed_by : (cs : List ExpressionTree) (d : Bool) (s : SectionTree) (ts : List SectionTree) (b : Bool) → passes s ≡ b → IsRaw s → ((es : List ExpressionTree) (e : Bool) → AreSections (sections (passed_trees es e ts)))
+passed_by : (cs : List ExpressionTree) (d : Bool) (s : SectionTree) (ts : List SectionTree) (b : Bool) → passes s ≡ b → IsRaw s →
+    ((es : List ExpressionTree) (e : Bool) → AreSections (sections (passed_trees es e ts)))
     → AreSections (sections (elim b [ true ↦ passed_trees (cs ++ s.cases) (d || s.default) ts | false ↦ with_entries cs d s ∷ passed_trees [] false ts ]))
 passed_by cs d s ts true e r f = f (cs ++ s.cases) (d || s.default)
-passed_by cs d s ts false e r f = (more_entered cs s.cases d s.default r.entered, r.ended, is_kept s.list s.ends (sections (passed_trees [] false ts)) e, r.free, f [] false)
+passed_by cs d s ts false e r f = (
+  more_entered cs s.cases d s.default r.entered,
+  r.ended,
+  is_kept s.list s.ends (sections (passed_trees [] false ts)) e,
+  r.free,
+  f [] false,
+)
 
 last_kept : (a : Forest) (ends : Bool) → IsKept a ends NoSection
 last_kept Nil true = tt
@@ -127,7 +134,8 @@ module _ (ctx : Context) where
   behind_notes a xs h = free_both (notes_at ctx a) xs (free_notes a) h
 
   free_mark : (at : ℕ) → Free (mark ctx at)
-  free_mark at = let l = number_in ctx.labels (ctx.word at) in behind_notes (Before at) (item.Mark l ∷ []) (free_one (item.Mark l) (tree.Mark l) (tree-Mark l) tt)
+  free_mark at = let l = number_in ctx.labels (ctx.word at) in behind_notes (Before at) (item.Mark l ∷ [])
+      (free_one (item.Mark l) (tree.Mark l) (tree-Mark l) tt)
 
   free_marks : (ls : List Label) → Free (section_marks ctx ls)
   free_marks [] = free_none
@@ -146,7 +154,8 @@ module _ (ctx : Context) where
   free_locals k [] w = free_none
   free_locals k (d ∷ ds) w =
       let v = declared ctx.word k d w in
-      free_more (local ctx.word k d w) (locals ctx.word k ds v) _ (tree-Local (length w.slots) (initial (value_at (env_in ctx.word v)) d.value)) tt (free_locals k ds v)
+      free_more (local ctx.word k d w) (locals ctx.word k ds v) _ (tree-Local (length w.slots) (initial (value_at (env_in ctx.word v)) d.value)) tt
+      (free_locals k ds v)
 
   free_statement : (s : Statement) (w : Walk) → Free (statement_items ctx s w)
   free_statement Null w = free_none
@@ -197,31 +206,41 @@ module _ (ctx : Context) where
   cases_entered w (Default at after ∷ ls) e = inr refl
 
   begun_raw : (w : Walk) (ls : List Label) (xs : List item.Item) → has_case ls ≡ true → Free xs → RawReading (begun ctx (env_at ctx w) ls xs)
-  begun_raw w ls xs e h =
-      (cases_entered w ls e, free_both (notes_at ctx (AtSection (items.first_label ls)) ++ section_marks ctx ls) xs (behind_notes (AtSection (items.first_label ls)) (section_marks ctx ls) (free_marks ls)) h)
+  begun_raw w ls xs e h = (
+    cases_entered w ls e,
+    free_both (notes_at ctx (AtSection (items.first_label ls)) ++ section_marks ctx ls) xs
+        (behind_notes (AtSection (items.first_label ls)) (section_marks ctx ls) (free_marks ls)) h,
+  )
 
-  inside_raw : (r : Reading) (xs : Items) (notes : List item.Item) (w : Walk) → RawReading (Some r) → Free notes → RawSections (sections_from ctx (Some r) xs notes w)
+  inside_raw : (r : Reading) (xs : Items) (notes : List item.Item) (w : Walk) → RawReading (Some r) → Free notes →
+      RawSections (sections_from ctx (Some r) xs notes w)
   inside_raw r NoItem notes w h k = end_raw (Some r) notes h k
   inside_raw r (items.Then (Declares first after d) xs) notes w h k =
       let l = locals ctx.word (kinded ctx.word d) d.names w in
-      inside_raw (longer r (notes_at ctx (Before first) ++ l)) xs notes (declared_by ctx d w) (extended_raw r (notes_at ctx (Before first) ++ l) h (behind_notes (Before first) l (free_locals (kinded ctx.word d) d.names w))) k
+      inside_raw (longer r (notes_at ctx (Before first) ++ l)) xs notes (declared_by ctx d w)
+      (extended_raw r (notes_at ctx (Before first) ++ l) h (behind_notes (Before first) l (free_locals (kinded ctx.word d) d.names w))) k
   inside_raw r (items.Then (States ls p) xs) notes w h k =
       let ps = plain_items ctx p w in
       let new = labels_items ctx (env_at ctx w) ls ++ ps in
       by (has_case ls) refl
       (λ e. inside_raw (beginning ctx w ls ps) xs notes (behind_plain ctx p w) (begun_raw w ls ps e (free_plain p w)) k)
-      (λ e. inside_raw (longer r new) xs notes (behind_plain ctx p w) (extended_raw r new h (free_both (labels_items ctx (env_at ctx w) ls) ps (free_labels w ls e) (free_plain p w))) k)
+      (λ e. inside_raw (longer r new) xs notes (behind_plain ctx p w)
+      (extended_raw r new h (free_both (labels_items ctx (env_at ctx w) ls) ps (free_labels w ls e) (free_plain p w))) k)
     where
-      by : (b : Bool) → has_case ls ≡ b → (has_case ls ≡ true → RawSections (sections_from ctx (begun ctx (env_at ctx w) ls (plain_items ctx p w)) xs notes (behind_plain ctx p w)))
-          → (has_case ls ≡ false → RawSections (sections_from ctx (extended (Some r) (labels_items ctx (env_at ctx w) ls ++ plain_items ctx p w)) xs notes (behind_plain ctx p w)))
+      by : (b : Bool) → has_case ls ≡ b →
+          (has_case ls ≡ true → RawSections (sections_from ctx (begun ctx (env_at ctx w) ls (plain_items ctx p w)) xs notes (behind_plain ctx p w)))
+          → (has_case ls ≡ false → RawSections (sections_from ctx (extended (Some r) (labels_items ctx (env_at ctx w) ls ++ plain_items ctx p w)) xs
+          notes (behind_plain ctx p w)))
           → RawSections (elim b [
             | true ↦ closed (Some r) ++ sections_from ctx (begun ctx (env_at ctx w) ls (plain_items ctx p w)) xs notes (behind_plain ctx p w)
             | false ↦ sections_from ctx (extended (Some r) (labels_items ctx (env_at ctx w) ls ++ plain_items ctx p w)) xs notes (behind_plain ctx p w)
           ])
-      by true e f g = each_append _ (closed (Some r)) (sections_from ctx (begun ctx (env_at ctx w) ls (plain_items ctx p w)) xs notes (behind_plain ctx p w)) (closed_raw (Some r) h) (f e)
+      by true e f g = each_append _ (closed (Some r)) (sections_from ctx (begun ctx (env_at ctx w) ls (plain_items ctx p w)) xs notes
+          (behind_plain ctx p w)) (closed_raw (Some r) h) (f e)
       by false e f g = g e
 
-  outside_raw : (around : Around) (xs : Items) (notes : List item.Item) (w : Walk) → Free notes → outside_faults ctx around xs w [] ≡ [] → RawSections (sections_from ctx None xs notes w)
+  outside_raw : (around : Around) (xs : Items) (notes : List item.Item) (w : Walk) → Free notes → outside_faults ctx around xs w [] ≡ [] →
+      RawSections (sections_from ctx None xs notes w)
   outside_raw around NoItem notes w k e = tt
   outside_raw around (items.Then (Declares first after d) xs) notes w k e = absurd (outside_declares ctx around w first after d xs e)
   outside_raw around (items.Then (States ls p) xs) notes w k e =
@@ -229,7 +248,8 @@ module _ (ctx : Context) where
       (λ c. inside_raw (beginning ctx w ls (plain_items ctx p w)) xs notes (behind_plain ctx p w) (begun_raw w ls (plain_items ctx p w) c (free_plain p w)) k)
       (λ o. outside_raw around xs notes (behind_plain ctx p w) k o)
     where
-      by : (b : Bool) → has_case ls ≡ b → Outside ctx around w b ls p xs → (has_case ls ≡ true → RawSections (sections_from ctx (begun ctx (env_at ctx w) ls (plain_items ctx p w)) xs notes (behind_plain ctx p w)))
+      by : (b : Bool) → has_case ls ≡ b → Outside ctx around w b ls p xs →
+          (has_case ls ≡ true → RawSections (sections_from ctx (begun ctx (env_at ctx w) ls (plain_items ctx p w)) xs notes (behind_plain ctx p w)))
           → (outside_faults ctx around xs (behind_plain ctx p w) [] ≡ [] → RawSections (sections_from ctx None xs notes (behind_plain ctx p w)))
           → RawSections (elim b [
             | true ↦ sections_from ctx (begun ctx (env_at ctx w) ls (plain_items ctx p w)) xs notes (behind_plain ctx p w)
@@ -239,17 +259,20 @@ module _ (ctx : Context) where
       by false c o f g = g o.1
 
   switch_raw : (around : Around) (b : Body) (w : Walk) → switch_body_faults ctx around b w [] ≡ [] → RawSections (switch_sections ctx b w)
-  switch_raw around (Braces first after xs) w e = subst RawSections (sym (no_front ctx around (Braces first after xs) w e)) (outside_raw around xs (notes_at ctx (AtEnd first)) (enter w) (free_notes (AtEnd first)) e)
+  switch_raw around (Braces first after xs) w e = subst RawSections (sym (no_front ctx around (Braces first after xs) w e))
+      (outside_raw around xs (notes_at ctx (AtEnd first)) (enter w) (free_notes (AtEnd first)) e)
   switch_raw around (Lone first after x) w e =
       let notes = notes_at ctx (AtEnd first) in
-      subst RawSections (sym (no_front ctx around (Lone first after x) w e ∙ sections_alone ctx (enter w) x notes)) (outside_raw around (items.Then x NoItem) notes (enter w) (free_notes (AtEnd first)) (outside_alone ctx around (enter w) x e))
+      subst RawSections (sym (no_front ctx around (Lone first after x) w e ∙ sections_alone ctx (enter w) x notes))
+      (outside_raw around (items.Then x NoItem) notes (enter w) (free_notes (AtEnd first)) (outside_alone ctx around (enter w) x e))
 
   raw_trees : (cs : List Section) → RawSections cs → Each IsRaw (map section_tree cs)
   raw_trees [] h = tt
   raw_trees (c ∷ cs) h = (h.0, raw_trees cs h.1)
 
   -- the sections of a switch
-  pub are_sections : (around : Around) (b : Body) (w : Walk) → switch_body_faults ctx around b w [] ≡ [] → AreSections (sections_of (passed_on [] false (switch_sections ctx b w)))
+  pub are_sections : (around : Around) (b : Body) (w : Walk) → switch_body_faults ctx around b w [] ≡ [] →
+      AreSections (sections_of (passed_on [] false (switch_sections ctx b w)))
   are_sections around b w e =
       subst AreSections (sym (sections_are (passed_on [] false (switch_sections ctx b w)) ∙ ap sections (passed_same [] false (switch_sections ctx b w))))
       (passed_are [] false (map section_tree (switch_sections ctx b w)) (raw_trees (switch_sections ctx b w) (switch_raw around b w e)))

@@ -63,7 +63,8 @@ module _ (ctx : Context) where
   one_slot : (k : Kinded) (d : Declarator) (w : Walk) → Runs w (declared ctx.word k d w) (at w ∷ [])
   one_slot k d w = record { count = 1; last = length-append w.slots (slot_of (env_in ctx.word w) k d ∷ []); run = refl }
 
-  locals_run : (k : Kinded) (ds : List Declarator) (w : Walk) → Runs w (all_declared ctx.word k ds w) (gathered declared_slot (trees_of (locals ctx.word k ds w)))
+  locals_run : (k : Kinded) (ds : List Declarator) (w : Walk) → Runs w (all_declared ctx.word k ds w)
+      (gathered declared_slot (trees_of (locals ctx.word k ds w)))
   locals_run k [] w = run_as (at w) (at w) _ [] (ap (gathered declared_slot) trees-none) (run_none (at w))
   locals_run k (d ∷ ds) w =
       let v = declared ctx.word k d w in
@@ -82,7 +83,8 @@ module _ (ctx : Context) where
   mutual
     pub item_runs : (x : Item) (w : Walk) → Runs w (behind_item ctx x w) (of_item ctx declared_slot slots_gather x w)
     item_runs (Declares first after d) w = locals_run (kinded ctx.word d) d.names w
-    item_runs (States ls p) w = run_as (at w) (at (behind_plain ctx p w)) _ (of_plain ctx declared_slot slots_gather p w) (ap (λ l. l ++ of_plain ctx declared_slot slots_gather p w) (labels_none ls)) (plain_runs p w)
+    item_runs (States ls p) w = run_as (at w) (at (behind_plain ctx p w)) _ (of_plain ctx declared_slot slots_gather p w)
+        (ap (λ l. l ++ of_plain ctx declared_slot slots_gather p w) (labels_none ls)) (plain_runs p w)
 
     plain_runs : (p : Plain) (w : Walk) → Runs w (behind_plain ctx p w) (of_plain ctx declared_slot slots_gather p w)
     plain_runs (From first after s) w = statement_runs s w
@@ -94,7 +96,8 @@ module _ (ctx : Context) where
     statement_runs (IfElse t b c) w = let v = behind_body ctx b w in run_both (at w) (at v) (at (behind_body ctx c v)) _ _ (body_runs b w) (body_runs c v)
     statement_runs (While t b) w = body_runs b w
     statement_runs (DoWhile b t) w = body_runs b w
-    statement_runs (For start t u b) w = let v = behind_start ctx start (enter w) in run_both (at w) (at v) (at (behind_body ctx b v)) _ _ (start_runs start (enter w)) (body_runs b v)
+    statement_runs (For start t u b) w = let v = behind_start ctx start (enter w) in
+        run_both (at w) (at v) (at (behind_body ctx b v)) _ _ (start_runs start (enter w)) (body_runs b v)
     statement_runs (Switch t b) w = body_runs b w
     statement_runs (Block b) w = body_runs b w
     statement_runs (Goto x) w = run_none (at w)

@@ -58,9 +58,12 @@ module _ (ts : List Top) (ss : List Scopes.Scope) (env : Env) (knows : Knows (re
   given_most (ValueList ts) h = list_most ts h
 
   pub variable_spelled : (s : Slot) (d : Declarator) → IsName s.name → IsReadDeclarator env.word d → IsFewDeclarator env.word 400 d → IsLength s.cells
-      → let given = option_map expression_trees (initial (constant_at env) d.value) in IfSome given (AreInitialisers 65536 s.cells) → DeclaratorPrints [] s given
+      → let given = option_map expression_trees (initial (constant_at env) d.value) in
+      IfSome given (AreInitialisers 65536 s.cells) → DeclaratorPrints [] s given
   variable_spelled s d m r f l i = record {
     named = m;
     length = length_prints [] s.cells l;
-    values = values_print [] 65536 s.cells (option_map expression_trees (initial (constant_at env) d.value)) (given_prints n ss env knows (constant_at env) (λ t r. constant_prints n ss env knows t r) d.value r.value) i (given_there env.word [] (constant_at env) d.value r.value) (given_most d.value f);
+    values = values_print [] 65536 s.cells (option_map expression_trees (initial (constant_at env) d.value))
+        (given_prints n ss env knows (constant_at env) (λ t r. constant_prints n ss env knows t r) d.value r.value) i
+        (given_there env.word [] (constant_at env) d.value r.value) (given_most d.value f);
   }

@@ -108,20 +108,29 @@ module _ (ctx : Context) where
       by None h = tt
       by (Some at) h = name_prints (ctx.word at) h
 
-  all_named : (xs : List Parameter) (w : Walk) → Each (IsReadParameter ctx.word) xs → parameters_faults ctx.word true xs w [] ≡ [] → Each HasName (map (parameter_slot ctx.word) xs)
+  all_named : (xs : List Parameter) (w : Walk) → Each (IsReadParameter ctx.word) xs → parameters_faults ctx.word true xs w [] ≡ [] →
+      Each HasName (map (parameter_slot ctx.word) xs)
   all_named [] w r e = tt
   all_named (x ∷ xs) w r e = let p = parameters_parts ctx true x xs w e in (by x.name r.0.named p.0, all_named xs (bind_parameter ctx.word x w) r.1 p.1)
     where
-      by : (o : Option ℕ) → IsNamedAs o → ◌≡◌ {A = Faults} (elim o [ Some at ↦ bind_fault at (ctx.word at) w.scopes (size_faults (env_at ctx w) x.size []) | None ↦ fault_if true x.first 43 (size_faults (env_at ctx w) x.size []) ]) []
+      by : (o : Option ℕ) → IsNamedAs o → ◌≡◌ {A = Faults}
+          (elim o [
+            | Some at ↦ bind_fault at (ctx.word at) w.scopes (size_faults (env_at ctx w) x.size [])
+            | None ↦ fault_if true x.first 43
+                (size_faults (env_at ctx w) x.size [])
+          ]) []
           → 0 < length (parameter_name ctx.word o)
       by None h e = absurd (true≢false (clean_if true x.first 43 (size_faults (env_at ctx w) x.size []) e).1)
       by (Some at) h e = name_has (ctx.word at) h
 
 -- ---- functions
 
-module _ (flat : FlatCounts) (word : ℕ → List ℕ) (notes : Anchor → List (List ℕ)) (f : Function) (scopes : List Scope) (ts : List Top) (comments : (a : Anchor) → Each IsComment (notes a)) where
-  spelled_by : (o : Option Body) → IsName (word f.name) → Each (IsReadParameter word) f.parameters → IfSome o (IsReadBody word) → IfSome o (IsFewBody word f.counted) → f.counted ≤ 400 → IfSome o (λ b. body_depth b ≤ 400)
-      → BodyParts flat word notes f o scopes → KnownOutside flat word notes f scopes ts → Resolves flat ts (defined word notes f o scopes) → FunctionIsSpelled (defined word notes f o scopes)
+module _ (flat : FlatCounts) (word : ℕ → List ℕ) (notes : Anchor → List (List ℕ)) (f : Function) (scopes : List Scope) (ts : List Top)
+    (comments : (a : Anchor) → Each IsComment (notes a)) where
+  spelled_by : (o : Option Body) → IsName (word f.name) → Each (IsReadParameter word) f.parameters → IfSome o (IsReadBody word) →
+      IfSome o (IsFewBody word f.counted) → f.counted ≤ 400 → IfSome o (λ b. body_depth b ≤ 400)
+      → BodyParts flat word notes f o scopes → KnownOutside flat word notes f scopes ts → Resolves flat ts (defined word notes f o scopes) →
+      FunctionIsSpelled (defined word notes f o scopes)
   spelled_by None m q r few most shallow p k v =
       let ctx = prototype_context word f in
       let slots = (inside word f scopes).slots in
@@ -129,7 +138,8 @@ module _ (flat : FlatCounts) (word : ℕ → List ℕ) (notes : Anchor → List 
       let whole = inside_slots word f scopes ∙ sym (append-nil all) in
       record {
         named = m;
-        parameters = subst ParametersPrint (sym (ap (take (length f.parameters)) whole ∙ take_all (parameter_slot word) f.parameters [])) (parameters_print ctx f.parameters q);
+        parameters = subst ParametersPrint (sym (ap (take (length f.parameters)) whole ∙ take_all (parameter_slot word) f.parameters []))
+            (parameters_print ctx f.parameters q);
         all_named = λ e. absurd (true≢false (sym e));
         labels = tt;
         body = tt;
@@ -155,8 +165,10 @@ module _ (flat : FlatCounts) (word : ℕ → List ℕ) (notes : Anchor → List 
       let marks = marks_are Below a (subst (Each Below) (sym v.form.labels) (numbers_all (length t.labels))) in
       let Front : Tree → Type 0 = λ x. PrintsItem slots x × IsInitialised slots x in
       let Back : Tree → Type 0 = λ x. HasSourceForm t x × MarkIs Below x in
-      let both = everywhere_both Front Back a (everywhere_both (PrintsItem slots) (IsInitialised slots) a prints v.initialised) (everywhere_both (HasSourceForm t) (MarkIs Below) a v.form.items marks) in
-      let good = everywhere_map (λ x. Front x × Back x) (Good t names) (λ x h. record { prints = h.0.0; initialised = h.0.1; form = h.1.0; mark = h.1.1 }) a both in
+      let both = everywhere_both Front Back a (everywhere_both (PrintsItem slots) (IsInitialised slots) a prints v.initialised)
+      (everywhere_both (HasSourceForm t) (MarkIs Below) a v.form.items marks) in
+      let good = everywhere_map (λ x. Front x × Back x) (Good t names)
+      (λ x h. record { prints = h.0.0; initialised = h.0.1; form = h.1.0; mark = h.1.1 }) a both in
       let s = body_bounded ctx f.counted b w few in
       record {
         named = m;
@@ -169,5 +181,6 @@ module _ (flat : FlatCounts) (word : ℕ → List ℕ) (notes : Anchor → List 
         };
       }
 
-  pub function_is_spelled : IsReadFunction word f → BodyParts flat word notes f f.body scopes → KnownOutside flat word notes f scopes ts → Resolves flat ts (function_of word notes f scopes) → FunctionIsSpelled (function_of word notes f scopes)
+  pub function_is_spelled : IsReadFunction word f → BodyParts flat word notes f f.body scopes → KnownOutside flat word notes f scopes ts →
+      Resolves flat ts (function_of word notes f scopes) → FunctionIsSpelled (function_of word notes f scopes)
   function_is_spelled r p k v = spelled_by f.body r.named r.parameters r.body r.few r.most r.shallow p k v

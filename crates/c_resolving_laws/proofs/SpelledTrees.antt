@@ -45,13 +45,24 @@ module _ (Q : ℕ → Type 0) where
   mutual
     pub marks_are : (a : Forest) → Each Q (gathered marked_label a) → Everywhere (MarkIs Q) a
     marks_are Nil h = tt
-    marks_are (Then x a) h = (mark_is x (front (gathered_of marked_label x) (gathered marked_label a) h), marks_are a (back (gathered_of marked_label x) (gathered marked_label a) h))
+    marks_are (Then x a) h = (
+      mark_is x (front (gathered_of marked_label x) (gathered marked_label a) h),
+      marks_are a (back (gathered_of marked_label x) (gathered marked_label a) h),
+    )
 
     mark_is : (x : Tree) → Each Q (gathered_of marked_label x) → EverywhereOf (MarkIs Q) x
-    mark_is (If t a b) h = (tt, marks_are a (front (gathered marked_label a) (gathered marked_label b) h), marks_are b (back (gathered marked_label a) (gathered marked_label b) h))
+    mark_is (If t a b) h = (
+      tt,
+      marks_are a (front (gathered marked_label a) (gathered marked_label b) h),
+      marks_are b (back (gathered marked_label a) (gathered marked_label b) h),
+    )
     mark_is (While t a) h = (tt, marks_are a h)
     mark_is (Do a t) h = (tt, marks_are a h)
-    mark_is (For g t u a) h = (tt, marks_are g (front (gathered marked_label g) (gathered marked_label a) h), marks_are a (back (gathered marked_label g) (gathered marked_label a) h))
+    mark_is (For g t u a) h = (
+      tt,
+      marks_are g (front (gathered marked_label g) (gathered marked_label a) h),
+      marks_are a (back (gathered marked_label g) (gathered marked_label a) h),
+    )
     mark_is (Switch s c) h = (tt, marks_in c h)
     mark_is (Block a) h = (tt, marks_are a h)
     mark_is (Evaluate e) h = tt
@@ -69,7 +80,11 @@ module _ (Q : ℕ → Type 0) where
 
     marks_in : (c : Sections) → Each Q (gathered_in marked_label c) → EverywhereIn (MarkIs Q) c
     marks_in NoSection h = tt
-    marks_in (Section cases default a ends c) h = (marks_are a (front (gathered marked_label a) (gathered_in marked_label c) h), marks_in c (back (gathered marked_label a) (gathered_in marked_label c) h))
+    marks_in (Section cases default a ends c) h = (
+      marks_are a (front (gathered marked_label a) (gathered_in marked_label c) h),
+      marks_in c
+          (back (gathered marked_label a) (gathered_in marked_label c) h),
+    )
 
 numbers_below : (n i : ℕ) → Each (λ l. l < i + n) (numbers_from i n)
 numbers_below zero i = tt
@@ -151,7 +166,10 @@ module _ (slots : List Slot) where
 
   listed : (need : ℕ) (xs : List ExpressionTree) → Each (Prints slots) xs → most_of need xs ≤ most → ListPrints slots need xs
   listed need [] p h = tt
-  listed need (x ∷ xs) p h = (record { prints = p.0; few = first_most (counted_at need x) (most_of need xs) h }, listed need xs p.1 (second_most (counted_at need x) (most_of need xs) h))
+  listed need (x ∷ xs) p h = (
+    record { prints = p.0; few = first_most (counted_at need x) (most_of need xs) h },
+    listed need xs p.1 (second_most (counted_at need x) (most_of need xs) h),
+  )
 
   test : (t : TestTree) → IsSourceTest t → TestExpression (Prints slots) t → most_tested t ≤ most → TestPrints slots t
   test (Source x) s p h = full x p h
@@ -170,14 +188,16 @@ module _ (slots : List Slot) where
   length_prints None h = tt
   length_prints (Some n) h = let k = h.1 in omega arith
 
-  pub values_print : (limit : ℕ) (cells : Option ℕ) (given : Option (List ExpressionTree)) → IfSome given (Each (Prints slots)) → IfSome given (AreInitialisers limit cells) → IfSome given (IsGivenList slots) → most_listed given ≤ most → ValuesPrint slots cells given
+  pub values_print : (limit : ℕ) (cells : Option ℕ) (given : Option (List ExpressionTree)) → IfSome given (Each (Prints slots)) →
+      IfSome given (AreInitialisers limit cells) → IfSome given (IsGivenList slots) → most_listed given ≤ most → ValuesPrint slots cells given
   values_print limit cells None p i g h = tt
   values_print limit cells (Some []) p i g h = absurd (omega arith)
   values_print limit None (Some (x ∷ [])) p i g h = record { prints = p.0; few = first_most (counted_at 2 x) 0 h }
   values_print limit None (Some (x ∷ y ∷ xs)) p i g h = absurd (omega arith)
   values_print limit (Some n) (Some (x ∷ xs)) p i g h = listed 2 (x ∷ xs) p h
 
-  declared : (o : Option Slot) (given : Option (List ExpressionTree)) → IsSomeAnd o (IsNamedSlot slots) → SlotIsInitialised o given → IfSome given (Each (Prints slots)) → IfSome given (IsGivenList slots) → most_listed given ≤ most → SlotPrints slots o given
+  declared : (o : Option Slot) (given : Option (List ExpressionTree)) → IsSomeAnd o (IsNamedSlot slots) → SlotIsInitialised o given →
+      IfSome given (Each (Prints slots)) → IfSome given (IsGivenList slots) → most_listed given ≤ most → SlotPrints slots o given
   declared None given n i p g h = absurd n
   declared (Some s) given n i p g h = record { named = n.named; length = length_prints s.cells n.length; values = values_print 1024 s.cells given p i g h }
 
@@ -191,12 +211,17 @@ module _ (f : Function) (names : Each IsName f.labels) where
     pub form : HasSourceForm f x
     pub mark : MarkIs (λ l. l < length f.labels) x
 
-  local_spelled : (k : ℕ) (given : Option (List ExpressionTree)) → Good (Local k given) → most_listed given ≤ most → SlotPrints f.slots (slice_get f.slots k) given
+  local_spelled : (k : ℕ) (given : Option (List ExpressionTree)) → Good (Local k given) → most_listed given ≤ most →
+      SlotPrints f.slots (slice_get f.slots k) given
   local_spelled k given g h = declared f.slots (slice_get f.slots k) given g.prints.1.0 g.initialised g.prints.0 g.prints.1.1 h
 
   further : (s : Slot) (a : Forest) → AreAlike f.slots s a → Everywhere Good a → most_counted a ≤ most → FurtherPrint f.slots a
   further s Nil q g h = tt
-  further s (Then (Local k given) a) q g h = (local_spelled k given g.0 (first_most f.slots (most_listed given) (most_counted a) h), further s a q.1 g.1 (second_most f.slots (most_listed given) (most_counted a) h))
+  further s (Then (Local k given) a) q g h = (
+    local_spelled k given g.0 (first_most f.slots (most_listed given) (most_counted a) h),
+    further s a q.1
+        g.1 (second_most f.slots (most_listed given) (most_counted a) h),
+  )
   further s (Then _ a) q g h = absurd q
 
   start : (a : Forest) → IsFirstPart f.slots a → Everywhere Good a → most_counted a ≤ most → StartPrints f.slots a
@@ -227,8 +252,14 @@ module _ (f : Function) (names : Each IsName f.labels) where
           are_spelled a g.1 (up (most_counted a) (most_counted b) l),
           are_spelled b g.2 (down (most_counted a) (most_counted b) l),
         )
-    is_spelled (While t a) g h = (test f.slots t g.0.form g.0.prints.0 (up (most_tested t) (most_counted a) h), are_spelled a g.1 (down (most_tested t) (most_counted a) h))
-    is_spelled (Do a t) g h = (are_spelled a g.1 (up (most_counted a) (most_tested t) h), test f.slots t g.0.form g.0.prints.0 (down (most_counted a) (most_tested t) h))
+    is_spelled (While t a) g h = (
+      test f.slots t g.0.form g.0.prints.0 (up (most_tested t) (most_counted a) h),
+      are_spelled a g.1 (down (most_tested t) (most_counted a) h),
+    )
+    is_spelled (Do a t) g h = (
+      are_spelled a g.1 (up (most_counted a) (most_tested t) h),
+      test f.slots t g.0.form g.0.prints.0 (down (most_counted a) (most_tested t) h),
+    )
     is_spelled (For first t u a) g h =
         let r = max (most_if t) (max (most_if u) (most_counted a)) in
         let s = max (most_if u) (most_counted a) in

@@ -81,7 +81,8 @@ module _ (file : File) (xs : List tops.Top) (bodies : (m : List ℕ) → defined
   held = file_holds file all known comments xs start [] first_place r e refl
 
   pub declared : DeclarationsAgree all
-  declared = declarations_agree all (settled file all [] (at_end file xs start [] first_place r e)) (file_once file xs start [] first_place r e (λ m. refl)).once
+  declared = declarations_agree all (settled file all [] (at_end file xs start [] first_place r e))
+      (file_once file xs start [] first_place r e (λ m. refl)).once
 
 -- ---- each law
 
@@ -94,7 +95,8 @@ pub record Answered (flat : FlatCounts) (p : Program) : Type 0 where
   pub spelled : IsSpelled p
   pub functions : Each (OfFunction (Resolves flat p.tops)) p.tops
 
-module _ (file : File) (ts : List Top) (known : (slots : List Slot) → IsDefined (defined file) ts slots) (comments : (a : Anchor) → Each IsComment (file.notes a)) where
+module _ (file : File) (ts : List Top) (known : (slots : List Slot) → IsDefined (defined file) ts slots)
+    (comments : (a : Anchor) → Each IsComment (file.notes a)) where
   one_constant : (t : Top) → TopHolds file ts known comments t → HasConstants ts t
   one_constant (T.Enum es) h = h
   one_constant (T.Global g) h = h
@@ -109,7 +111,8 @@ module _ (file : File) (ts : List Top) (known : (slots : List Slot) → IsDefine
   one_function (T.Include bs) h = tt
   one_function (T.Note bs) h = tt
 
-file_answered : (file : File) (xs : List tops.Top) → ((m : List ℕ) → defined file m ≡ has_function (bodies_of file.word xs) m) → IsReadFile file.word xs → ((a : Anchor) → Each IsComment (file.notes a)) → file_faults file xs start [] ≡ [] → Answered file.flat (program_of file xs)
+file_answered : (file : File) (xs : List tops.Top) → ((m : List ℕ) → defined file m ≡ has_function (bodies_of file.word xs) m) →
+    IsReadFile file.word xs → ((a : Anchor) → Each IsComment (file.notes a)) → file_faults file xs start [] ≡ [] → Answered file.flat (program_of file xs)
 file_answered file xs bodies r c e =
     let ts = tops_of file xs start in
     let k = known file xs bodies r c e in
@@ -138,12 +141,15 @@ of_map P Q g (T.Global v) h = tt
 of_map P Q g (T.Include bs) h = tt
 of_map P Q g (T.Note bs) h = tt
 
-each_function : (P : List Top → Function → Type 0) → ((flat : FlatCounts) (ts : List Top) (f : Function) → Resolves flat ts f → P ts f) → Gives (λ p. Each (OfFunction (P p.tops)) p.tops)
+each_function : (P : List Top → Function → Type 0) → ((flat : FlatCounts) (ts : List Top) (f : Function) → Resolves flat ts f → P ts f) →
+    Gives (λ p. Each (OfFunction (P p.tops)) p.tops)
 each_function P g flat text tokens comments x p r e =
-    each_map (OfFunction (Resolves flat p.tops)) (OfFunction (P p.tops)) (of_map (Resolves flat p.tops) (P p.tops) (g flat p.tops)) p.tops (all_answered flat text tokens comments x p r e).functions
+    each_map (OfFunction (Resolves flat p.tops)) (OfFunction (P p.tops)) (of_map (Resolves flat p.tops) (P p.tops) (g flat p.tops)) p.tops
+    (all_answered flat text tokens comments x p r e).functions
 
 -- the measures of a function, by those of its flat form
-is_untangled : (counts : Limits.FlatCounts) (flat : FlatCounts) → AreCounts flat counts → (ts : List Top) (f : Function) → Resolves flat ts f → IsUntangled counts f
+is_untangled : (counts : Limits.FlatCounts) (flat : FlatCounts) → AreCounts flat counts → (ts : List Top) (f : Function) → Resolves flat ts f →
+    IsUntangled counts f
 is_untangled counts flat c ts f r = by f.body refl
   where
     by : (o : Option (List Item)) → f.body ≡ o → IfSome (counts (option_map_or trees_of o Nil)) (IsWithinLimits f)
@@ -155,7 +161,8 @@ is_untangled counts flat c ts f r = by f.body refl
         each (Some n) i j = subst (λ o. IfSome o (IsWithinLimits f)) (sym i ∙ j) (r.untangled xs e n i)
 
 -- all that is resolved
-function_resolved : (counts : Limits.FlatCounts) (flat : FlatCounts) → AreCounts flat counts → (ts : List Top) (f : Function) → Resolves flat ts f → IsResolvedFunction counts ts f
+function_resolved : (counts : Limits.FlatCounts) (flat : FlatCounts) → AreCounts flat counts → (ts : List Top) (f : Function) → Resolves flat ts f →
+    IsResolvedFunction counts ts f
 function_resolved counts flat c ts f r = record {
   form = r.form;
   kinds = r.kinds;
@@ -205,5 +212,7 @@ resolving_laws = record {
   cases = each_function _ (λ flat ts f h. h.cases);
   labels = each_function _ (λ flat ts f h. h.labels);
   untangled = λ counts flat c text tokens comments x p r e.
-      each_map (OfFunction (Resolves flat p.tops)) (OfFunction (IsUntangled counts)) (of_map (Resolves flat p.tops) (IsUntangled counts) (is_untangled counts flat c p.tops)) p.tops (all_answered flat text tokens comments x p r e).functions;
+      each_map (OfFunction (Resolves flat p.tops)) (OfFunction (IsUntangled counts))
+      (of_map (Resolves flat p.tops) (IsUntangled counts) (is_untangled counts flat c p.tops)) p.tops
+      (all_answered flat text tokens comments x p r e).functions;
 }

@@ -34,10 +34,12 @@ module _ (ctx : Context) (K : ℕ) where
 
   pub body_bounded : (b : Body) (w : Walk) → IsFewBody ctx.word K b → Bounded b w
   body_bounded (Braces first after xs) w h =
-      let l = short_both ctx K (list_depth xs) (list_items ctx xs w) (notes_at ctx (AtEnd first)) (list_short ctx K xs w (list_depth xs) h (omega arith)) (short_notes ctx K (list_depth xs) (AtEnd first)) in
+      let l = short_both ctx K (list_depth xs) (list_items ctx xs w) (notes_at ctx (AtEnd first))
+      (list_short ctx K xs w (list_depth xs) h (omega arith)) (short_notes ctx K (list_depth xs) (AtEnd first)) in
       record { shallow = let z = l.shallow in omega arith; few = l.few }
   body_bounded (Lone first after x) w h =
-      let l = short_both ctx K (item_depth x) (item_items ctx x w) (notes_at ctx (AtEnd first)) (item_short ctx K x w (item_depth x) h (omega arith)) (short_notes ctx K (item_depth x) (AtEnd first)) in
+      let l = short_both ctx K (item_depth x) (item_items ctx x w) (notes_at ctx (AtEnd first)) (item_short ctx K x w (item_depth x) h (omega arith))
+      (short_notes ctx K (item_depth x) (AtEnd first)) in
       record { shallow = let z = l.shallow in omega arith; few = l.few }
 
 body_grows : (ctx : Context) (L : ℕ) (b : Body) (w : Walk) → body_longest ctx.word b ≤ L → Grown (ShortName ctx L) w.slots (behind_body ctx b w).slots
@@ -48,7 +50,8 @@ each_word : (word : ℕ → List ℕ) (ats : List ℕ) → Each (λ at. length (
 each_word word [] h = tt
 each_word word (at ∷ ats) h = (h.0, each_word word ats h.1)
 
-pub within_limits : (word : ℕ → List ℕ) (notes : Anchor → List (List ℕ)) (f : Function) (b : Body) (scopes : List Scope) (n : ℕ × ℕ) → IsFewBody word f.counted b → is_tangled (measures word f b n) ≡ false
+pub within_limits : (word : ℕ → List ℕ) (notes : Anchor → List (List ℕ)) (f : Function) (b : Body) (scopes : List Scope) (n : ℕ × ℕ) →
+    IsFewBody word f.counted b → is_tangled (measures word f b n) ≡ false
     → distinct (map word (body_labels b [])) ≡ map word (body_labels b []) → IsWithinLimits (defined word notes f (Some b) scopes) n
 within_limits word notes f b scopes n h e d =
     let ctx = context word notes f b in
@@ -67,5 +70,6 @@ within_limits word notes f b scopes n h e d =
       depth = let k = s.shallow in omega arith;
       counted = let k = s.few in omega arith;
       labels = subst (Each IsShort) (sym d) (each_word word (body_labels b []) (body_names ctx 63 b [] long tt));
-      variables = subst (Each (λ (s : Slot). IsShort s.name)) (sym (ap (drop (length f.parameters)) whole ∙ drop_all (parameter_slot word) f.parameters g.more)) g.good;
+      variables = subst (Each (λ (s : Slot). IsShort s.name))
+          (sym (ap (drop (length f.parameters)) whole ∙ drop_all (parameter_slot word) f.parameters g.more)) g.good;
     }

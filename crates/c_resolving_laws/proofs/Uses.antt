@@ -41,30 +41,46 @@ mutual
   constant_node_is kind (EnumName m n) h = tt
   constant_node_is kind (Unary op a) h = constant_is a h
   constant_node_is kind (Cast a) h = (kind_there kind (and_left (is_some kind) (is_constant a) h), constant_is a (and_right (is_some kind) (is_constant a) h))
-  constant_node_is kind (Binary op a b) h = (constant_is a (and_left (is_constant a) (is_constant b) h), constant_is b (and_right (is_constant a) (is_constant b) h))
+  constant_node_is kind (Binary op a b) h = (
+    constant_is a (and_left (is_constant a) (is_constant b) h),
+    constant_is b
+        (and_right (is_constant a) (is_constant b) h),
+  )
   constant_node_is kind (Conditional a b c) h =
-      let l = and_left (is_constant a && is_constant b) (is_constant c) h in
-      (constant_is a (and_left (is_constant a) (is_constant b) l), constant_is b (and_right (is_constant a) (is_constant b) l), constant_is c (and_right (is_constant a && is_constant b) (is_constant c) h))
+      let l = and_left (is_constant a && is_constant b) (is_constant c) h in (
+        constant_is a (and_left (is_constant a) (is_constant b) l),
+        constant_is b (and_right (is_constant a) (is_constant b) l),
+        constant_is c (and_right (is_constant a && is_constant b) (is_constant c) h),
+      )
   constant_node_is kind _ h = absurd (true≢false (sym h))
 
-pub value_found : (e : Expression) (x : ExpressionTree) → expression_tree e ≡ x → is_some (with_value e) ≡ true → (z : ℤ) × (with_value e ≡ Some (e, z)) × IsConstant x × (constant_value x ≡ Some z)
-value_found e x i h = subst (λ x. (z : ℤ) × (with_value e ≡ Some (e, z)) × IsConstant x × (constant_value x ≡ Some z)) i (by (is_constant (expression_tree e)) (constant_value (expression_tree e)) refl refl h)
+pub value_found : (e : Expression) (x : ExpressionTree) → expression_tree e ≡ x → is_some (with_value e) ≡ true →
+    (z : ℤ) × (with_value e ≡ Some (e, z)) × IsConstant x × (constant_value x ≡ Some z)
+value_found e x i h = subst (λ x. (z : ℤ) × (with_value e ≡ Some (e, z)) × IsConstant x × (constant_value x ≡ Some z)) i
+    (by (is_constant (expression_tree e)) (constant_value (expression_tree e)) refl refl h)
   where
-    by : (b : Bool) (o : Option ℤ) → is_constant (expression_tree e) ≡ b → constant_value (expression_tree e) ≡ o → is_some {T = Expression × ℤ} (cond b (option_map (λ n. (e, n)) o) None) ≡ true
+    by : (b : Bool) (o : Option ℤ) → is_constant (expression_tree e) ≡ b → constant_value (expression_tree e) ≡ o →
+        is_some {T = Expression × ℤ} (cond b (option_map (λ n. (e, n)) o) None) ≡ true
         → (z : ℤ) × (with_value e ≡ Some (e, z)) × IsConstant (expression_tree e) × (constant_value (expression_tree e) ≡ Some z)
     by false o p q h = absurd (true≢false (sym h))
     by true None p q h = absurd (true≢false (sym h))
-    by true (Some z) p q h =
-        (z, ap (λ b. cond b (option_map (λ n. (e, n)) (constant_value (expression_tree e))) None) p ∙ ap (λ o. option_map (λ n. (e, n)) o) q, constant_is (expression_tree e) p, q)
+    by true (Some z) p q h = (
+      z,
+      ap (λ b. cond b (option_map (λ n. (e, n)) (constant_value (expression_tree e))) None) p ∙ ap (λ o. option_map (λ n. (e, n)) o) q,
+      constant_is (expression_tree e) p,
+      q,
+    )
 
 module _ (n : Names) (ss : List Scope) (env : Env) (knows : Knows n ss env) where
   -- ---- values
 
-  or_value : (o : Option Valued) → IsSomeAnd o (SoundValue n ss) → Operand n ss (expression_tree (or_placeholder o)) × HasValue (expression_tree (or_placeholder o))
+  or_value : (o : Option Valued) → IsSomeAnd o (SoundValue n ss) → Operand n ss (expression_tree (or_placeholder o)) × HasValue
+      (expression_tree (or_placeholder o))
   or_value None h = absurd h
   or_value (Some v) h = subst (λ x. Operand n ss x × HasValue x) (sym (value_rolls v)) (h, record { operand = h.1; kind = tt })
 
-  pub value_is : (t : Term) → IsReadTerm env.word t → value_faults env t [] ≡ [] → Operand n ss (expression_tree (value_at env t)) × HasValue (expression_tree (value_at env t))
+  pub value_is : (t : Term) → IsReadTerm env.word t → value_faults env t [] ≡ [] →
+      Operand n ss (expression_tree (value_at env t)) × HasValue (expression_tree (value_at env t))
   value_is t r e = or_value (value_of (typed env t)) (used_clean n ss env knows t [] e (sound n ss env knows t [] r)).1
 
   or_dropped : (o : Option Expression) → IsSomeAnd o (SoundDropped n ss) → Operand n ss (expression_tree (elim o [ Some e ↦ e | None ↦ placeholder ]))
@@ -107,6 +123,7 @@ module _ (n : Names) (ss : List Scope) (env : Env) (knows : Knows n ss env) wher
   pub constant_is_value : (t : Term) → IsReadTerm env.word t → constant_faults env t [] ≡ [] → ConstantIs (constant_of (typed env t)) (constant_at env t)
   constant_is_value t r e = by (is_some (constant_of (typed env t))) refl e
     where
-      by : (b : Bool) → is_some (constant_of (typed env t)) ≡ b → fault_if (not b) (first_of t) 34 (used env t (faults env t [])) ≡ [] → ConstantIs (constant_of (typed env t)) (constant_at env t)
+      by : (b : Bool) → is_some (constant_of (typed env t)) ≡ b → fault_if (not b) (first_of t) 34 (used env t (faults env t [])) ≡ [] →
+          ConstantIs (constant_of (typed env t)) (constant_at env t)
       by true i e = constant_typed (typed env t) (sound n ss env knows t [] r (use_empty (first_of t) (typed env t) (faults env t []) e)).1 i
       by false i e = absurd (none_left _ _ e)

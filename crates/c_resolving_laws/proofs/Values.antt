@@ -183,7 +183,8 @@ module _ (n : Names) (ss : List Scope) where
       → (vs ≡ []) × (shape.array ≡ indexed) × ((writes && shape.constant) ≡ false)
   shape_clean writes indexed at shape vs e = by indexed shape.array e
     where
-      by : (i a : Bool) → cond a (cond i (fault_if (writes && shape.constant) at 26 vs) (fault at 22 vs)) (cond i (fault at 22 vs) (fault_if (writes && shape.constant) at 26 vs)) ≡ []
+      by : (i a : Bool) → cond a (cond i (fault_if (writes && shape.constant) at 26 vs) (fault at 22 vs))
+          (cond i (fault at 22 vs) (fault_if (writes && shape.constant) at 26 vs)) ≡ []
           → (vs ≡ []) × (a ≡ i) × ((writes && shape.constant) ≡ false)
       by true true e = let c = clean_if (writes && shape.constant) at 26 vs e in (c.0, refl, c.1)
       by false true e = absurd (none_left _ vs e)
@@ -212,8 +213,10 @@ module _ (n : Names) (ss : List Scope) where
       let s = the_some _ (Tree.variable n x.home) h.shaped in
       let e = sym (place-Var x.home) in
       record {
-        agrees = subst (PlaceAgrees n (Some x.shape.kind)) e (is_some_and _ (Tree.variable n x.home) s.0 s.1 (no_cells s.0.cells (s.2.array ∙ a), ap Some (sym s.2.kind)));
-        constant = subst (λ p. IsSomeAnd (Tree.variable n (home_of p)) (λ s. s.constant ≡ x.shape.constant)) e (is_some_and _ (Tree.variable n x.home) s.0 s.1 s.2.constant);
+        agrees = subst (PlaceAgrees n (Some x.shape.kind)) e
+            (is_some_and _ (Tree.variable n x.home) s.0 s.1 (no_cells s.0.cells (s.2.array ∙ a), ap Some (sym s.2.kind)));
+        constant = subst (λ p. IsSomeAnd (Tree.variable n (home_of p)) (λ s. s.constant ≡ x.shape.constant)) e
+            (is_some_and _ (Tree.variable n x.home) s.0 s.1 s.2.constant);
         bound = subst (λ p. HomeIsBound n.slots ss (home_of p)) e h.bound;
         within = subst (PlaceWithin IsSound) e tt;
       }
@@ -221,13 +224,16 @@ module _ (n : Names) (ss : List Scope) where
   cell_place : (x : Variable) (i : Valued) → place_tree (place.Cell x.home (expression i)) ≡ Cell x.home (value_tree i)
   cell_place x i = place-Cell x.home (expression i) ∙ ap (Cell x.home) (value_rolls i)
 
-  array_target : (x : Variable) (i : Valued) → SoundVariable x → x.shape.array ≡ true → SoundValue i → SoundTarget (target (place.Cell x.home (expression i)) x.shape)
+  array_target : (x : Variable) (i : Valued) → SoundVariable x → x.shape.array ≡ true → SoundValue i →
+      SoundTarget (target (place.Cell x.home (expression i)) x.shape)
   array_target x i h a v =
       let s = the_some _ (Tree.variable n x.home) h.shaped in
       let e = sym (cell_place x i) in
       record {
-        agrees = subst (PlaceAgrees n (Some x.shape.kind)) e (is_some_and _ (Tree.variable n x.home) s.0 s.1 (some_cells s.0.cells (s.2.array ∙ a), ap Some (sym s.2.kind)), has_value i v);
-        constant = subst (λ p. IsSomeAnd (Tree.variable n (home_of p)) (λ s. s.constant ≡ x.shape.constant)) e (is_some_and _ (Tree.variable n x.home) s.0 s.1 s.2.constant);
+        agrees = subst (PlaceAgrees n (Some x.shape.kind)) e
+            (is_some_and _ (Tree.variable n x.home) s.0 s.1 (some_cells s.0.cells (s.2.array ∙ a), ap Some (sym s.2.kind)), has_value i v);
+        constant = subst (λ p. IsSomeAnd (Tree.variable n (home_of p)) (λ s. s.constant ≡ x.shape.constant)) e
+            (is_some_and _ (Tree.variable n x.home) s.0 s.1 s.2.constant);
         bound = subst (λ p. HomeIsBound n.slots ss (home_of p)) e h.bound;
         within = subst (PlaceWithin IsSound) e v.0;
       }
@@ -235,12 +241,14 @@ module _ (n : Names) (ss : List Scope) where
   abbrev IsTargetOf : Bool → Option Target → Type 0
   IsTargetOf writes o = IsSomeAnd o (λ t. SoundTarget t × ((writes && t.constant) ≡ false))
 
-  pub number_target_sound : (writes : Bool) (o : Option Variable) → IfSome o SoundVariable → IsSomeAnd o (Fits writes false) → IsTargetOf writes (number_target o)
+  pub number_target_sound : (writes : Bool) (o : Option Variable) → IfSome o SoundVariable → IsSomeAnd o (Fits writes false) →
+      IsTargetOf writes (number_target o)
   number_target_sound writes None h f = absurd f
   number_target_sound writes (Some x) h f =
       subst (λ b. IsTargetOf writes (cond b None (Some (target (place.Var x.home) x.shape)))) (sym f.0) (var_target x h f.0, f.1)
 
-  pub cell_target_sound : (writes : Bool) (o : Option Variable) (i : Option Valued) → IfSome o SoundVariable → IsSomeAnd o (Fits writes true) → IsSomeAnd i SoundValue
+  pub cell_target_sound : (writes : Bool) (o : Option Variable) (i : Option Valued) → IfSome o SoundVariable → IsSomeAnd o (Fits writes true) →
+      IsSomeAnd i SoundValue
       → IsTargetOf writes (cell_target o i)
   cell_target_sound writes None i h f v = absurd f
   cell_target_sound writes (Some x) None h f v = absurd v
@@ -261,8 +269,13 @@ module _ (n : Names) (ss : List Scope) where
 
   -- a variable by its name
   number_name : (at : ℕ) (x : Variable) → SoundVariable x → (b : Bool) → x.shape.array ≡ b
-      → SoundTyped (cond b (T.Array (record { token = at; home = x.home; kind = x.shape.kind; constant = x.shape.constant })) (of_kind x.shape.kind (node.Read (place.Var x.home))))
-  number_name at x h true e = record { shaped = subst (λ b. IsSomeAnd (Tree.variable n x.home) (HasShape (record { kind = x.shape.kind; array = b; constant = x.shape.constant }))) e h.shaped; bound = h.bound }
+      → SoundTyped (cond b (T.Array (record { token = at; home = x.home; kind = x.shape.kind; constant = x.shape.constant }))
+      (of_kind x.shape.kind (node.Read (place.Var x.home))))
+  number_name at x h true e = record {
+    shaped = subst (λ b. IsSomeAnd (Tree.variable n x.home)
+        (HasShape (record { kind = x.shape.kind; array = b; constant = x.shape.constant }))) e h.shaped;
+    bound = h.bound;
+  }
   number_name at x h false e = reading_sound (Some (target (place.Var x.home) x.shape)) (var_target x h e, refl)
 
   pub named_sound : (at : ℕ) (m : List ℕ) (o : Option Binding) (vs : Faults) → name_fault at o vs ≡ [] → KnownIf m o → (vs ≡ []) × SoundTyped (named at m o)
@@ -302,10 +315,12 @@ module _ (n : Names) (ss : List Scope) where
   binary_sound op (Some a) None h k = absurd k
   binary_sound op (Some a) (Some b) h k =
       subst (λ x. Operand (Typed (Some (Marks.binary_kind op a.kind b.kind)) x))
-      (sym (node-Binary op (expression a) (expression b) ∙ (ap (λ x. Binary op x (expression_tree (expression b))) (value_rolls a) ∙ ap (Binary op (value_tree a)) (value_rolls b))))
+      (sym (node-Binary op (expression a) (expression b) ∙ (ap (λ x. Binary op x (expression_tree (expression b))) (value_rolls a) ∙
+      ap (Binary op (value_tree a)) (value_rolls b))))
       ((((has_value a h, has_value b k, ap Some (binary_same op a.kind b.kind)), tt, tt), (h.0, k.0)), tt)
 
-  choice_node : (a b c : Valued) → node_tree (node.Conditional (expression a) (expression b) (expression c)) ≡ Conditional (value_tree a) (value_tree b) (value_tree c)
+  choice_node : (a b c : Valued) → node_tree (node.Conditional (expression a) (expression b) (expression c)) ≡ Conditional (value_tree a)
+      (value_tree b) (value_tree c)
   choice_node a b c = rw (node-Conditional (expression a) (expression b) (expression c), value_rolls a, value_rolls b, value_rolls c) refl
 
   pub choice_sound : (o u w : Option Valued) → IsSomeAnd o SoundValue → IsSomeAnd u SoundValue → IsSomeAnd w SoundValue → SoundTyped (choice o u w)
@@ -319,7 +334,8 @@ module _ (n : Names) (ss : List Scope) where
   written : (t : Target) → IsWrittenTarget t → IsWritable n (place_tree t.place)
   written t h = let s = the_some _ (Tree.variable n (home_of (place_tree t.place))) h.0.constant in is_some_and _ _ s.0 s.1 (s.2 ∙ h.1)
 
-  stored_sound : (op : Option ArithOp) (t : Target) (a : Valued) → IsWrittenTarget t → SoundValue a → Operand (Typed (Some t.kind) (node_tree (stored op t (expression a))))
+  stored_sound : (op : Option ArithOp) (t : Target) (a : Valued) → IsWrittenTarget t → SoundValue a →
+      Operand (Typed (Some t.kind) (node_tree (stored op t (expression a))))
   stored_sound None t a h k =
       subst (λ x. Operand (Typed (Some t.kind) x)) (sym (node-Assign t.place (expression a) ∙ ap (Assign (place_tree t.place)) (value_rolls a)))
       ((((h.0.agrees, has_value a k), written t h, h.0.bound), (h.0.within, k.0)), tt)
@@ -327,7 +343,8 @@ module _ (n : Names) (ss : List Scope) where
       subst (λ x. Operand (Typed (Some t.kind) x)) (sym (node-Update op t.place (expression a) ∙ ap (Update op (place_tree t.place)) (value_rolls a)))
       ((((h.0.agrees, has_value a k), written t h, h.0.bound), (h.0.within, k.0)), tt)
 
-  pub assignment_sound : (op : Option ArithOp) (o : Option Target) (u : Option Valued) → IsSomeAnd o IsWrittenTarget → IsSomeAnd u SoundValue → SoundTyped (assignment op o u)
+  pub assignment_sound : (op : Option ArithOp) (o : Option Target) (u : Option Valued) → IsSomeAnd o IsWrittenTarget → IsSomeAnd u SoundValue →
+      SoundTyped (assignment op o u)
   assignment_sound op None u h k = absurd h
   assignment_sound op (Some t) None h k = absurd k
   assignment_sound op (Some t) (Some a) h k = stored_sound op t a h k
@@ -349,7 +366,8 @@ module _ (n : Names) (ss : List Scope) where
   comma_sound None b h d k = absurd h
   comma_sound (Some a) b h d k = let s = with_left_sound a b h d k in (s, left_dropped a b d s)
     where
-      left_dropped : (a : Expression) (b : typed.Typed) → IsSomeAnd (dropped b) SoundDropped → SoundTyped (with_left a b) → IsSomeAnd (dropped (with_left a b)) SoundDropped
+      left_dropped : (a : Expression) (b : typed.Typed) → IsSomeAnd (dropped b) SoundDropped → SoundTyped (with_left a b) →
+          IsSomeAnd (dropped (with_left a b)) SoundDropped
       left_dropped a (T.Value b) d s = dropped_value _ s
       left_dropped a (T.Void b) d s = subst Operand (sym (void_rolls (node.Comma a (expression_of None b)))) s
       left_dropped a (T.Text bytes) d s = absurd d

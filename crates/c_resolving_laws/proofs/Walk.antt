@@ -45,32 +45,44 @@ begins_before a b final g h = (g.more ++ h.0, h.1 ∙ (ap (λ x. x ++ h.0) g.who
 -- constant of a case.
 pub record Closed (ctx : Context) (final : List Slot) (I : List Scope → Type 0) (P : Tree → Type 0) (C : ExpressionTree → Type 0) : Type 0 where
   pub into : (s : List Scope) → I s → I ([] ∷ s)
-  pub binds : (k : Kinded) (d : Declarator) (w : Walk) → IsReadDeclarator ctx.word d → local_faults ctx.word k d w [] ≡ [] → Begins (declared ctx.word k d w).slots final → I w.scopes → I (declared ctx.word k d w).scopes
+  pub binds : (k : Kinded) (d : Declarator) (w : Walk) → IsReadDeclarator ctx.word d → local_faults ctx.word k d w [] ≡ [] →
+      Begins (declared ctx.word k d w).slots final → I w.scopes → I (declared ctx.word k d w).scopes
   pub note : (a : Anchor) → Each (λ bs. P (tree.Note bs)) (ctx.notes a)
-  pub evaluates : (w : Walk) (t : Term) → I w.scopes → IsReadTerm ctx.word t → dropped_faults (env_at ctx w) t [] ≡ [] → P (tree.Evaluate (expression_tree (dropped_at (env_at ctx w) t)))
-  pub ifs : (w : Walk) (t : Term) (a b : Forest) → I w.scopes → IsReadTerm ctx.word t → value_faults (env_at ctx w) t [] ≡ [] → P (tree.If (Source (expression_tree (value_at (env_at ctx w) t))) a b)
-  pub whiles : (w : Walk) (t : Term) (a : Forest) → I w.scopes → IsReadTerm ctx.word t → value_faults (env_at ctx w) t [] ≡ [] → P (tree.While (Source (expression_tree (value_at (env_at ctx w) t))) a)
-  pub dos : (w : Walk) (t : Term) (a : Forest) → I w.scopes → IsReadTerm ctx.word t → value_faults (env_at ctx w) t [] ≡ [] → P (tree.Do a (Source (expression_tree (value_at (env_at ctx w) t))))
+  pub evaluates : (w : Walk) (t : Term) → I w.scopes → IsReadTerm ctx.word t → dropped_faults (env_at ctx w) t [] ≡ [] →
+      P (tree.Evaluate (expression_tree (dropped_at (env_at ctx w) t)))
+  pub ifs : (w : Walk) (t : Term) (a b : Forest) → I w.scopes → IsReadTerm ctx.word t → value_faults (env_at ctx w) t [] ≡ [] →
+      P (tree.If (Source (expression_tree (value_at (env_at ctx w) t))) a b)
+  pub whiles : (w : Walk) (t : Term) (a : Forest) → I w.scopes → IsReadTerm ctx.word t → value_faults (env_at ctx w) t [] ≡ [] →
+      P (tree.While (Source (expression_tree (value_at (env_at ctx w) t))) a)
+  pub dos : (w : Walk) (t : Term) (a : Forest) → I w.scopes → IsReadTerm ctx.word t → value_faults (env_at ctx w) t [] ≡ [] →
+      P (tree.Do a (Source (expression_tree (value_at (env_at ctx w) t))))
   pub fors : (w : Walk) (start : Start) (t u : Option Term) (a : Forest) → let inner = behind_start ctx start (enter w) in let env = env_at ctx inner in
       I w.scopes → I inner.scopes → Begins inner.slots final → IsReadStart ctx.word start → IfSome t (IsReadTerm ctx.word) → IfSome u (IsReadTerm ctx.word)
       → start_faults ctx start (enter w) [] ≡ [] → optional_faults (value_faults env) t [] ≡ [] → optional_faults (dropped_faults env) u [] ≡ []
-      → P (tree.For (trees_of (start_items ctx start (enter w))) (option_map expression_tree (option_map (value_at env) t)) (option_map expression_tree (option_map (dropped_at env) u)) a)
-  pub switches : (around : Around) (w : Walk) (t : Term) (b : Body) → I w.scopes → IsReadTerm ctx.word t → IsReadBody ctx.word b → body_cases b < 2147483648 → value_faults (env_at ctx w) t [] ≡ []
-      → switch_body_faults ctx (in_switch around) b w [] ≡ [] → switch_faults (option_map (λ v. v.kind) (value_of (typed (env_at ctx w) t))) (body_entries ctx b w []) [] ≡ []
+      → P (tree.For (trees_of (start_items ctx start (enter w))) (option_map expression_tree (option_map (value_at env) t))
+      (option_map expression_tree (option_map (dropped_at env) u)) a)
+  pub switches : (around : Around) (w : Walk) (t : Term) (b : Body) → I w.scopes → IsReadTerm ctx.word t → IsReadBody ctx.word b →
+      body_cases b < 2147483648 → value_faults (env_at ctx w) t [] ≡ []
+      → switch_body_faults ctx (in_switch around) b w [] ≡ [] → switch_faults (option_map (λ v. v.kind) (value_of (typed (env_at ctx w) t)))
+      (body_entries ctx b w []) [] ≡ []
       → CaseExpressions C (sections_of (passed_on [] false (switch_sections ctx b w)))
       → P (tree.Switch (Selects (expression_tree (value_at (env_at ctx w) t))) (sections_of (passed_on [] false (switch_sections ctx b w))))
   pub block : (a : Forest) → P (tree.Block a)
-  pub locals : (k : Kinded) (d : Declarator) (w : Walk) → IsReadDeclarator ctx.word d → local_faults ctx.word k d w [] ≡ [] → Begins (declared ctx.word k d w).slots final
-      → I w.scopes → I (declared ctx.word k d w).scopes → P (tree.Local (length w.slots) (option_map expression_trees (initial (value_at (env_in ctx.word (declared ctx.word k d w))) d.value)))
+  pub locals : (k : Kinded) (d : Declarator) (w : Walk) → IsReadDeclarator ctx.word d → local_faults ctx.word k d w [] ≡ [] →
+      Begins (declared ctx.word k d w).slots final
+      → I w.scopes → I (declared ctx.word k d w).scopes → P
+      (tree.Local (length w.slots) (option_map expression_trees (initial (value_at (env_in ctx.word (declared ctx.word k d w))) d.value)))
   pub breaks : P tree.Break
   pub continues : P tree.Continue
   pub gotos : (at : ℕ) → has_label ctx.labels (ctx.word at) ≡ true → P (tree.Goto (number_in ctx.labels (ctx.word at)))
   pub returns : (w : Walk) (first : ℕ) (t : Option Term) → I w.scopes → IfSome t (IsReadTerm ctx.word) → return_faults ctx.result (env_at ctx w) first t [] ≡ []
       → P (tree.Return (option_map expression_tree (option_map (value_at (env_at ctx w)) t)))
   pub marks : (at : ℕ) → P (tree.Mark (number_in ctx.labels (ctx.word at)))
-  pub arrives : (w : Walk) (t : Term) → I w.scopes → IsReadTerm ctx.word t → constant_faults (env_at ctx w) t [] ≡ [] → P (tree.Arrival (Some (expression_tree (constant_at (env_at ctx w) t))))
+  pub arrives : (w : Walk) (t : Term) → I w.scopes → IsReadTerm ctx.word t → constant_faults (env_at ctx w) t [] ≡ [] →
+      P (tree.Arrival (Some (expression_tree (constant_at (env_at ctx w) t))))
   pub defaults : P (tree.Arrival None)
-  pub cases : (w : Walk) (t : Term) → I w.scopes → IsReadTerm ctx.word t → constant_faults (env_at ctx w) t [] ≡ [] → C (expression_tree (constant_at (env_at ctx w) t))
+  pub cases : (w : Walk) (t : Term) → I w.scopes → IsReadTerm ctx.word t → constant_faults (env_at ctx w) t [] ≡ [] →
+      C (expression_tree (constant_at (env_at ctx w) t))
 
 -- ---- lists of items
 
@@ -146,7 +158,8 @@ module _ (P : Tree → Type 0) (C : ExpressionTree → Type 0) where
   trees_hold [] h = tt
   trees_hold (s ∷ ss) h = (h.0, trees_hold ss h.1)
 
-  pub switch_holds : (ss : List Section) → SectionsHold ss → EverywhereIn P (sections_of (passed_on [] false ss)) × CaseExpressions C (sections_of (passed_on [] false ss))
+  pub switch_holds : (ss : List Section) → SectionsHold ss → EverywhereIn P (sections_of (passed_on [] false ss)) × CaseExpressions C
+      (sections_of (passed_on [] false ss))
   switch_holds ss h =
       subst (λ c. EverywhereIn P c × CaseExpressions C c) (sym (sections_are (passed_on [] false ss) ∙ ap sections (passed_same [] false ss)))
       (sections_hold (passed_trees [] false (map section_tree ss)) (passed_hold [] false (map section_tree ss) tt (trees_hold ss h)))

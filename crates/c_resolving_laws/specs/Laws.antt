@@ -33,7 +33,8 @@ use Rattle.c_resolving_laws.specs.Read.{IsRead}
 abbrev pub GivesWith : FlatCounts → (Program → Type 0) → Type 0
 GivesWith flat P =
     (text : List ℕ) (tokens : List Token) (comments : List Span) (x : Syntax) (p : Program) →
-    let word = word_of text tokens in let xs = file_of word x in IsRead word (notes_of text tokens comments xs) xs → resolved flat text tokens comments x ≡ Ok p → P p
+    let word = word_of text tokens in let xs = file_of word x in IsRead word (notes_of text tokens comments xs) xs → resolved flat text tokens
+    comments x ≡ Ok p → P p
 
 abbrev pub Gives : (Program → Type 0) → Type 0
 Gives P = (flat : FlatCounts) → GivesWith flat P

@@ -41,8 +41,22 @@ words-1 =
 
 abbrev tops-1 : List Top
 tops-1 =
-    tops.From 0 10 (Defines (record { static = false; words = Some (0 ∷ []); name = 1; parameters = []; body = Some (Braces 5 10 (Then (States [] (From 6 9 (Goto 7))) NoItem)); counted = 0 }))
-    ∷ tops.From 10 20 (Defines (record { static = false; words = Some (10 ∷ []); name = 11; parameters = []; body = Some (Braces 15 20 (Then (States [] (From 16 19 (Return (Some (At 17 (Variable 17)))))) NoItem)); counted = 0 }))
+    tops.From 0 10 (Defines (record {
+      static = false;
+      words = Some (0 ∷ []);
+      name = 1;
+      parameters = [];
+      body = Some (Braces 5 10 (Then (States [] (From 6 9 (Goto 7))) NoItem));
+      counted = 0;
+    }))
+    ∷ tops.From 10 20 (Defines (record {
+      static = false;
+      words = Some (10 ∷ []);
+      name = 11;
+      parameters = [];
+      body = Some (Braces 15 20 (Then (States [] (From 16 19 (Return (Some (At 17 (Variable 17)))))) NoItem));
+      counted = 0;
+    }))
     ∷ []
 
 -- the unknown label is named first
@@ -71,7 +85,11 @@ abbrev constant-at : ℕ → Term
 constant-at at = At at (Constant at)
 
 abbrev an-int : ℕ → ℕ → Option ℕ → Declaration
-an-int type name value = record { constant = false; words = type ∷ []; names = record { name = name; size = NoSize; value = elim value [ Some at ↦ OneValue (constant-at at) | None ↦ NoValue ] } ∷ [] }
+an-int type name value = record {
+  constant = false;
+  words = type ∷ [];
+  names = record { name = name; size = NoSize; value = elim value [ Some at ↦ OneValue (constant-at at) | None ↦ NoValue ] } ∷ [];
+}
 
 abbrev body-2 : Items
 body-2 =
@@ -79,7 +97,8 @@ body-2 =
     (Then (States [] (From 12 15 (Goto 13)))
     (Then (States [] (From 15 36 (While (At 17 (Binary 18 (variable-at 17) (constant-at 19))) (Braces 21 36
     (Then (Declares 22 27 (an-int 22 23 (Some 25)))
-    (Then (States (Named 27 29 ∷ []) (From 29 35 (Evaluate (At 29 (terms.Assign 30 (variable-at 29) (At 31 (Binary 32 (variable-at 31) (variable-at 33)))))))) NoItem))))))
+    (Then (States (Named 27 29 ∷ []) (From 29 35
+    (Evaluate (At 29 (terms.Assign 30 (variable-at 29) (At 31 (Binary 32 (variable-at 31) (variable-at 33)))))))) NoItem))))))
     (Then (States [] (From 36 39 (Return (Some (variable-at 37))))) NoItem)))
 
 abbrev tops-2 : List Top
@@ -105,7 +124,12 @@ tree : tops_of (file words-2 tops-2) tops-2 start ≡
       result = Some Int;
       file_only = false;
       params = 0;
-      slots = record { name = codes "n"; kind = Int; cells = None; constant = false } ∷ record { name = codes "x"; kind = Int; cells = None; constant = false } ∷ [];
+      slots = record { name = codes "n"; kind = Int; cells = None; constant = false } ∷ record {
+        name = codes "x";
+        kind = Int;
+        cells = None;
+        constant = false;
+      } ∷ [];
       labels = codes "mid" ∷ [];
       body = Some (item.Local 0 None ∷ item.Goto 0
           ∷ item.While (test.Source (number (node.Binary op.Less (slot 0) (number (node.Number (pos 2))))))

@@ -68,7 +68,8 @@ parameters-outer : (word : ℕ → List ℕ) (xs : List Parameter) (w : Walk) �
 parameters-outer word [] w = refl
 parameters-outer word (x ∷ xs) w = parameters-outer word xs (bind_parameter word x w) ∙ parameter-outer word x w
 
-within-outer : (word : ℕ → List ℕ) (notes : Anchor → List (List ℕ)) (f : Function) (b : Option Body) (w : Walk) → outer (behind_within word notes f b w) ≡ outer w
+within-outer : (word : ℕ → List ℕ) (notes : Anchor → List (List ℕ)) (f : Function) (b : Option Body) (w : Walk) →
+    outer (behind_within word notes f b w) ≡ outer w
 within-outer word notes f None w = refl
 within-outer word notes f (Some b) w = outermost-outer (context word notes f b) b w
 

@@ -20,7 +20,8 @@ pub enumerators-none : (word : ℕ → List ℕ) (xs : List Syntax) (i : ℕ) (d
     → enumerators_of word (drop i xs) ≡ enumerators_of word (drop (i + 1) xs)
 enumerators-none word xs i d h n = enumerators_at word xs i d h ∙ ap (λ o. in_front o (enumerators_of word (drop (i + 1) xs))) n
 
-pub enumerators-some : (word : ℕ → List ℕ) (xs : List Syntax) (i : ℕ) (d : Syntax) (e : Enumerator) → i < length xs → enumerator_of word (get_or xs i d) ≡ Some e
+pub enumerators-some : (word : ℕ → List ℕ) (xs : List Syntax) (i : ℕ) (d : Syntax) (e : Enumerator) → i < length xs →
+    enumerator_of word (get_or xs i d) ≡ Some e
     → enumerators_of word (drop i xs) ≡ e ∷ enumerators_of word (drop (i + 1) xs)
 enumerators-some word xs i d e h n = enumerators_at word xs i d h ∙ ap (λ o. in_front o (enumerators_of word (drop (i + 1) xs))) n
 
@@ -32,7 +33,8 @@ pub declarators-none : (word : ℕ → List ℕ) (xs : List Syntax) (i : ℕ) (d
     → declarators_of word (drop i xs) ≡ declarators_of word (drop (i + 1) xs)
 declarators-none word xs i d h n = declarators_at word xs i d h ∙ ap (λ o. in_front o (declarators_of word (drop (i + 1) xs))) n
 
-pub declarators-some : (word : ℕ → List ℕ) (xs : List Syntax) (i : ℕ) (d : Syntax) (e : Declarator) → i < length xs → declarator_of word (get_or xs i d) ≡ Some e
+pub declarators-some : (word : ℕ → List ℕ) (xs : List Syntax) (i : ℕ) (d : Syntax) (e : Declarator) → i < length xs →
+    declarator_of word (get_or xs i d) ≡ Some e
     → declarators_of word (drop i xs) ≡ e ∷ declarators_of word (drop (i + 1) xs)
 declarators-some word xs i d e h n = declarators_at word xs i d h ∙ ap (λ o. in_front o (declarators_of word (drop (i + 1) xs))) n
 

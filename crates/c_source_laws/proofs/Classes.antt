@@ -60,11 +60,16 @@ is_word_class _ = false
 pub word_class : (w : List ℕ) → is_word_class (keyword_class w) ≡ true
 word_class w =
     let b = branch is_word_class true in
-    b (bytes_eq (codes "if") w) c.If _ refl (b (bytes_eq (codes "else") w) c.Else _ refl (b (bytes_eq (codes "while") w) c.While _ refl (b (bytes_eq (codes "do") w) c.Do _ refl
-    (b (bytes_eq (codes "for") w) c.For _ refl (b (bytes_eq (codes "switch") w) c.Switch _ refl (b (bytes_eq (codes "case") w) c.Case _ refl (b (bytes_eq (codes "default") w) c.Default _ refl
-    (b (bytes_eq (codes "goto") w) c.Goto _ refl (b (bytes_eq (codes "return") w) c.Return _ refl (b (bytes_eq (codes "break") w) c.Break _ refl (b (bytes_eq (codes "continue") w) c.Continue _ refl
-    (b (bytes_eq (codes "int") w) c.Int _ refl (b (bytes_eq (codes "char") w) c.Char _ refl (b (bytes_eq (codes "long") w) c.Long _ refl (b (bytes_eq (codes "signed") w) c.Signed _ refl
-    (b (bytes_eq (codes "unsigned") w) c.Unsigned _ refl (b (bytes_eq (codes "void") w) c.Void _ refl (b (bytes_eq (codes "static") w) c.Static _ refl (b (bytes_eq (codes "const") w) c.Const _ refl
+    b (bytes_eq (codes "if") w) c.If _ refl
+    (b (bytes_eq (codes "else") w) c.Else _ refl (b (bytes_eq (codes "while") w) c.While _ refl (b (bytes_eq (codes "do") w) c.Do _ refl
+    (b (bytes_eq (codes "for") w) c.For _ refl (b (bytes_eq (codes "switch") w) c.Switch _ refl
+    (b (bytes_eq (codes "case") w) c.Case _ refl (b (bytes_eq (codes "default") w) c.Default _ refl
+    (b (bytes_eq (codes "goto") w) c.Goto _ refl (b (bytes_eq (codes "return") w) c.Return _ refl
+    (b (bytes_eq (codes "break") w) c.Break _ refl (b (bytes_eq (codes "continue") w) c.Continue _ refl
+    (b (bytes_eq (codes "int") w) c.Int _ refl (b (bytes_eq (codes "char") w) c.Char _ refl
+    (b (bytes_eq (codes "long") w) c.Long _ refl (b (bytes_eq (codes "signed") w) c.Signed _ refl
+    (b (bytes_eq (codes "unsigned") w) c.Unsigned _ refl (b (bytes_eq (codes "void") w) c.Void _ refl
+    (b (bytes_eq (codes "static") w) c.Static _ refl (b (bytes_eq (codes "const") w) c.Const _ refl
     (b (bytes_eq (codes "enum") w) c.Enum c.Foreign refl refl))))))))))))))))))))
 
 -- ---- marks

@@ -30,18 +30,21 @@ piece_comments first (l.Text xs) r f m = tt
 piece_comments first (l.Sign x) r f m = tt
 piece_comments first (l.Directive w) r f m = tt
 
-of_map : (t : List ℕ) (xs ys : List Span) → Each IsComment (map (comment_at t) xs) → Each IsComment (map (comment_at t) ys) → Each IsComment (map (comment_at t) (xs ++ ys))
+of_map : (t : List ℕ) (xs ys : List Span) → Each IsComment (map (comment_at t) xs) → Each IsComment (map (comment_at t) ys) →
+    Each IsComment (map (comment_at t) (xs ++ ys))
 of_map t [] ys g h = h
 of_map t (x ∷ xs) ys g h = (g.0, of_map t xs ys (g.1) h)
 
-spans_from : (t : List ℕ) (first : Bool) (ps : List Piece) (at : ℕ) → Good first ps [] → Stands t at (text ps []) → Each IsComment (map (comment_at t) (all_of comment_of ps at))
+spans_from : (t : List ℕ) (first : Bool) (ps : List Piece) (at : ℕ) → Good first ps [] → Stands t at (text ps []) →
+    Each IsComment (map (comment_at t) (all_of comment_of ps at))
 spans_from t first [] at g s = tt
 spans_from t first (p ∷ ps) at g s =
     of_map t (comment_of p at) (all_of comment_of ps (behind p at))
     (subst (λ xs. Each IsComment xs) (sym (comments_here t p at (text ps []) s)) (piece_comments first p (text ps []) (g.0) (g.1)))
     (spans_from t (first_behind first p) ps (behind p at) (g.2) (next t p at (text ps []) s))
 
-by_test : (t : List ℕ) (x : Span) (ys : List Span) (b : Bool) → IsComment (comment_at t x) → Each IsComment (map (comment_at t) ys) → Each IsComment (map (comment_at t) (cond b (x ∷ ys) ys))
+by_test : (t : List ℕ) (x : Span) (ys : List Span) (b : Bool) → IsComment (comment_at t x) → Each IsComment (map (comment_at t) ys) →
+    Each IsComment (map (comment_at t) (cond b (x ∷ ys) ys))
 by_test t x ys true g h = (g, h)
 by_test t x ys false g h = h
 
@@ -49,7 +52,9 @@ kept : (t : List ℕ) (f : Span → Bool) (xs : List Span) → Each IsComment (m
 kept t f [] h = tt
 kept t f (x ∷ xs) h = by_test t x (filter f xs) (f x) (h.0) (kept t f xs (h.1))
 
-pub comments : (pieces : List Piece) (t : List ℕ) → Spells pieces t → (xs : List Top) (a : Anchor) → Each IsComment (notes_of t (tokens_of pieces) (comments_of pieces) xs a)
+pub comments : (pieces : List Piece) (t : List ℕ) → Spells pieces t → (xs : List Top) (a : Anchor) →
+    Each IsComment (notes_of t (tokens_of pieces) (comments_of pieces) xs a)
 comments pieces t s xs a =
     kept t (λ x. same_place (place_in xs (next_token (tokens_of pieces) x.start)) a) (comments_of pieces)
-    (subst (λ xs. Each IsComment (map (comment_at t) xs)) (sym (comments_are pieces)) (spans_from t true pieces 0 (spells_walked pieces t s) ([], s.spells, refl)))
+    (subst (λ xs. Each IsComment (map (comment_at t) xs)) (sym (comments_are pieces))
+    (spans_from t true pieces 0 (spells_walked pieces t s) ([], s.spells, refl)))

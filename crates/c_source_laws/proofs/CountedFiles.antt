@@ -37,14 +37,16 @@ module _ (word : ℕ → List ℕ) where
   abbrev pub IsFewEnumerator : s.Enumerator → Type 0
   IsFewEnumerator e = IfSome e.value (IsFew word 400 3)
 
-  enumerator_few : (o : Option Conditional) (at : ℕ) (r : List Class) (q : List Event) → FitsConstant o → Stands at (enumerator_tokens o r) → first_over (enumerator_events o q) ≡ None → IsFewEnumerator (written_enumerator at o)
+  enumerator_few : (o : Option Conditional) (at : ℕ) (r : List Class) (q : List Event) → FitsConstant o → Stands at (enumerator_tokens o r) →
+      first_over (enumerator_events o q) ≡ None → IsFewEnumerator (written_enumerator at o)
   enumerator_few None at r q f s h = tt
   enumerator_few (Some d) at r q f s h =
       let g = conditional_printed word d (at + 1 + 1) r 3 (omega arith) f ((s.1).1) in
       let l = conditional_low d (Outside ∷ Outside ∷ q) h in
       omega (arith, g, l)
 
-  enumerators_few : (xs : List (Option Conditional)) (trailing : Bool) (at : ℕ) (r : List Class) (q : List Event) → FitsMore FitsConstant xs → Stands at (rest_tokens enumerator_tokens xs trailing r)
+  enumerators_few : (xs : List (Option Conditional)) (trailing : Bool) (at : ℕ) (r : List Class) (q : List Event) → FitsMore FitsConstant xs →
+      Stands at (rest_tokens enumerator_tokens xs trailing r)
       → first_over (rest_events enumerator_events xs trailing q) ≡ None → Each IsFewEnumerator (further_enumerators at xs)
   enumerators_few [] trailing at r q f s h = tt
   enumerators_few (o ∷ xs) trailing at r q f s h =
@@ -52,7 +54,8 @@ module _ (word : ℕ → List ℕ) where
       let g = enumerator_few o (at + 1) _ (Outside ∷ q) (f.0) (s.1) (rest_back enumerator_events enumerator_back xs trailing u h) in
       (g, enumerators_few xs trailing (enumerator_end (at + 1) o) r u (f.1) (enumerator_past IsWeighed word o (at + 1) _ (s.1)) h)
 
-  pub enumeration_few : (x : Enumeration) (at : ℕ) (r : List Class) (q : List Event) → FitsEnumeration x → Stands at (enumeration_tokens x r) → first_over (enumeration_events x q) ≡ None
+  pub enumeration_few : (x : Enumeration) (at : ℕ) (r : List Class) (q : List Event) → FitsEnumeration x → Stands at (enumeration_tokens x r) →
+      first_over (enumeration_events x q) ≡ None
       → Each IsFewEnumerator (written_enumeration at x)
   enumeration_few (Enumerated o xs trailing) at r q f s h =
       let v = Outside ∷ Outside ∷ q in
@@ -63,7 +66,8 @@ module _ (word : ℕ → List ℕ) where
 
   -- ---- globals
 
-  pub globals_few : (static : Bool) (x : Local) (at : ℕ) (r : List Class) (q : List Event) → FitsLocal x → Stands at (declaration_tokens (Declares static x) r) → first_over (declaration_events (Declares static x) q) ≡ None
+  pub globals_few : (static : Bool) (x : Local) (at : ℕ) (r : List Class) (q : List Event) → FitsLocal x →
+      Stands at (declaration_tokens (Declares static x) r) → first_over (declaration_events (Declares static x) q) ≡ None
       → IsFewDeclaration word 400 (written_declaration (word_end at static) x)
   globals_few static x at r q f s h =
       let y = word_end at static in
@@ -72,7 +76,8 @@ module _ (word : ℕ → List ℕ) where
 
   -- ---- functions
 
-  parameter_limit : (x : Parameter) (at : ℕ) (r : List Class) (q : List Event) → FitsParameter x → Stands at (parameter_tokens x r) → first_over (parameter_events x q) ≡ None → most_in word (parameter_node at x) ≤ 400
+  parameter_limit : (x : Parameter) (at : ℕ) (r : List Class) (q : List Event) → FitsParameter x → Stands at (parameter_tokens x r) →
+      first_over (parameter_events x q) ≡ None → most_in word (parameter_node at x) ≤ 400
   parameter_limit (Typed constant n named size) at r q f s h =
       let x = word_end at constant in
       let y = type_end x n in
@@ -81,28 +86,35 @@ module _ (word : ℕ → List ℕ) where
       let front = type_node x n ∷ word_parts y named in
       let e = join_low word 400 (word_parts at constant) front (word_low word 400 constant at) (type_low word 400 n x, word_low word 400 named y) in
       let l = size_limit word size z r (word_events named (type_events n (word_events constant q))) f u h in
-      node_low word 400 p.Param at (size_end z size) (word_parts at constant ++ front ++ size_parts z size) refl (join_low word 400 (word_parts at constant ++ front) (size_parts z size) e l)
+      node_low word 400 p.Param at (size_end z size) (word_parts at constant ++ front ++ size_parts z size) refl
+      (join_low word 400 (word_parts at constant ++ front) (size_parts z size) e l)
 
-  parameters_limit : (xs : Parameters) (at : ℕ) (r : List Class) (q : List Event) → FitsParameters xs → Stands at (parameters_tokens xs r) → first_over (parameters_events xs q) ≡ None → Low word 400 (parameters_parts at xs)
+  parameters_limit : (xs : Parameters) (at : ℕ) (r : List Class) (q : List Event) → FitsParameters xs → Stands at (parameters_tokens xs r) →
+      first_over (parameters_events xs q) ≡ None → Low word 400 (parameters_parts at xs)
   parameters_limit NoParameters at r q f s h = tt
   parameters_limit VoidParameters at r q f s h = (leaf_low word 400 at, tt)
   parameters_limit (SomeParameters x xs) at r q f s h =
       let u = parameter_events x q in
-      let g = parameter_limit x at _ q (f.0) s (more_back parameter_events parameter_back xs u h) in
-      (g, more_limit word FitsParameter parameter_tokens parameter_end parameter_events parameter_node (parameter_past IsWeighed word) parameter_back parameter_limit xs (parameter_end at x) r u (f.1) (parameter_past IsWeighed word x at _ s) h)
+      let g = parameter_limit x at _ q (f.0) s (more_back parameter_events parameter_back xs u h) in (
+        g,
+        more_limit word FitsParameter parameter_tokens parameter_end parameter_events parameter_node (parameter_past IsWeighed word) parameter_back
+            parameter_limit xs (parameter_end at x) r u (f.1) (parameter_past IsWeighed word x at _ s) h,
+      )
 
   result_limit : (o : Option NumberType) (at : ℕ) → most_in word (result_node at o) ≤ 400
   result_limit None at = leaf_low word 400 at
   result_limit (Some n) at = type_low word 400 n at
 
-  body_limit : (b : Option Block) (at : ℕ) (r : List Class) (q : List Event) → FitsBody b → Stands at (body_tokens b r) → first_over (body_events b q) ≡ None → (first_over q ≡ None) × (most_in word (body_node at b) ≤ 400)
+  body_limit : (b : Option Block) (at : ℕ) (r : List Class) (q : List Event) → FitsBody b → Stands at (body_tokens b r) →
+      first_over (body_events b q) ≡ None → (first_over q ≡ None) × (most_in word (body_node at b) ≤ 400)
   body_limit None at r q f s h = (before Outside q h, leaf_low word 400 at)
   body_limit (Some (Braces xs)) at r q f s h =
       let u = Outside ∷ Opened 1 ∷ q in
       let d = items_limit word xs 1 (at + 1) _ u f (s.1) (before Outside (items_events 1 xs u) h) in
       (before (Opened 1) q (before Outside (Opened 1 ∷ q) (d.0)), block_limit word at xs (d.1))
 
-  body_few : (m : ℕ) (b : Option Block) (at : ℕ) (r : List Class) → FitsBody b → Stands at (body_tokens b r) → most_in word (body_node at b) ≤ m → IfSome (written_function_body at b) (IsFewBody word m)
+  body_few : (m : ℕ) (b : Option Block) (at : ℕ) (r : List Class) → FitsBody b → Stands at (body_tokens b r) → most_in word (body_node at b) ≤ m →
+      IfSome (written_function_body at b) (IsFewBody word m)
   body_few m None at r f s h = tt
   body_few m (Some (Braces xs)) at r f s h = items_few word m xs (at + 1) _ f (s.1) (block_opened word m at xs h)
 
@@ -111,7 +123,8 @@ module _ (word : ℕ → List ℕ) where
     pub few : IfSome f.body (IsFewBody word f.counted)
     pub most : f.counted ≤ 400
 
-  pub function_counted : (x : Function) (at : ℕ) (r : List Class) (q : List Event) → FitsFunction x → Stands at (function_tokens x r) → first_over (function_events x q) ≡ None → FunctionCounted (written_function word at x)
+  pub function_counted : (x : Function) (at : ℕ) (r : List Class) (q : List Event) → FitsFunction x → Stands at (function_tokens x r) →
+      first_over (function_events x q) ≡ None → FunctionCounted (written_function word at x)
   function_counted (Defined static n xs b) at r q f s h =
       let w = word_end at static in
       let x = result_end w n in

@@ -57,7 +57,8 @@ module _ (word : ℕ → List ℕ) where
   abbrev sum_of : List Syntax → ℕ
   sum_of xs = sum_counted (map q xs)
 
-  node_counted : (rule : Production) (first after : ℕ) (xs : List Syntax) → (q (node rule first after xs)).counted ≡ own_count word rule first (length (map q xs)) (sum_of xs)
+  node_counted : (rule : Production) (first after : ℕ) (xs : List Syntax) →
+      (q (node rule first after xs)).counted ≡ own_count word rule first (length (map q xs)) (sum_of xs)
   node_counted rule first after xs = ap (λ (x : Part). x.counted) (part_node word rule first after xs)
 
   pub node_most : (rule : Production) (first after : ℕ) (xs : List Syntax)
@@ -112,7 +113,8 @@ module _ (word : ℕ → List ℕ) where
   postfix first after xs = node_counted p.Postfix first after xs
 
   mutual
-    expression_sum : (e : Expression) (at : ℕ) (r : List Class) → FitsExpression e → Stands at (expression_tokens e r) → sum_of (expression_parts at e) + commas e ≡ expression_count e
+    expression_sum : (e : Expression) (at : ℕ) (r : List Class) → FitsExpression e → Stands at (expression_tokens e r) →
+        sum_of (expression_parts at e) + commas e ≡ expression_count e
     expression_sum (One a) at r f s = let g = assignment_counted a at r f s in omega (arith, g)
     expression_sum (More a e) at r f s =
         let u = assignment_past IsWeighed word a at _ s in
@@ -122,7 +124,8 @@ module _ (word : ℕ → List ℕ) where
         let h = expression_sum e (x + 1) r (f.1) (u.1) in
         omega (arith, g, k, h)
 
-    assignment_counted : (a : Assignment) (at : ℕ) (r : List Class) → FitsAssignment a → Stands at (assignment_tokens a r) → (q (assignment_node at a)).counted ≡ assignment_count a
+    assignment_counted : (a : Assignment) (at : ℕ) (r : List Class) → FitsAssignment a → Stands at (assignment_tokens a r) →
+        (q (assignment_node at a)).counted ≡ assignment_count a
     assignment_counted (To t m a) at r f s =
         let u = target_past IsWeighed word t at _ s in
         let x = target_end at t in
@@ -137,7 +140,8 @@ module _ (word : ℕ → List ℕ) where
         let n = node_counted p.Assignment at (conditional_end at d) (conditional_node at d ∷ []) in
         omega (arith, h, n)
 
-    conditional_counted : (d : Conditional) (at : ℕ) (r : List Class) → FitsConditional d → Stands at (conditional_tokens d r) → (q (conditional_node at d)).counted ≡ conditional_count d
+    conditional_counted : (d : Conditional) (at : ℕ) (r : List Class) → FitsConditional d → Stands at (conditional_tokens d r) →
+        (q (conditional_node at d)).counted ≡ conditional_count d
     conditional_counted (Choose b e d) at r f s =
         let x = binary_end at b in
         let y = expression_end (x + 1) e in
@@ -148,7 +152,8 @@ module _ (word : ℕ → List ℕ) where
         let h = whole e (x + 1) (expression_sum e (x + 1) _ (f.1) (u.1)) in
         let l = leaf_counted c.Colon y (v.0) in
         let i = conditional_counted d (y + 1) r (f.2) (v.1) in
-        let n = node_counted p.Conditional at (conditional_end (y + 1) d) (binary_node at b ∷ leaf x ∷ expression_node (x + 1) e ∷ leaf y ∷ conditional_node (y + 1) d ∷ []) in
+        let n = node_counted p.Conditional at (conditional_end (y + 1) d)
+        (binary_node at b ∷ leaf x ∷ expression_node (x + 1) e ∷ leaf y ∷ conditional_node (y + 1) d ∷ []) in
         omega (arith, g, k, h, l, i, n)
     conditional_counted (Only b) at r f s =
         let h = binary_counted b at r f s in
@@ -256,7 +261,8 @@ module _ (word : ℕ → List ℕ) where
         let n = node_counted p.Target at (x + 1) (leaf at ∷ target_node (at + 1) t ∷ leaf x ∷ []) in
         omega (arith, k, h, l, n)
 
-    arguments_sum : (xs : Arguments) (at : ℕ) (r : List Class) → FitsArguments xs → Stands at (arguments_tokens xs r) → sum_of (arguments_parts at xs) ≡ arguments_count xs
+    arguments_sum : (xs : Arguments) (at : ℕ) (r : List Class) → FitsArguments xs → Stands at (arguments_tokens xs r) →
+        sum_of (arguments_parts at xs) ≡ arguments_count xs
     arguments_sum (Last x) at r f s = let g = argument_counted x at r f s in omega (arith, g)
     arguments_sum (Then x xs) at r f s =
         let y = argument_end at x in
@@ -266,7 +272,8 @@ module _ (word : ℕ → List ℕ) where
         let h = arguments_sum xs (y + 1) r (f.1) (u.1) in
         omega (arith, g, k, h)
 
-    argument_counted : (x : Argument) (at : ℕ) (r : List Class) → FitsArgument x → Stands at (argument_tokens x r) → (q (argument_node at x)).counted ≡ argument_count x
+    argument_counted : (x : Argument) (at : ℕ) (r : List Class) → FitsArgument x → Stands at (argument_tokens x r) →
+        (q (argument_node at x)).counted ≡ argument_count x
     argument_counted (Given a) at r f s =
         let h = assignment_counted a at r f s in
         let n = node_counted p.Argument at (assignment_end at a) (assignment_node at a ∷ []) in
@@ -278,26 +285,31 @@ module _ (word : ℕ → List ℕ) where
 
   -- ---- the most that count in a full expression
 
-  pub expression_most : (e : Expression) (at : ℕ) (r : List Class) → FitsExpression e → Stands at (expression_tokens e r) → (q (expression_node at e)).most ≡ expression_count e
+  pub expression_most : (e : Expression) (at : ℕ) (r : List Class) → FitsExpression e → Stands at (expression_tokens e r) →
+      (q (expression_node at e)).most ≡ expression_count e
   expression_most e at r f s =
       let xs = expression_parts at e in
       node_most p.Expression at (expression_end at e) xs ∙ sym (node_counted p.Expression at (expression_end at e) xs) ∙ whole e at (expression_sum e at r f s)
 
-  pub assignment_most : (a : Assignment) (at : ℕ) (r : List Class) → FitsAssignment a → Stands at (assignment_tokens a r) → (q (assignment_node at a)).most ≡ assignment_count a
+  pub assignment_most : (a : Assignment) (at : ℕ) (r : List Class) → FitsAssignment a → Stands at (assignment_tokens a r) →
+      (q (assignment_node at a)).most ≡ assignment_count a
   assignment_most (To t m a) at r f s =
       let x = target_end at t in
       let xs = target_node at t ∷ leaf x ∷ assignment_node (x + 1) a ∷ [] in
-      node_most p.Assignment at (assignment_end (x + 1) a) xs ∙ sym (node_counted p.Assignment at (assignment_end (x + 1) a) xs) ∙ assignment_counted (To t m a) at r f s
+      node_most p.Assignment at (assignment_end (x + 1) a) xs ∙ sym (node_counted p.Assignment at (assignment_end (x + 1) a) xs) ∙
+      assignment_counted (To t m a) at r f s
   assignment_most (Value d) at r f s =
       let xs = conditional_node at d ∷ [] in
       node_most p.Assignment at (conditional_end at d) xs ∙ sym (node_counted p.Assignment at (conditional_end at d) xs) ∙ assignment_counted (Value d) at r f s
 
-  pub conditional_most : (d : Conditional) (at : ℕ) (r : List Class) → FitsConditional d → Stands at (conditional_tokens d r) → (q (conditional_node at d)).most ≡ conditional_count d
+  pub conditional_most : (d : Conditional) (at : ℕ) (r : List Class) → FitsConditional d → Stands at (conditional_tokens d r) →
+      (q (conditional_node at d)).most ≡ conditional_count d
   conditional_most (Choose b e d) at r f s =
       let x = binary_end at b in
       let y = expression_end (x + 1) e in
       let xs = binary_node at b ∷ leaf x ∷ expression_node (x + 1) e ∷ leaf y ∷ conditional_node (y + 1) d ∷ [] in
-      node_most p.Conditional at (conditional_end (y + 1) d) xs ∙ sym (node_counted p.Conditional at (conditional_end (y + 1) d) xs) ∙ conditional_counted (Choose b e d) at r f s
+      node_most p.Conditional at (conditional_end (y + 1) d) xs ∙ sym (node_counted p.Conditional at (conditional_end (y + 1) d) xs) ∙
+      conditional_counted (Choose b e d) at r f s
   conditional_most (Only b) at r f s =
       let xs = binary_node at b ∷ [] in
       node_most p.Conditional at (binary_end at b) xs ∙ sym (node_counted p.Conditional at (binary_end at b) xs) ∙ conditional_counted (Only b) at r f s

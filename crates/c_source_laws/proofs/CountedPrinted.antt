@@ -57,7 +57,8 @@ module _ (word : ℕ → List ℕ) where
   printed x need = form_counted word x + bracket_count (form_level word x) need
 
   mutual
-    pub expression_printed : (e : Expression) (at : ℕ) (r : List Class) (need : ℕ) → need ≤ 1 → FitsExpression e → Stands at (expression_tokens e r) → printed (expression_form at e) need ≤ expression_count e
+    pub expression_printed : (e : Expression) (at : ℕ) (r : List Class) (need : ℕ) → need ≤ 1 → FitsExpression e → Stands at (expression_tokens e r) →
+        printed (expression_form at e) need ≤ expression_count e
     expression_printed (One a) at r need n f s = assignment_printed a at r need (omega (arith, n)) f s
     expression_printed (More a e) at r need n f s =
         let x = assignment_end at a + 1 in
@@ -71,14 +72,16 @@ module _ (word : ℕ → List ℕ) where
     more_level a (One b) at need n = none 1 need n
     more_level a (More b e) at need n = none 1 need n
 
-    terms_printed : (e : Expression) (at : ℕ) (r : List Class) (n : ℕ) → FitsExpression e → Stands at (expression_tokens e r) → commas_counted word n (expression_terms at e) ≤ n + 1 + expression_count e
+    terms_printed : (e : Expression) (at : ℕ) (r : List Class) (n : ℕ) → FitsExpression e → Stands at (expression_tokens e r) →
+        commas_counted word n (expression_terms at e) ≤ n + 1 + expression_count e
     terms_printed (One a) at r n f s = let g = assignment_printed a at r 2 (omega arith) f s in omega (arith, g)
     terms_printed (More a e) at r n f s =
         let g = assignment_printed a at _ 2 (omega arith) (f.0) s in
         let h = terms_printed e (assignment_end at a + 1) r (n + 1 + printed (assignment_form at a) 2) (f.1) (assignment_past IsWeighed word a at _ s).1 in
         omega (arith, g, h)
 
-    pub assignment_printed : (a : Assignment) (at : ℕ) (r : List Class) (need : ℕ) → need ≤ 2 → FitsAssignment a → Stands at (assignment_tokens a r) → printed (assignment_form at a) need ≤ assignment_count a
+    pub assignment_printed : (a : Assignment) (at : ℕ) (r : List Class) (need : ℕ) → need ≤ 2 → FitsAssignment a → Stands at (assignment_tokens a r) →
+        printed (assignment_form at a) need ≤ assignment_count a
     assignment_printed (To t m a) at r need n f s =
         let g = target_printed t at _ (f.0) s in
         let h = assignment_printed a (target_end at t + 1) r 2 (omega arith) (f.2) (target_past IsWeighed word t at _ s).1 in
@@ -86,7 +89,8 @@ module _ (word : ℕ → List ℕ) where
         omega (arith, g, h, l)
     assignment_printed (Value d) at r need n f s = conditional_printed d at r need (omega (arith, n)) f s
 
-    pub conditional_printed : (d : Conditional) (at : ℕ) (r : List Class) (need : ℕ) → need ≤ 3 → FitsConditional d → Stands at (conditional_tokens d r) → printed (conditional_form at d) need ≤ conditional_count d
+    pub conditional_printed : (d : Conditional) (at : ℕ) (r : List Class) (need : ℕ) → need ≤ 3 → FitsConditional d →
+        Stands at (conditional_tokens d r) → printed (conditional_form at d) need ≤ conditional_count d
     conditional_printed (Choose b e d) at r need n f s =
         let x = binary_end at b + 1 in
         let u = (binary_past IsWeighed word b at _ s).1 in
@@ -97,7 +101,8 @@ module _ (word : ℕ → List ℕ) where
         omega (arith, g, h, i, l)
     conditional_printed (Only b) at r need n f s = binary_printed b at r need (let l = root_low b f in omega (arith, l, n)) f s
 
-    binary_printed : (b : Binary) (at : ℕ) (r : List Class) (need : ℕ) → need ≤ root b → FitsBinary b → Stands at (binary_tokens b r) → printed (binary_form at b) need ≤ binary_count b
+    binary_printed : (b : Binary) (at : ℕ) (r : List Class) (need : ℕ) → need ≤ root b → FitsBinary b → Stands at (binary_tokens b r) →
+        printed (binary_form at b) need ≤ binary_count b
     binary_printed (Single u) at r need n f s = unary_printed u at r need n f s
     binary_printed (Both a m b) at r need n f s =
         let u = binary_past IsWeighed word a at _ s in
@@ -107,8 +112,10 @@ module _ (word : ℕ → List ℕ) where
         let l = none (level m) need n in
         rw e (omega (arith, g, h, l))
 
-    unary_printed : (u : Unary) (at : ℕ) (r : List Class) (need : ℕ) → need ≤ 14 → FitsUnary u → Stands at (unary_tokens u r) → printed (unary_form at u) need ≤ unary_count u
-    unary_printed (Prefixed m u) at r need n f s = let g = unary_printed u (at + 1) r 14 (omega arith) (f.1) (s.1) in let l = none 14 need n in omega (arith, g, l)
+    unary_printed : (u : Unary) (at : ℕ) (r : List Class) (need : ℕ) → need ≤ 14 → FitsUnary u → Stands at (unary_tokens u r) →
+        printed (unary_form at u) need ≤ unary_count u
+    unary_printed (Prefixed m u) at r need n f s = let g = unary_printed u (at + 1) r 14 (omega arith) (f.1) (s.1) in let l = none 14 need n in
+        omega (arith, g, l)
     unary_printed (StepTo t) at r need n f s =
         let g = target_printed t (at + 1) r f (s.1) in
         let e = target_level t (at + 1) word in
@@ -116,8 +123,12 @@ module _ (word : ℕ → List ℕ) where
         let k = none 14 14 (omega arith) in
         rw e (omega (arith, g, l, k))
     unary_printed (CastTo t u) at r need n f s =
-        let g = unary_printed u (type_end (at + 1) t + 1) r 14 (omega arith) f (type_past IsWeighed word t (at + 1) _ (s.1)).1 in let l = none 14 need n in omega (arith, g, l)
-    unary_printed (CastVoid u) at r need n f s = let g = unary_printed u (at + 1 + 1 + 1) r 14 (omega arith) f (((s.1).1).1) in let l = none 14 need n in omega (arith, g, l)
+        let g = unary_printed u (type_end (at + 1) t + 1) r 14 (omega arith) f (type_past IsWeighed word t (at + 1) _ (s.1)).1 in let l =
+        none 14 need
+        n in omega (arith, g, l)
+    unary_printed (CastVoid u) at r need n f s = let g = unary_printed u (at + 1 + 1 + 1) r 14 (omega arith) f (((s.1).1).1) in let l =
+        none 14 need
+        n in omega (arith, g, l)
     unary_printed (Place t) at r need n f s = let g = target_printed t at r f s in let l = none 14 need n in rw (target_level t at word) (omega (arith, g, l))
     unary_printed (StepAfter t) at r need n f s = let g = target_printed t at _ f s in let l = none 14 need n in omega (arith, g, l)
     unary_printed CallNone at r need n f s = let l = none 14 need n in omega (arith, l)
@@ -130,18 +141,21 @@ module _ (word : ℕ → List ℕ) where
         let l = one (form_level word (expression_form (at + 1) e)) need in
         omega (arith, g, l)
 
-    target_printed : (t : Target) (at : ℕ) (r : List Class) → FitsTarget t → Stands at (target_tokens t r) → form_counted word (target_form at t) ≤ target_count t
+    target_printed : (t : Target) (at : ℕ) (r : List Class) → FitsTarget t → Stands at (target_tokens t r) →
+        form_counted word (target_form at t) ≤ target_count t
     target_printed Variable at r f s = omega arith
     target_printed (Cell e) at r f s = let g = expression_printed e (at + 1 + 1) _ 0 (omega arith) f ((s.1).1) in omega (arith, g)
     target_printed (Round t) at r f s = let g = target_printed t (at + 1) _ f (s.1) in omega (arith, g)
 
-    arguments_printed : (xs : Arguments) (at : ℕ) (r : List Class) → FitsArguments xs → Stands at (arguments_tokens xs r) → all_counted word (arguments_terms at xs) ≤ arguments_count xs
+    arguments_printed : (xs : Arguments) (at : ℕ) (r : List Class) → FitsArguments xs → Stands at (arguments_tokens xs r) →
+        all_counted word (arguments_terms at xs) ≤ arguments_count xs
     arguments_printed (Last x) at r f s = let g = argument_printed x at r f s in omega (arith, g)
     arguments_printed (Then x xs) at r f s =
         let g = argument_printed x at _ (f.0) s in
         let h = arguments_printed xs (argument_end at x + 1) r (f.1) (argument_past IsWeighed word x at _ s).1 in
         omega (arith, g, h)
 
-    argument_printed : (x : Argument) (at : ℕ) (r : List Class) → FitsArgument x → Stands at (argument_tokens x r) → printed (argument_form at x) 2 ≤ argument_count x
+    argument_printed : (x : Argument) (at : ℕ) (r : List Class) → FitsArgument x → Stands at (argument_tokens x r) →
+        printed (argument_form at x) 2 ≤ argument_count x
     argument_printed (Given a) at r f s = assignment_printed a at r 2 (omega arith) f s
     argument_printed (Written n) at r f s = let l = none 14 2 (omega arith) in omega (arith, l)

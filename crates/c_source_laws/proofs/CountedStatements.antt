@@ -1,4 +1,5 @@
--- The full expressions of a derived statement count no more tokens than the most that count in one of its syntax, and within the limits of a derivation no more than their limit.
+-- The full expressions of a derived statement count no more tokens than the most that count in one of its syntax, and
+-- within the limits of a derivation no more than their limit.
 use Rattle.std.proofs.Common.{◌≡◌, ◌≤◌, ◌+◌, ℕ, Bool, true, false, cond, List, [], ◌∷◌, ◌++◌, Option, Some, None, refl}
 use Rattle.std.specs.Prelude.{IfSome}
 use Rattle.c_grammar.specs.declared.class.Class.{Class}
@@ -28,22 +29,27 @@ module _ (word : ℕ → List ℕ) where
 
   -- ---- each counts no more than the most
 
-  label_few : (m : ℕ) (x : Label) (at : ℕ) (r : List Class) → FitsLabel x → Stands at (label_tokens x r) → most_in word (label_node at x) ≤ m → IsFewLabel word m (written_label at x)
+  label_few : (m : ℕ) (x : Label) (at : ℕ) (r : List Class) → FitsLabel x → Stands at (label_tokens x r) → most_in word (label_node at x) ≤ m →
+      IsFewLabel word m (written_label at x)
   label_few m NameLabel at r f s h = tt
-  label_few m (CaseLabel d) at r f s h = let l = parts_low word m p.Label at (label_end at (CaseLabel d)) (label_parts at (CaseLabel d)) refl h in conditional_few word m d (at + 1) _ f (s.1) ((l.1).0)
+  label_few m (CaseLabel d) at r f s h = let l = parts_low word m p.Label at (label_end at (CaseLabel d)) (label_parts at (CaseLabel d)) refl h in
+      conditional_few word m d (at + 1) _ f (s.1) ((l.1).0)
   label_few m DefaultLabel at r f s h = tt
 
-  start_few : (m : ℕ) (x : ForStart) (at : ℕ) (r : List Class) → FitsForStart x → Stands at (for_start_tokens x r) → Low word m (for_start_parts at x) → IsFewStart word m (written_start at x)
+  start_few : (m : ℕ) (x : ForStart) (at : ℕ) (r : List Class) → FitsForStart x → Stands at (for_start_tokens x r) →
+      Low word m (for_start_parts at x) → IsFewStart word m (written_start at x)
   start_few m (StartLocal x) at r f s h = local_few word m x at r f s (h.0)
   start_few m (StartValue None) at r f s h = tt
   start_few m (StartValue (Some e)) at r f s h = expression_few word m e at _ f s (h.0)
 
-  optional_few : (m : ℕ) (o : Option Expression) (at : ℕ) (r : List Class) → FitsOptional o → Stands at (optional_tokens o r) → Low word m (optional_parts at o) → IfSome (optional_term at o) (IsFew word m 1)
+  optional_few : (m : ℕ) (o : Option Expression) (at : ℕ) (r : List Class) → FitsOptional o → Stands at (optional_tokens o r) →
+      Low word m (optional_parts at o) → IfSome (optional_term at o) (IsFew word m 1)
   optional_few m None at r f s h = tt
   optional_few m (Some e) at r f s h = expression_few word m e at r f s (h.0)
 
   -- the list of a construct
-  as_list : (m first after : ℕ) (ls : List s.Label) (x : s.Plain) → Each (IsFewLabel word m) ls × IsFewPlain word m x → IsFewBody word m (list_of_plain first after ls x)
+  as_list : (m first after : ℕ) (ls : List s.Label) (x : s.Plain) → Each (IsFewLabel word m) ls × IsFewPlain word m x →
+      IsFewBody word m (list_of_plain first after ls x)
   as_list m first after [] (s.From a b (s.Block list)) h = h.1
   as_list m first after [] (s.From a b _) h = h
   as_list m first after (l ∷ ls) x h = h
@@ -60,29 +66,41 @@ module _ (word : ℕ → List ℕ) where
   pub block_opened : (m at : ℕ) (xs : Items) → most_in word (block_node at (Braces xs)) ≤ m → Low word m (items_parts (at + 1) xs)
   block_opened m at xs h =
       let x = items_end (at + 1) xs in
-      (split_low word m (items_parts (at + 1) xs) (leaf x ∷ []) (parts_low word m p.Block at (x + 1) (leaf at ∷ items_parts (at + 1) xs ++ leaf x ∷ []) refl h).1).0
+      (split_low word m (items_parts (at + 1) xs) (leaf x ∷ [])
+      (parts_low word m p.Block at (x + 1) (leaf at ∷ items_parts (at + 1) xs ++ leaf x ∷ []) refl h).1).0
 
   mutual
-    pub items_few : (m : ℕ) (xs : Items) (at : ℕ) (r : List Class) → FitsItems xs → Stands at (items_tokens xs r) → Low word m (items_parts at xs) → AreFewItems word m (written_items at xs)
+    pub items_few : (m : ℕ) (xs : Items) (at : ℕ) (r : List Class) → FitsItems xs → Stands at (items_tokens xs r) → Low word m (items_parts at xs) →
+        AreFewItems word m (written_items at xs)
     items_few m NoItems at r f s h = tt
-    items_few m (LocalItem x xs) at r f s h = (local_few word m x at _ (f.0) s (h.0), items_few m xs (local_end at x) r (f.1) (local_past IsWeighed word x at _ s) (h.1))
-    items_few m (StatementItem t xs) at r f s h =
-        (statement_few m t at _ (f.0) s (statement_opened m at t (h.0)), items_few m xs (statement_end at t) r (f.1) (statement_past IsWeighed word t at _ s) (h.1))
+    items_few m (LocalItem x xs) at r f s h = (
+      local_few word m x at _ (f.0) s (h.0),
+      items_few m xs (local_end at x) r (f.1)
+          (local_past IsWeighed word x at _ s) (h.1),
+    )
+    items_few m (StatementItem t xs) at r f s h = (
+      statement_few m t at _ (f.0) s (statement_opened m at t (h.0)),
+      items_few m xs (statement_end at t) r (f.1) (statement_past IsWeighed word t at _ s) (h.1),
+    )
 
-    statement_few : (m : ℕ) (t : Statement) (at : ℕ) (r : List Class) → FitsStatement t → Stands at (statement_tokens t r) → Low word m (statement_parts at t) → StatementFew m at t
+    statement_few : (m : ℕ) (t : Statement) (at : ℕ) (r : List Class) → FitsStatement t → Stands at (statement_tokens t r) →
+        Low word m (statement_parts at t) → StatementFew m at t
     statement_few m (Labelled x t) at r f s h =
         let g = statement_few m t (label_end at x) r (f.1) (label_past IsWeighed word x at _ s) (h.1) in
         ((label_few m x at _ (f.0) s (h.0), g.0), g.1)
     statement_few m (Unlabelled x) at r f s h = (tt, plain_few m x at r f s (parts_low word m p.Plain at (plain_end at x) (plain_parts at x) refl (h.0)))
 
-    plain_few : (m : ℕ) (x : Plain) (at : ℕ) (r : List Class) → FitsPlain x → Stands at (plain_tokens x r) → Low word m (plain_parts at x) → IsFewStatement word m (written_plain at x)
+    plain_few : (m : ℕ) (x : Plain) (at : ℕ) (r : List Class) → FitsPlain x → Stands at (plain_tokens x r) → Low word m (plain_parts at x) →
+        IsFewStatement word m (written_plain at x)
     plain_few m (Compound (Braces xs)) at r f s h = items_few m xs (at + 1) _ f (s.1) (block_opened m at xs (h.0))
     plain_few m (Simple None) at r f s h = tt
     plain_few m (Simple (Some e)) at r f s h = expression_few word m e at _ f s (h.0)
     plain_few m (If e t) at r f s h =
         let x = expression_end (at + 1 + 1) e + 1 in
-        let v = (expression_past IsWeighed word e (at + 1 + 1) _ ((s.1).1)).1 in
-        (expression_few word m e (at + 1 + 1) _ (f.0) ((s.1).1) (((h.1).1).0), body_few m x t (statement_few m t x r (f.1) v (statement_opened m x t (((((h.1).1).1).1).0))))
+        let v = (expression_past IsWeighed word e (at + 1 + 1) _ ((s.1).1)).1 in (
+          expression_few word m e (at + 1 + 1) _ (f.0) ((s.1).1) (((h.1).1).0),
+          body_few m x t (statement_few m t x r (f.1) v (statement_opened m x t (((((h.1).1).1).1).0))),
+        )
     plain_few m (IfElse e t u) at r f s h =
         let x = expression_end (at + 1 + 1) e + 1 in
         let y = statement_end x t + 1 in
@@ -95,12 +113,16 @@ module _ (word : ℕ → List ℕ) where
         )
     plain_few m (While e t) at r f s h =
         let x = expression_end (at + 1 + 1) e + 1 in
-        let v = (expression_past IsWeighed word e (at + 1 + 1) _ ((s.1).1)).1 in
-        (expression_few word m e (at + 1 + 1) _ (f.0) ((s.1).1) (((h.1).1).0), body_few m x t (statement_few m t x r (f.1) v (statement_opened m x t (((((h.1).1).1).1).0))))
+        let v = (expression_past IsWeighed word e (at + 1 + 1) _ ((s.1).1)).1 in (
+          expression_few word m e (at + 1 + 1) _ (f.0) ((s.1).1) (((h.1).1).0),
+          body_few m x t (statement_few m t x r (f.1) v (statement_opened m x t (((((h.1).1).1).1).0))),
+        )
     plain_few m (DoWhile t e) at r f s h =
         let y = statement_end (at + 1) t + 1 + 1 in
-        let v = ((statement_past IsWeighed word t (at + 1) _ (s.1)).1).1 in
-        (body_few m (at + 1) t (statement_few m t (at + 1) _ (f.0) (s.1) (statement_opened m (at + 1) t ((h.1).0))), expression_few word m e y _ (f.1) v (((((h.1).1).1).1).0))
+        let v = ((statement_past IsWeighed word t (at + 1) _ (s.1)).1).1 in (
+          body_few m (at + 1) t (statement_few m t (at + 1) _ (f.0) (s.1) (statement_opened m (at + 1) t ((h.1).0))),
+          expression_few word m e y _ (f.1) v (((((h.1).1).1).1).0),
+        )
     plain_few m (For i t u b) at r f s h =
         let x = for_start_end (at + 1 + 1) i in
         let y = optional_end x t + 1 in
@@ -120,28 +142,40 @@ module _ (word : ℕ → List ℕ) where
         )
     plain_few m (Switch e t) at r f s h =
         let x = expression_end (at + 1 + 1) e + 1 in
-        let v = (expression_past IsWeighed word e (at + 1 + 1) _ ((s.1).1)).1 in
-        (expression_few word m e (at + 1 + 1) _ (f.0) ((s.1).1) (((h.1).1).0), body_few m x t (statement_few m t x r (f.1) v (statement_opened m x t (((((h.1).1).1).1).0))))
+        let v = (expression_past IsWeighed word e (at + 1 + 1) _ ((s.1).1)).1 in (
+          expression_few word m e (at + 1 + 1) _ (f.0) ((s.1).1) (((h.1).1).0),
+          body_few m x t (statement_few m t x r (f.1) v (statement_opened m x t (((((h.1).1).1).1).0))),
+        )
     plain_few m Goto at r f s h = tt
     plain_few m Break at r f s h = tt
     plain_few m Continue at r f s h = tt
-    plain_few m (Return o) at r f s h = optional_few m o (at + 1) _ f (s.1) (split_low word m (optional_parts (at + 1) o) (leaf (optional_end (at + 1) o) ∷ []) (h.1)).0
+    plain_few m (Return o) at r f s h = optional_few m o (at + 1) _ f (s.1)
+        (split_low word m (optional_parts (at + 1) o) (leaf (optional_end (at + 1) o) ∷ []) (h.1)).0
 
   -- ---- and within the limits of a derivation the most is no more than the limit
 
-  label_limit : (x : Label) (at : ℕ) (r : List Class) (q : List Event) → FitsLabel x → Stands at (label_tokens x r) → first_over (label_events x q) ≡ None → most_in word (label_node at x) ≤ 400
-  label_limit NameLabel at r q f s h = node_low word 400 p.Label at (label_end at NameLabel) (label_parts at NameLabel) refl (leaf_low word 400 at, (leaf_low word 400 (at + 1), tt))
+  label_limit : (x : Label) (at : ℕ) (r : List Class) (q : List Event) → FitsLabel x → Stands at (label_tokens x r) →
+      first_over (label_events x q) ≡ None → most_in word (label_node at x) ≤ 400
+  label_limit NameLabel at r q f s h = node_low word 400 p.Label at (label_end at NameLabel) (label_parts at NameLabel) refl
+      (leaf_low word 400 at, (leaf_low word 400 (at + 1), tt))
   label_limit (CaseLabel d) at r q f s h =
       let g = conditional_limit word d (at + 1) _ (Outside ∷ q) f (s.1) (before Outside (conditional_events d (Outside ∷ q)) h) in
-      node_low word 400 p.Label at (label_end at (CaseLabel d)) (label_parts at (CaseLabel d)) refl (leaf_low word 400 at, (g, (leaf_low word 400 (conditional_end (at + 1) d), tt)))
-  label_limit DefaultLabel at r q f s h = node_low word 400 p.Label at (label_end at DefaultLabel) (label_parts at DefaultLabel) refl (leaf_low word 400 at, (leaf_low word 400 (at + 1), tt))
+      node_low word 400 p.Label at (label_end at (CaseLabel d)) (label_parts at (CaseLabel d)) refl
+      (leaf_low word 400 at, (g, (leaf_low word 400 (conditional_end (at + 1) d), tt)))
+  label_limit DefaultLabel at r q f s h = node_low word 400 p.Label at (label_end at DefaultLabel) (label_parts at DefaultLabel) refl
+      (leaf_low word 400 at, (leaf_low word 400 (at + 1), tt))
 
-  start_limit : (x : ForStart) (at : ℕ) (r : List Class) (q : List Event) → FitsForStart x → Stands at (for_start_tokens x r) → first_over (for_start_events x q) ≡ None → Low word 400 (for_start_parts at x)
+  start_limit : (x : ForStart) (at : ℕ) (r : List Class) (q : List Event) → FitsForStart x → Stands at (for_start_tokens x r) →
+      first_over (for_start_events x q) ≡ None → Low word 400 (for_start_parts at x)
   start_limit (StartLocal x) at r q f s h = (local_limit word x at r q f s h, tt)
   start_limit (StartValue None) at r q f s h = (leaf_low word 400 at, tt)
-  start_limit (StartValue (Some e)) at r q f s h = (expression_limit word e at _ q f s (before Outside (expression_events e q) h), (leaf_low word 400 (expression_end at e), tt))
+  start_limit (StartValue (Some e)) at r q f s h = (
+    expression_limit word e at _ q f s (before Outside (expression_events e q) h),
+    (leaf_low word 400 (expression_end at e), tt),
+  )
 
-  optional_limit : (o : Option Expression) (at : ℕ) (r : List Class) (q : List Event) → FitsOptional o → Stands at (optional_tokens o r) → first_over (optional_events o q) ≡ None → Low word 400 (optional_parts at o)
+  optional_limit : (o : Option Expression) (at : ℕ) (r : List Class) (q : List Event) → FitsOptional o → Stands at (optional_tokens o r) →
+      first_over (optional_events o q) ≡ None → Low word 400 (optional_parts at o)
   optional_limit None at r q f s h = tt
   optional_limit (Some e) at r q f s h = (expression_limit word e at r q f s h, tt)
 
@@ -153,13 +187,16 @@ module _ (word : ℕ → List ℕ) where
   opened_back level true q h = h
   opened_back level false q h = before (Opened (level + 1)) q h
 
-  body_limit : (level at : ℕ) (t : Statement) (q : List Event) → Limited (opened_by level t q) (statement_parts at t) → (first_over q ≡ None) × (most_in word (statement_node at t) ≤ 400)
+  body_limit : (level at : ℕ) (t : Statement) (q : List Event) → Limited (opened_by level t q) (statement_parts at t) →
+      (first_over q ≡ None) × (most_in word (statement_node at t) ≤ 400)
   body_limit level at t q d = (opened_back level (is_block t) q (d.0), node_low word 400 p.Statement at (statement_end at t) (statement_parts at t) refl (d.1))
 
   -- an expression in brackets, and the list behind it
-  tested_limit : (e : Expression) (t : Statement) (at level : ℕ) (r : List Class) (q : List Event) → FitsExpression e → Stands (at + 1 + 1) (expression_tokens e r)
+  tested_limit : (e : Expression) (t : Statement) (at level : ℕ) (r : List Class) (q : List Event) → FitsExpression e →
+      Stands (at + 1 + 1) (expression_tokens e r)
       → let x = expression_end (at + 1 + 1) e in let u = Outside ∷ expression_events e (Outside ∷ Outside ∷ q) in
-      Limited (opened_by level t u) (statement_parts (x + 1) t) → Limited q (leaf at ∷ leaf (at + 1) ∷ expression_node (at + 1 + 1) e ∷ leaf x ∷ statement_node (x + 1) t ∷ [])
+      Limited (opened_by level t u) (statement_parts (x + 1) t) → Limited q
+      (leaf at ∷ leaf (at + 1) ∷ expression_node (at + 1 + 1) e ∷ leaf x ∷ statement_node (x + 1) t ∷ [])
   tested_limit e t at level r q f s d =
       let x = expression_end (at + 1 + 1) e in
       let v = Outside ∷ Outside ∷ q in
@@ -170,10 +207,12 @@ module _ (word : ℕ → List ℕ) where
   pub block_limit : (at : ℕ) (xs : Items) → Low word 400 (items_parts (at + 1) xs) → most_in word (block_node at (Braces xs)) ≤ 400
   block_limit at xs h =
       let x = items_end (at + 1) xs in
-      node_low word 400 p.Block at (x + 1) (leaf at ∷ items_parts (at + 1) xs ++ leaf x ∷ []) refl (leaf_low word 400 at, join_low word 400 (items_parts (at + 1) xs) (leaf x ∷ []) h (leaf_low word 400 x, tt))
+      node_low word 400 p.Block at (x + 1) (leaf at ∷ items_parts (at + 1) xs ++ leaf x ∷ []) refl
+      (leaf_low word 400 at, join_low word 400 (items_parts (at + 1) xs) (leaf x ∷ []) h (leaf_low word 400 x, tt))
 
   mutual
-    pub items_limit : (xs : Items) (level at : ℕ) (r : List Class) (q : List Event) → FitsItems xs → Stands at (items_tokens xs r) → first_over (items_events level xs q) ≡ None → Limited q (items_parts at xs)
+    pub items_limit : (xs : Items) (level at : ℕ) (r : List Class) (q : List Event) → FitsItems xs → Stands at (items_tokens xs r) →
+        first_over (items_events level xs q) ≡ None → Limited q (items_parts at xs)
     items_limit NoItems level at r q f s h = (h, tt)
     items_limit (LocalItem x xs) level at r q f s h =
         let d = items_limit xs level (local_end at x) r (local_events x q) (f.1) (local_past IsWeighed word x at _ s) h in
@@ -183,7 +222,8 @@ module _ (word : ℕ → List ℕ) where
         let e = statement_limit t level at _ q (f.0) s (d.0) in
         (e.0, (node_low word 400 p.Statement at (statement_end at t) (statement_parts at t) refl (e.1), d.1))
 
-    statement_limit : (t : Statement) (level at : ℕ) (r : List Class) (q : List Event) → FitsStatement t → Stands at (statement_tokens t r) → first_over (statement_events level t q) ≡ None → Limited q (statement_parts at t)
+    statement_limit : (t : Statement) (level at : ℕ) (r : List Class) (q : List Event) → FitsStatement t → Stands at (statement_tokens t r) →
+        first_over (statement_events level t q) ≡ None → Limited q (statement_parts at t)
     statement_limit (Labelled x t) level at r q f s h =
         let d = statement_limit t level (label_end at x) r (label_events x q) (f.1) (label_past IsWeighed word x at _ s) h in
         (label_back x q (d.0), (label_limit x at _ q (f.0) s (d.0), d.1))
@@ -191,7 +231,8 @@ module _ (word : ℕ → List ℕ) where
         let d = plain_limit x level at r q f s h in
         (d.0, (node_low word 400 p.Plain at (plain_end at x) (plain_parts at x) refl (d.1), tt))
 
-    plain_limit : (x : Plain) (level at : ℕ) (r : List Class) (q : List Event) → FitsPlain x → Stands at (plain_tokens x r) → first_over (plain_events level x q) ≡ None → Limited q (plain_parts at x)
+    plain_limit : (x : Plain) (level at : ℕ) (r : List Class) (q : List Event) → FitsPlain x → Stands at (plain_tokens x r) →
+        first_over (plain_events level x q) ≡ None → Limited q (plain_parts at x)
     plain_limit (Compound (Braces xs)) level at r q f s h =
         let u = Outside ∷ Opened (level + 1) ∷ q in
         let d = items_limit xs (level + 1) (at + 1) _ u f (s.1) (before Outside (items_events (level + 1) xs u) h) in
@@ -203,7 +244,8 @@ module _ (word : ℕ → List ℕ) where
     plain_limit (If e t) level at r q f s h =
         let x = expression_end (at + 1 + 1) e + 1 in
         let u = Outside ∷ expression_events e (Outside ∷ Outside ∷ q) in
-        tested_limit e t at level _ q (f.0) ((s.1).1) (statement_limit t (level_within level t) x r (opened_by level t u) (f.1) (expression_past IsWeighed word e (at + 1 + 1) _ ((s.1).1)).1 h)
+        tested_limit e t at level _ q (f.0) ((s.1).1) (statement_limit t (level_within level t) x r (opened_by level t u) (f.1)
+        (expression_past IsWeighed word e (at + 1 + 1) _ ((s.1).1)).1 h)
     plain_limit (IfElse e t w) level at r q f s h =
         let x = expression_end (at + 1 + 1) e + 1 in
         let y = statement_end x t + 1 in
@@ -212,13 +254,15 @@ module _ (word : ℕ → List ℕ) where
         let a = (expression_past IsWeighed word e (at + 1 + 1) _ ((s.1).1)).1 in
         let b = (statement_past IsWeighed word t x _ a).1 in
         let d = body_limit level y w (Outside ∷ v) (statement_limit w (level_within level w) y r (opened_by level w (Outside ∷ v)) (f.3) b h) in
-        let g = tested_limit e t at level _ q (f.0) ((s.1).1) (statement_limit t (level_within level t) x _ (opened_by level t u) (f.1) a (before Outside v (d.0))) in
+        let g = tested_limit e t at level _ q (f.0) ((s.1).1)
+        (statement_limit t (level_within level t) x _ (opened_by level t u) (f.1) a (before Outside v (d.0))) in
         let front = leaf at ∷ leaf (at + 1) ∷ expression_node (at + 1 + 1) e ∷ leaf (expression_end (at + 1 + 1) e) ∷ statement_node x t ∷ [] in
         (g.0, join_low word 400 front (leaf (statement_end x t) ∷ statement_node y w ∷ []) (g.1) (leaf_low word 400 (statement_end x t), (d.1, tt)))
     plain_limit (While e t) level at r q f s h =
         let x = expression_end (at + 1 + 1) e + 1 in
         let u = Outside ∷ expression_events e (Outside ∷ Outside ∷ q) in
-        tested_limit e t at level _ q (f.0) ((s.1).1) (statement_limit t (level_within level t) x r (opened_by level t u) (f.1) (expression_past IsWeighed word e (at + 1 + 1) _ ((s.1).1)).1 h)
+        tested_limit e t at level _ q (f.0) ((s.1).1) (statement_limit t (level_within level t) x r (opened_by level t u) (f.1)
+        (expression_past IsWeighed word e (at + 1 + 1) _ ((s.1).1)).1 h)
     plain_limit (DoWhile t e) level at r q f s h =
         let x = statement_end (at + 1) t in
         let y = expression_end (x + 1 + 1) e in
@@ -226,9 +270,15 @@ module _ (word : ℕ → List ℕ) where
         let w = Outside ∷ Outside ∷ v in
         let n = before Outside (Outside ∷ expression_events e w) h in
         let a = ((statement_past IsWeighed word t (at + 1) _ (s.1)).1).1 in
-        let d = body_limit level (at + 1) t (Outside ∷ q) (statement_limit t (level_within level t) (at + 1) _ (opened_by level t (Outside ∷ q)) (f.0) (s.1) (tested e v n)) in
-        let l = expression_limit word e (x + 1 + 1) _ w (f.1) a (before Outside (expression_events e w) n) in
-        (before Outside q (d.0), (leaf_low word 400 at, (d.1, (leaf_low word 400 x, (leaf_low word 400 (x + 1), (l, (leaf_low word 400 y, (leaf_low word 400 (y + 1), tt))))))))
+        let d = body_limit level (at + 1) t (Outside ∷ q) (statement_limit t (level_within level t) (at + 1) _ (opened_by level t (Outside ∷ q)) (f.0)
+        (s.1) (tested e v n)) in
+        let l = expression_limit word e (x + 1 + 1) _ w (f.1) a (before Outside (expression_events e w) n) in (
+          before Outside q (d.0),
+          (
+            leaf_low word 400 at,
+            (d.1, (leaf_low word 400 x, (leaf_low word 400 (x + 1), (l, (leaf_low word 400 y, (leaf_low word 400 (y + 1), tt)))))),
+          ),
+        )
     plain_limit (For i t u b) level at r q f s h =
         let x = for_start_end (at + 1 + 1) i in
         let y = optional_end x t in
@@ -245,19 +295,32 @@ module _ (word : ℕ → List ℕ) where
         let test = before Outside m (optional_back u (Outside ∷ m) third) in
         let start = optional_back t l test in
         let front = leaf at ∷ leaf (at + 1) ∷ for_start_parts (at + 1 + 1) i in
-        let j = join_low word 400 front (optional_parts x t) (leaf_low word 400 at, (leaf_low word 400 (at + 1), start_limit i (at + 1 + 1) _ k (f.0) ((s.1).1) start)) (optional_limit t x _ l (f.1) a test) in
-        let o = join_low word 400 (front ++ optional_parts x t) (leaf y ∷ optional_parts (y + 1) u) j (leaf_low word 400 y, optional_limit u (y + 1) _ (Outside ∷ m) (f.2) c third) in
-        let all = join_low word 400 (front ++ optional_parts x t ++ leaf y ∷ optional_parts (y + 1) u) (leaf z ∷ statement_node (z + 1) b ∷ []) o (leaf_low word 400 z, (g.1, tt)) in
+        let j = join_low word 400 front (optional_parts x t)
+        (leaf_low word 400 at, (leaf_low word 400 (at + 1), start_limit i (at + 1 + 1) _ k (f.0) ((s.1).1) start))
+        (optional_limit t x _ l (f.1) a test) in
+        let o = join_low word 400 (front ++ optional_parts x t) (leaf y ∷ optional_parts (y + 1) u) j
+        (leaf_low word 400 y, optional_limit u (y + 1) _ (Outside ∷ m) (f.2) c third) in
+        let all = join_low word 400 (front ++ optional_parts x t ++ leaf y ∷ optional_parts (y + 1) u) (leaf z ∷ statement_node (z + 1) b ∷ []) o
+        (leaf_low word 400 z, (g.1, tt)) in
         (before Outside q (before Outside (Outside ∷ q) (start_back i k start)), all)
     plain_limit (Switch e t) level at r q f s h =
         let x = expression_end (at + 1 + 1) e + 1 in
         let u = Outside ∷ expression_events e (Outside ∷ Outside ∷ q) in
-        tested_limit e t at level _ q (f.0) ((s.1).1) (statement_limit t (level_within level t) x r (opened_by level t u) (f.1) (expression_past IsWeighed word e (at + 1 + 1) _ ((s.1).1)).1 h)
-    plain_limit Goto level at r q f s h =
-        (before Outside q (before Outside (Outside ∷ q) (before Outside (Outside ∷ Outside ∷ q) h)), (leaf_low word 400 at, (leaf_low word 400 (at + 1), (leaf_low word 400 (at + 1 + 1), tt))))
+        tested_limit e t at level _ q (f.0) ((s.1).1) (statement_limit t (level_within level t) x r (opened_by level t u) (f.1)
+        (expression_past IsWeighed word e (at + 1 + 1) _ ((s.1).1)).1 h)
+    plain_limit Goto level at r q f s h = (
+      before Outside q (before Outside (Outside ∷ q) (before Outside (Outside ∷ Outside ∷ q) h)),
+      (leaf_low word 400 at, (leaf_low word 400 (at + 1), (leaf_low word 400 (at + 1 + 1), tt))),
+    )
     plain_limit Break level at r q f s h = (before Outside q (before Outside (Outside ∷ q) h), (leaf_low word 400 at, (leaf_low word 400 (at + 1), tt)))
     plain_limit Continue level at r q f s h = (before Outside q (before Outside (Outside ∷ q) h), (leaf_low word 400 at, (leaf_low word 400 (at + 1), tt)))
     plain_limit (Return o) level at r q f s h =
         let g = before Outside (optional_events o (Outside ∷ q)) h in
-        let x = optional_end (at + 1) o in
-        (before Outside q (optional_back o (Outside ∷ q) g), (leaf_low word 400 at, join_low word 400 (optional_parts (at + 1) o) (leaf x ∷ []) (optional_limit o (at + 1) _ (Outside ∷ q) f (s.1) g) (leaf_low word 400 x, tt)))
+        let x = optional_end (at + 1) o in (
+          before Outside q (optional_back o (Outside ∷ q) g),
+          (
+            leaf_low word 400 at,
+            join_low word 400 (optional_parts (at + 1) o) (leaf x ∷ []) (optional_limit o (at + 1) _ (Outside ∷ q) f (s.1) g)
+                (leaf_low word 400 x, tt),
+          ),
+        )

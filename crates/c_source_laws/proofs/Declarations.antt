@@ -20,16 +20,19 @@ module _ (word : ℕ → List ℕ) (bytes : (at : ℕ) → AreBytes (word at)) w
   word_read at false t r s = s
   word_read at true t r s = s.1
 
-  pub optional_read : (at : ℕ) (o : Option Expression) (r : List Class) → FitsOptional o → Stand word at (optional_tokens o r) → IfSome (optional_term at o) (IsReadTerm word) × Stand word (optional_end at o) r
+  pub optional_read : (at : ℕ) (o : Option Expression) (r : List Class) → FitsOptional o → Stand word at (optional_tokens o r) →
+      IfSome (optional_term at o) (IsReadTerm word) × Stand word (optional_end at o) r
   optional_read at None r f s = (tt, s)
   optional_read at (Some e) r f s = expression_read word bytes at e r f s
 
-  pub size_read : (at : ℕ) (x : Size) (r : List Class) → FitsSize x → Stand word at (size_tokens x r) → IsReadSize word (written_size at x) × Stand word (size_end at x) r
+  pub size_read : (at : ℕ) (x : Size) (r : List Class) → FitsSize x → Stand word at (size_tokens x r) →
+      IsReadSize word (written_size at x) × Stand word (size_end at x) r
   size_read at NoSize r f s = (tt, s)
   size_read at Unsized r f s = (tt, (s.1).1)
   size_read at (Sized d) r f s = let x = conditional_read word bytes (at + 1) d (c.CloseIndex ∷ r) f (s.1) in (x.0, (x.1).1)
 
-  rest_read : (xs : List Assignment) (at : ℕ) (trailing : Bool) (r : List Class) → FitsMore FitsAssignment xs → Stand word at (rest_tokens assignment_tokens xs trailing r)
+  rest_read : (xs : List Assignment) (at : ℕ) (trailing : Bool) (r : List Class) → FitsMore FitsAssignment xs →
+      Stand word at (rest_tokens assignment_tokens xs trailing r)
       → Each (IsReadTerm word) (further_terms at xs) × Stand word (rest_end assignment_end at xs trailing) r
   rest_read [] at true r f s = (tt, (s.1).1)
   rest_read [] at false r f s = (tt, s.1)
@@ -38,18 +41,21 @@ module _ (word : ℕ → List ℕ) (bytes : (at : ℕ) → AreBytes (word at)) w
       let y = rest_read xs (assignment_end (at + 1) a) trailing r (f.1) (x.1) in
       ((x.0, y.0), y.1)
 
-  initialiser_read : (at : ℕ) (i : Initialiser) (r : List Class) → FitsInitialiser i → Stand word at (initialiser_tokens i r) → IsReadInitialiser word (written_initialiser at i) × Stand word (initialiser_end at i) r
+  initialiser_read : (at : ℕ) (i : Initialiser) (r : List Class) → FitsInitialiser i → Stand word at (initialiser_tokens i r) →
+      IsReadInitialiser word (written_initialiser at i) × Stand word (initialiser_end at i) r
   initialiser_read at (OneValue a) r f s = assignment_read word bytes at a r f s
   initialiser_read at (ValueList a xs trailing) r f s =
       let x = assignment_read word bytes (at + 1) a (rest_tokens assignment_tokens xs trailing r) (f.0) (s.1) in
       let y = rest_read xs (assignment_end (at + 1) a) trailing r (f.1) (x.1) in
       ((omega arith, (x.0, y.0)), y.1)
 
-  value_read : (at : ℕ) (o : Option Initialiser) (r : List Class) → FitsValue o → Stand word at (value_tokens o r) → IsReadInitialiser word (written_value at o) × Stand word (value_end at o) r
+  value_read : (at : ℕ) (o : Option Initialiser) (r : List Class) → FitsValue o → Stand word at (value_tokens o r) →
+      IsReadInitialiser word (written_value at o) × Stand word (value_end at o) r
   value_read at None r f s = (tt, s)
   value_read at (Some i) r f s = initialiser_read (at + 1) i r f (s.1)
 
-  declarator_read : (at : ℕ) (d : Declarator) (r : List Class) → FitsDeclarator d → Stand word at (declarator_tokens d r) → IsReadDeclarator word (written_declarator at d) × Stand word (declarator_end at d) r
+  declarator_read : (at : ℕ) (d : Declarator) (r : List Class) → FitsDeclarator d → Stand word at (declarator_tokens d r) →
+      IsReadDeclarator word (written_declarator at d) × Stand word (declarator_end at d) r
   declarator_read at (Declared size value) r f s =
       let x = size_read (at + 1) size (value_tokens value r) (f.0) (s.1) in
       let y = value_read (size_end (at + 1) size) value r (f.1) (x.1) in
@@ -63,7 +69,8 @@ module _ (word : ℕ → List ℕ) (bytes : (at : ℕ) → AreBytes (word at)) w
       let y = further_read ds (declarator_end (at + 1) d) r (f.1) (x.1) in
       ((x.0, y.0), y.1)
 
-  pub local_read : (at : ℕ) (x : Local) (r : List Class) → FitsLocal x → Stand word at (local_tokens x r) → IsReadDeclaration word (written_declaration at x) × Stand word (local_end at x) r
+  pub local_read : (at : ℕ) (x : Local) (r : List Class) → FitsLocal x → Stand word at (local_tokens x r) →
+      IsReadDeclaration word (written_declaration at x) × Stand word (local_end at x) r
   local_read at (Locals constant n d ds) r f s =
       let a = word_end at constant in
       let b = type_end a n in

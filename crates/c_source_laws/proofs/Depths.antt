@@ -83,8 +83,10 @@ mutual
   unary_back : (u : Unary) → Back (unary_events u)
   unary_back (Prefixed m u) q h = before Counted q (unary_back u (Counted ∷ q) h)
   unary_back (StepTo t) q h = before Counted q (target_back t (Counted ∷ q) h)
-  unary_back (CastTo n u) q h = let r = type_events n (Counted ∷ q) in before Counted q (type_back n (Counted ∷ q) (before Uncounted r (unary_back u (Uncounted ∷ r) h)))
-  unary_back (CastVoid u) q h = before Counted q (before Uncounted (Counted ∷ q) (before Uncounted (Uncounted ∷ Counted ∷ q) (unary_back u (Uncounted ∷ Uncounted ∷ Counted ∷ q) h)))
+  unary_back (CastTo n u) q h = let r = type_events n (Counted ∷ q) in
+      before Counted q (type_back n (Counted ∷ q) (before Uncounted r (unary_back u (Uncounted ∷ r) h)))
+  unary_back (CastVoid u) q h = before Counted q
+      (before Uncounted (Counted ∷ q) (before Uncounted (Uncounted ∷ Counted ∷ q) (unary_back u (Uncounted ∷ Uncounted ∷ Counted ∷ q) h)))
   unary_back (Place t) q h = target_back t q h
   unary_back (StepAfter t) q h = target_back t q (before Counted (target_events t q) h)
   unary_back CallNone q h = before Uncounted q (before Counted (Uncounted ∷ q) (before Uncounted (Counted ∷ Uncounted ∷ q) h))
@@ -96,7 +98,8 @@ mutual
 
   target_back : (t : Target) → Back (target_events t)
   target_back Variable q h = before Uncounted q h
-  target_back (Cell e) q h = let r = Counted ∷ Uncounted ∷ q in before Uncounted q (before Counted (Uncounted ∷ q) (expression_back e r (before Uncounted (expression_events e r) h)))
+  target_back (Cell e) q h = let r = Counted ∷ Uncounted ∷ q in before Uncounted q
+      (before Counted (Uncounted ∷ q) (expression_back e r (before Uncounted (expression_events e r) h)))
   target_back (Round t) q h = before Counted q (target_back t (Counted ∷ q) (before Uncounted (target_events t (Counted ∷ q)) h))
 
   arguments_back : (xs : Arguments) → Back (arguments_events xs)
@@ -147,7 +150,8 @@ local_back (Locals constant n d ds) q h =
     let r = word_events constant q in
     let u = type_events n r in
     let v = declarator_events d u in
-    word_back constant q (type_back n r (declarator_back d u (more_back declarator_events declarator_back ds v (before Outside (more_events declarator_events ds v) h))))
+    word_back constant q (type_back n r (declarator_back d u
+    (more_back declarator_events declarator_back ds v (before Outside (more_events declarator_events ds v) h))))
 
 pub label_back : (x : Label) → Back (label_events x)
 label_back NameLabel q h = before Uncounted q (before Outside (Uncounted ∷ q) h)
@@ -174,7 +178,8 @@ opened depth level q d =
     let a = d.low (level_low (level + 1) q (m.1)) in
     record { none = m.0; low = λ l. omega (arith, a) }
 
-body_deep : (t : Statement) → StatementDeep t → (level at : ℕ) (q : List Event) → first_over (statement_events (level_within level t) t (opened_by level t q)) ≡ None → Deep (body_depth (written_body at t)) level q
+body_deep : (t : Statement) → StatementDeep t → (level at : ℕ) (q : List Event) →
+    first_over (statement_events (level_within level t) t (opened_by level t q)) ≡ None → Deep (body_depth (written_body at t)) level q
 body_deep (Unlabelled (Compound (Braces xs))) g level at q h = g level at q h
 body_deep (Unlabelled (Simple None)) g level at q h = opened _ level q (g (level + 1) at (Opened (level + 1) ∷ q) h)
 body_deep (Unlabelled _) g level at q h = opened _ level q (g (level + 1) at (Opened (level + 1) ∷ q) h)
@@ -264,7 +269,8 @@ pub enumeration_back : (x : Enumeration) → Back (enumeration_events x)
 enumeration_back (Enumerated o xs trailing) q h =
     let r = Outside ∷ Outside ∷ q in
     let u = enumerator_events o r in
-    before Outside q (before Outside (Outside ∷ q) (enumerator_back o r (rest_back enumerator_events enumerator_back xs trailing u (before Outside (rest_events enumerator_events xs trailing u) h))))
+    before Outside q (before Outside (Outside ∷ q)
+    (enumerator_back o r (rest_back enumerator_events enumerator_back xs trailing u (before Outside (rest_events enumerator_events xs trailing u) h))))
 
 pub parameter_back : (x : Parameter) → Back (parameter_events x)
 parameter_back (Typed constant n named size) q h =
@@ -281,7 +287,8 @@ pub result_back : (o : Option NumberType) → Back (result_events o)
 result_back None q h = before Outside q h
 result_back (Some n) q h = type_back n q h
 
-body_shallow : (b : Option Block) (at : ℕ) (q : List Event) → first_over (body_events b q) ≡ None → IfSome (written_function_body at b) (λ x. body_depth x ≤ 400) × (first_over q ≡ None)
+body_shallow : (b : Option Block) (at : ℕ) (q : List Event) → first_over (body_events b q) ≡ None →
+    IfSome (written_function_body at b) (λ x. body_depth x ≤ 400) × (first_over q ≡ None)
 body_shallow None at q h = (tt, before Outside q h)
 body_shallow (Some (Braces xs)) at q h =
     let r = Outside ∷ Opened 1 ∷ q in
@@ -290,7 +297,8 @@ body_shallow (Some (Braces xs)) at q h =
     let a = d.low (level_low 1 q (m.1)) in
     (omega (arith, a), m.0)
 
-pub top_shallow : (x : Top) (word : ℕ → List ℕ) (at : ℕ) (q : List Event) → first_over (top_events x q) ≡ None → IsShallow (s.From at (top_end at x) (written_form word at x)) × (first_over q ≡ None)
+pub top_shallow : (x : Top) (word : ℕ → List ℕ) (at : ℕ) (q : List Event) → first_over (top_events x q) ≡ None →
+    IsShallow (s.From at (top_end at x) (written_form word at x)) × (first_over q ≡ None)
 top_shallow Line word at q h = (tt, before Outside q h)
 top_shallow (OfEnum x) word at q h = (tt, enumeration_back x q h)
 top_shallow (OfDeclaration (Declares static x)) word at q h = (tt, word_back static q (local_back x (word_events static q) h))
@@ -302,7 +310,8 @@ top_shallow (OfFunction (Defined static n xs b)) word at q h =
     let u = parameters_back xs (Outside ∷ Outside ∷ r) (before Outside p (m.1)) in
     (m.0, word_back static q (result_back n w (before Outside r (before Outside (Outside ∷ r) u))))
 
-pub file_shallow : (xs : List Top) (word : ℕ → List ℕ) (at : ℕ) (q : List Event) → first_over (file_events xs q) ≡ None → Each IsShallow (written_tops word at xs) × (first_over q ≡ None)
+pub file_shallow : (xs : List Top) (word : ℕ → List ℕ) (at : ℕ) (q : List Event) → first_over (file_events xs q) ≡ None →
+    Each IsShallow (written_tops word at xs) × (first_over q ≡ None)
 file_shallow [] word at q h = (tt, h)
 file_shallow (x ∷ xs) word at q h =
     let n = file_shallow xs word (top_end at x) (top_events x q) h in

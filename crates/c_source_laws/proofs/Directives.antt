@@ -113,7 +113,8 @@ piece_lines first (l.Space b) r f m = tt
 piece_lines first (l.Line w) r f m = tt
 piece_lines first (l.Block w) r f m = tt
 
-pub directives : (pieces : List Piece) (t : List ℕ) → Spells pieces t → Each (λ (x : Token). IsDirectiveToken x.kind (slice_range t x.start x.end)) (tokens_of pieces)
+pub directives : (pieces : List Piece) (t : List ℕ) → Spells pieces t →
+    Each (λ (x : Token). IsDirectiveToken x.kind (slice_range t x.start x.end)) (tokens_of pieces)
 directives pieces t s = each_token IsLineHere piece_lines pieces t s
 
 -- ---- by their classes
@@ -140,7 +141,8 @@ line_there k.Number w h e = apart directive_class c.Number c.Directive refl refl
 line_there k.Char w h e = apart directive_class c.Character c.Directive refl refl e
 line_there k.Text w h e = apart directive_class c.Text c.Directive refl refl e
 
-class_lines : (t : List ℕ) (xs : List Token) → Each (λ (x : Token). IsDirectiveToken x.kind (slice_range t x.start x.end)) xs → Each (λ x. IsLine (class_of t x) (slice_range t x.start x.end)) xs
+class_lines : (t : List ℕ) (xs : List Token) → Each (λ (x : Token). IsDirectiveToken x.kind (slice_range t x.start x.end)) xs →
+    Each (λ x. IsLine (class_of t x) (slice_range t x.start x.end)) xs
 class_lines t [] h = tt
 class_lines t (x ∷ xs) h = (line_there x.kind (slice_range t x.start x.end) (h.0), class_lines t xs (h.1))
 

@@ -41,7 +41,9 @@ mutual
 
   conditional_on : (at : ℕ) (d : Conditional) → at ≤ conditional_end at d
   conditional_on at (Choose b e d) =
-      let f = binary_on at b in let g = expression_on (binary_end at b + 1) e in let h = conditional_on (expression_end (binary_end at b + 1) e + 1) d in omega (arith, f, g, h)
+      let f = binary_on at b in let g = expression_on (binary_end at b + 1) e in let h =
+      conditional_on (expression_end (binary_end at b + 1) e + 1)
+      d in omega (arith, f, g, h)
   conditional_on at (Only b) = binary_on at b
 
   binary_on : (at : ℕ) (b : Binary) → at ≤ binary_end at b
@@ -128,7 +130,8 @@ body_is first after [] (s.From a b (s.Block list)) = omega arith
 body_is first after [] (s.From a b _) = refl
 body_is first after (l ∷ ls) p = refl
 
-around : (t : Statement) (at : ℕ) → twice (label_cases (written_labels at t) + plain_cases (behind_labels at t)) + at < statement_end at t → twice (body_cases (written_body at t)) + at < statement_end at t
+around : (t : Statement) (at : ℕ) → twice (label_cases (written_labels at t) + plain_cases (behind_labels at t)) + at < statement_end at t →
+    twice (body_cases (written_body at t)) + at < statement_end at t
 around t at h = let e = body_is at (statement_end at t) (written_labels at t) (behind_labels at t) in omega (arith, e, h)
 
 mutual
@@ -147,18 +150,26 @@ mutual
   plain_few (Compound (Braces xs)) at = let h = items_cases xs (at + 1) in omega (arith, h)
   plain_few (Simple None) at = omega arith
   plain_few (Simple (Some e)) at = let h = expression_on at e in omega (arith, h)
-  plain_few (If e t) at = let g = expression_on (at + 1 + 1) e in let h = around t (expression_end (at + 1 + 1) e + 1) (cases t (expression_end (at + 1 + 1) e + 1)) in omega (arith, g, h)
+  plain_few (If e t) at = let g = expression_on (at + 1 + 1) e in let h =
+      around t (expression_end (at + 1 + 1) e + 1)
+      (cases t (expression_end (at + 1 + 1) e + 1)) in omega (arith, g, h)
   plain_few (IfElse e t u) at =
       let x = expression_end (at + 1 + 1) e + 1 in
-      let f = expression_on (at + 1 + 1) e in let g = around t x (cases t x) in let h = around u (statement_end x t + 1) (cases u (statement_end x t + 1)) in omega (arith, f, g, h)
-  plain_few (While e t) at = let g = expression_on (at + 1 + 1) e in let h = around t (expression_end (at + 1 + 1) e + 1) (cases t (expression_end (at + 1 + 1) e + 1)) in omega (arith, g, h)
+      let f = expression_on (at + 1 + 1) e in let g = around t x (cases t x) in let h =
+      around u (statement_end x t + 1)
+      (cases u (statement_end x t + 1)) in omega (arith, f, g, h)
+  plain_few (While e t) at = let g = expression_on (at + 1 + 1) e in let h =
+      around t (expression_end (at + 1 + 1) e + 1)
+      (cases t (expression_end (at + 1 + 1) e + 1)) in omega (arith, g, h)
   plain_few (DoWhile t e) at = let g = around t (at + 1) (cases t (at + 1)) in let h = expression_on (statement_end (at + 1) t + 1 + 1) e in omega (arith, g, h)
   plain_few (For f t u b) at =
       let x = for_start_end (at + 1 + 1) f in
       let y = optional_end x t + 1 in
       let z = optional_end y u + 1 in
       let d = start_on (at + 1 + 1) f in let e = optional_on x t in let g = optional_on y u in let h = around b z (cases b z) in omega (arith, d, e, g, h)
-  plain_few (Switch e t) at = let g = expression_on (at + 1 + 1) e in let h = around t (expression_end (at + 1 + 1) e + 1) (cases t (expression_end (at + 1 + 1) e + 1)) in omega (arith, g, h)
+  plain_few (Switch e t) at = let g = expression_on (at + 1 + 1) e in let h =
+      around t (expression_end (at + 1 + 1) e + 1)
+      (cases t (expression_end (at + 1 + 1) e + 1)) in omega (arith, g, h)
   plain_few Goto at = omega arith
   plain_few Break at = omega arith
   plain_few Continue at = omega arith

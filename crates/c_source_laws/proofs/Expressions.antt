@@ -45,28 +45,32 @@ module _ (word : ℕ → List ℕ) (bytes : (at : ℕ) → AreBytes (word at)) w
   texts_read at (MoreTexts n) r s = texts_read (at + 1) n r (s.1)
 
   mutual
-    pub expression_read : (at : ℕ) (e : Expression) (r : List Class) → FitsExpression e → Stand word at (expression_tokens e r) → IsReadForm word (expression_form at e) × Stand word (expression_end at e) r
+    pub expression_read : (at : ℕ) (e : Expression) (r : List Class) → FitsExpression e → Stand word at (expression_tokens e r) →
+        IsReadForm word (expression_form at e) × Stand word (expression_end at e) r
     expression_read at (One a) r f s = assignment_read at a r f s
     expression_read at (More a e) r f s =
         let m = assignment_read at a (c.Comma ∷ expression_tokens e r) (f.0) s in
         let n = terms_read (assignment_end at a + 1) e r (f.1) ((m.1).1) in
         ((m.0, n.0), n.1)
 
-    terms_read : (at : ℕ) (e : Expression) (r : List Class) → FitsExpression e → Stand word at (expression_tokens e r) → AreReadTerms word (expression_terms at e) × Stand word (expression_end at e) r
+    terms_read : (at : ℕ) (e : Expression) (r : List Class) → FitsExpression e → Stand word at (expression_tokens e r) →
+        AreReadTerms word (expression_terms at e) × Stand word (expression_end at e) r
     terms_read at (One a) r f s = let m = assignment_read at a r f s in ((m.0, tt), m.1)
     terms_read at (More a e) r f s =
         let m = assignment_read at a (c.Comma ∷ expression_tokens e r) (f.0) s in
         let n = terms_read (assignment_end at a + 1) e r (f.1) ((m.1).1) in
         ((m.0, n.0), n.1)
 
-    pub assignment_read : (at : ℕ) (a : Assignment) (r : List Class) → FitsAssignment a → Stand word at (assignment_tokens a r) → IsReadForm word (assignment_form at a) × Stand word (assignment_end at a) r
+    pub assignment_read : (at : ℕ) (a : Assignment) (r : List Class) → FitsAssignment a → Stand word at (assignment_tokens a r) →
+        IsReadForm word (assignment_form at a) × Stand word (assignment_end at a) r
     assignment_read at (To t m a) r f s =
         let x = target_read at t (m ∷ assignment_tokens a r) (f.0) s in
         let y = assignment_read (target_end at t + 1) a r (f.2) ((x.1).1) in
         ((target_written at t, x.0, y.0), y.1)
     assignment_read at (Value d) r f s = conditional_read at d r f s
 
-    pub conditional_read : (at : ℕ) (d : Conditional) (r : List Class) → FitsConditional d → Stand word at (conditional_tokens d r) → IsReadForm word (conditional_form at d) × Stand word (conditional_end at d) r
+    pub conditional_read : (at : ℕ) (d : Conditional) (r : List Class) → FitsConditional d → Stand word at (conditional_tokens d r) →
+        IsReadForm word (conditional_form at d) × Stand word (conditional_end at d) r
     conditional_read at (Choose b e d) r f s =
         let x = binary_read at b (c.Question ∷ expression_tokens e (c.Colon ∷ conditional_tokens d r)) (f.0) s in
         let y = expression_read (binary_end at b + 1) e (c.Colon ∷ conditional_tokens d r) (f.1) ((x.1).1) in
@@ -74,14 +78,16 @@ module _ (word : ℕ → List ℕ) (bytes : (at : ℕ) → AreBytes (word at)) w
         ((x.0, y.0, z.0), z.1)
     conditional_read at (Only b) r f s = binary_read at b r f s
 
-    binary_read : (at : ℕ) (b : Binary) (r : List Class) → FitsBinary b → Stand word at (binary_tokens b r) → IsReadForm word (binary_form at b) × Stand word (binary_end at b) r
+    binary_read : (at : ℕ) (b : Binary) (r : List Class) → FitsBinary b → Stand word at (binary_tokens b r) →
+        IsReadForm word (binary_form at b) × Stand word (binary_end at b) r
     binary_read at (Single u) r f s = unary_read at u r f s
     binary_read at (Both a m b) r f s =
         let x = binary_read at a (m ∷ binary_tokens b r) (f.0) s in
         let y = binary_read (binary_end at a + 1) b r (f.1) ((x.1).1) in
         ((x.0, y.0), y.1)
 
-    unary_read : (at : ℕ) (u : Unary) (r : List Class) → FitsUnary u → Stand word at (unary_tokens u r) → IsReadForm word (unary_form at u) × Stand word (unary_end at u) r
+    unary_read : (at : ℕ) (u : Unary) (r : List Class) → FitsUnary u → Stand word at (unary_tokens u r) →
+        IsReadForm word (unary_form at u) × Stand word (unary_end at u) r
     unary_read at (Prefixed m u) r f s =
         let x = unary_read (at + 1) u r (f.1) (s.1) in
         ((prefix_fits (step_of (mark_of (word at))) (At (at + 1) (unary_form (at + 1) u)) (prefix_there m (word at) (f.0) (s.0)), x.0), x.1)
@@ -104,7 +110,8 @@ module _ (word : ℕ → List ℕ) (bytes : (at : ℕ) → AreBytes (word at)) w
         let x = expression_read (at + 1) e (c.Close ∷ r) (f.1) (s.1) in
         (x.0, (x.1).1)
 
-    target_read : (at : ℕ) (t : Target) (r : List Class) → FitsTarget t → Stand word at (target_tokens t r) → IsReadForm word (target_form at t) × Stand word (target_end at t) r
+    target_read : (at : ℕ) (t : Target) (r : List Class) → FitsTarget t → Stand word at (target_tokens t r) →
+        IsReadForm word (target_form at t) × Stand word (target_end at t) r
     target_read at Variable r f s = (name_there (word at) (s.0), s.1)
     target_read at (Cell e) r f s =
         let x = expression_read (at + 1 + 1) e (c.CloseIndex ∷ r) f ((s.1).1) in
@@ -113,13 +120,15 @@ module _ (word : ℕ → List ℕ) (bytes : (at : ℕ) → AreBytes (word at)) w
         let x = target_read (at + 1) t (c.Close ∷ r) f (s.1) in
         (x.0, (x.1).1)
 
-    arguments_read : (at : ℕ) (xs : Arguments) (r : List Class) → FitsArguments xs → Stand word at (arguments_tokens xs r) → AreReadTerms word (arguments_terms at xs) × Stand word (arguments_end at xs) r
+    arguments_read : (at : ℕ) (xs : Arguments) (r : List Class) → FitsArguments xs → Stand word at (arguments_tokens xs r) →
+        AreReadTerms word (arguments_terms at xs) × Stand word (arguments_end at xs) r
     arguments_read at (Last x) r f s = let m = argument_read at x r f s in ((m.0, tt), m.1)
     arguments_read at (Then x xs) r f s =
         let m = argument_read at x (c.Comma ∷ arguments_tokens xs r) (f.0) s in
         let n = arguments_read (argument_end at x + 1) xs r (f.1) ((m.1).1) in
         ((m.0, n.0), n.1)
 
-    argument_read : (at : ℕ) (x : Argument) (r : List Class) → FitsArgument x → Stand word at (argument_tokens x r) → IsReadForm word (argument_form at x) × Stand word (argument_end at x) r
+    argument_read : (at : ℕ) (x : Argument) (r : List Class) → FitsArgument x → Stand word at (argument_tokens x r) →
+        IsReadForm word (argument_form at x) × Stand word (argument_end at x) r
     argument_read at (Given a) r f s = assignment_read at a r f s
     argument_read at (Written n) r f s = (texts_bytes word bytes (text_tokens at n), texts_read at n r s)

@@ -21,7 +21,8 @@ enumerator_symbols None = Outside c.Name ∷ []
 enumerator_symbols (Some d) = Outside c.Name ∷ Outside c.Equals ∷ conditional_symbols d
 
 abbrev pub enumeration_symbols : Enumeration → List Symbol
-enumeration_symbols (Enumerated x xs trailing) = Outside c.Enum ∷ Outside c.OpenBlock ∷ each_symbols enumerator_symbols x xs ++ word_symbols c.Comma trailing ++ Outside c.CloseBlock ∷ Outside c.Semicolon ∷ []
+enumeration_symbols (Enumerated x xs trailing) = Outside c.Enum ∷ Outside c.OpenBlock ∷ each_symbols enumerator_symbols x xs ++ word_symbols c.Comma
+    trailing ++ Outside c.CloseBlock ∷ Outside c.Semicolon ∷ []
 
 abbrev pub declaration_symbols : Declaration → List Symbol
 declaration_symbols (Declares static x) = word_symbols c.Static static ++ local_symbols x

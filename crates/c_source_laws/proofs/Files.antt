@@ -26,14 +26,17 @@ use Rattle.c_source_laws.proofs.Statements.{items_read}
 module _ (word : ℕ → List ℕ) (bytes : (at : ℕ) → AreBytes (word at)) where
   -- ---- enums
 
-  constant_read : (at : ℕ) (o : Option Conditional) (r : List Class) → FitsConstant o → Stand word (at + 1) (constant_tokens o r) → IsNameAt word at → IsFormedEnumerator word (written_enumerator at o) × Stand word (enumerator_end at o) r
+  constant_read : (at : ℕ) (o : Option Conditional) (r : List Class) → FitsConstant o → Stand word (at + 1) (constant_tokens o r) → IsNameAt word at →
+      IsFormedEnumerator word (written_enumerator at o) × Stand word (enumerator_end at o) r
   constant_read at None r f s n = (record { named = n; value = tt }, s)
   constant_read at (Some d) r f s n = let x = conditional_read word bytes (at + 1 + 1) d r f (s.1) in (record { named = n; value = x.0 }, x.1)
 
-  enumerator_read : (at : ℕ) (o : Option Conditional) (r : List Class) → FitsConstant o → Stand word at (enumerator_tokens o r) → IsFormedEnumerator word (written_enumerator at o) × Stand word (enumerator_end at o) r
+  enumerator_read : (at : ℕ) (o : Option Conditional) (r : List Class) → FitsConstant o → Stand word at (enumerator_tokens o r) →
+      IsFormedEnumerator word (written_enumerator at o) × Stand word (enumerator_end at o) r
   enumerator_read at o r f s = constant_read at o r f (s.1) (name_there (word at) (s.0))
 
-  enumerators_read : (xs : List (Option Conditional)) (at : ℕ) (trailing : Bool) (r : List Class) → FitsMore FitsConstant xs → Stand word at (rest_tokens enumerator_tokens xs trailing r)
+  enumerators_read : (xs : List (Option Conditional)) (at : ℕ) (trailing : Bool) (r : List Class) → FitsMore FitsConstant xs →
+      Stand word at (rest_tokens enumerator_tokens xs trailing r)
       → Each (IsFormedEnumerator word) (further_enumerators at xs) × Stand word (rest_end enumerator_end at xs trailing) r
   enumerators_read [] at true r f s = (tt, (s.1).1)
   enumerators_read [] at false r f s = (tt, s.1)
@@ -42,7 +45,8 @@ module _ (word : ℕ → List ℕ) (bytes : (at : ℕ) → AreBytes (word at)) w
       let y = enumerators_read xs (enumerator_end (at + 1) o) trailing r (f.1) (x.1) in
       ((x.0, y.0), y.1)
 
-  enumeration_read : (at : ℕ) (x : Enumeration) (r : List Class) → FitsEnumeration x → Stand word at (enumeration_tokens x r) → IsFormed word (s.Enum (written_enumeration at x)) × Stand word (enumeration_end at x) r
+  enumeration_read : (at : ℕ) (x : Enumeration) (r : List Class) → FitsEnumeration x → Stand word at (enumeration_tokens x r) →
+      IsFormed word (s.Enum (written_enumeration at x)) × Stand word (enumeration_end at x) r
   enumeration_read at (Enumerated o xs trailing) r f s =
       let x = enumerator_read (at + 1 + 1) o (rest_tokens enumerator_tokens xs trailing (c.Semicolon ∷ r)) (f.0) ((s.1).1) in
       let y = enumerators_read xs (enumerator_end (at + 1 + 1) o) trailing (c.Semicolon ∷ r) (f.1) (x.1) in
@@ -50,11 +54,13 @@ module _ (word : ℕ → List ℕ) (bytes : (at : ℕ) → AreBytes (word at)) w
 
   -- ---- functions
 
-  named_read : (at : ℕ) (named : Bool) (r : List Class) → Stand word at (word_tokens c.Name named r) → IfSome (named_at at named) (IsNameAt word) × Stand word (word_end at named) r
+  named_read : (at : ℕ) (named : Bool) (r : List Class) → Stand word at (word_tokens c.Name named r) →
+      IfSome (named_at at named) (IsNameAt word) × Stand word (word_end at named) r
   named_read at false r s = (tt, s)
   named_read at true r s = (name_there (word at) (s.0), s.1)
 
-  parameter_read : (at : ℕ) (x : Parameter) (r : List Class) → FitsParameter x → Stand word at (parameter_tokens x r) → IsReadParameter word (written_parameter at x) × Stand word (parameter_end at x) r
+  parameter_read : (at : ℕ) (x : Parameter) (r : List Class) → FitsParameter x → Stand word at (parameter_tokens x r) →
+      IsReadParameter word (written_parameter at x) × Stand word (parameter_end at x) r
   parameter_read at (Typed constant n named size) r f s =
       let a = word_end at constant in
       let b = type_end a n in
@@ -72,7 +78,8 @@ module _ (word : ℕ → List ℕ) (bytes : (at : ℕ) → AreBytes (word at)) w
       let z = further_read xs (parameter_end (at + 1) x) r (f.1) (y.1) in
       ((y.0, z.0), z.1)
 
-  parameters_read : (at : ℕ) (xs : Parameters) (r : List Class) → FitsParameters xs → Stand word at (parameters_tokens xs r) → Each (IsReadParameter word) (written_parameters at xs) × Stand word (parameters_end at xs) r
+  parameters_read : (at : ℕ) (xs : Parameters) (r : List Class) → FitsParameters xs → Stand word at (parameters_tokens xs r) →
+      Each (IsReadParameter word) (written_parameters at xs) × Stand word (parameters_end at xs) r
   parameters_read at NoParameters r f s = (tt, s)
   parameters_read at VoidParameters r f s = (tt, s.1)
   parameters_read at (SomeParameters x xs) r f s =
@@ -112,7 +119,8 @@ module _ (word : ℕ → List ℕ) (bytes : (at : ℕ) → AreBytes (word at)) w
       let m = local_read word bytes (word_end at static) x r f (word_read word bytes at static c.Static _ s) in (m.0, tt, m.1)
   top_read at (OfFunction x) r f s = function_read at x r f s
 
-  pub file_read : (xs : List Top) (at : ℕ) (r : List Class) → FitsFile xs → Stand word at (file_tokens xs r) → Each (IsFormedTop word) (written_tops word at xs) × FileHasKeywords word at xs
+  pub file_read : (xs : List Top) (at : ℕ) (r : List Class) → FitsFile xs → Stand word at (file_tokens xs r) →
+      Each (IsFormedTop word) (written_tops word at xs) × FileHasKeywords word at xs
   file_read [] at r f s = (tt, tt)
   file_read (x ∷ xs) at r f s =
       let m = top_read at x (file_tokens xs r) (f.0) s in

@@ -49,7 +49,8 @@ module _ (word : ℕ → List ℕ) where
   parameters_peak VoidParameters at r q f s z = let a = leaf_is word at in omega (arith, a)
   parameters_peak (SomeParameters x xs) at r q f s z =
       let g = parameter_peak x at _ q (f.0) s z in
-      let h = more_peak word FitsParameter parameter_tokens parameter_end parameter_events parameter_node (parameter_past IsWeighed word) parameter_peak xs (parameter_end at x) r (parameter_events x q) (f.1) (parameter_past IsWeighed word x at _ s) in
+      let h = more_peak word FitsParameter parameter_tokens parameter_end parameter_events parameter_node (parameter_past IsWeighed word)
+      parameter_peak xs (parameter_end at x) r (parameter_events x q) (f.1) (parameter_past IsWeighed word x at _ s) in
       omega (arith, g, h)
 
   result_is : (o : Option NumberType) (at : ℕ) → most_in word (result_node at o) ≡ 0
@@ -69,10 +70,12 @@ module _ (word : ℕ → List ℕ) where
       omega (arith, n, g, z)
 
   -- of a body and parameters among tokens that don't count
-  both : (a b e k d m p v q : ℕ) → a ≡ 0 → b ≡ 0 → e ≡ 0 → k ≡ 0 → q ≡ 0 → v ≡ max p q → m ≡ max d (max 0 v) → max a (max b (max e (max p (max k (max d 0))))) ≡ m
+  both : (a b e k d m p v q : ℕ) → a ≡ 0 → b ≡ 0 → e ≡ 0 → k ≡ 0 → q ≡ 0 → v ≡ max p q → m ≡ max d (max 0 v) →
+      max a (max b (max e (max p (max k (max d 0))))) ≡ m
   both a b e k d m p v q ha hb he hk hq g h = (λ i. max (ha i) (max (hb i) (max (he i) (max p (max (hk i) (max d 0)))))) ∙ omega (arith, hq, g, h)
 
-  pub function_most : (static : _) (n : Option NumberType) (xs : Parameters) (b : Option Block) (at : ℕ) (r : List Class) → FitsFunction (Defined static n xs b) → Stands at (function_tokens (Defined static n xs b) r)
+  pub function_most : (static : _) (n : Option NumberType) (xs : Parameters) (b : Option Block) (at : ℕ) (r : List Class) →
+      FitsFunction (Defined static n xs b) → Stands at (function_tokens (Defined static n xs b) r)
       → most_of word (function_parts (word_end at static) n xs b) ≡ peak (function_events (Defined static n xs b) [])
   function_most static n xs b at r f s =
       let w = word_end at static in
@@ -89,4 +92,5 @@ module _ (word : ℕ → List ℕ) where
       let g = parameters_peak xs (x + 1 + 1) _ l (f.0) i refl in
       let node = node_is word p.Params (x + 1 + 1) y (parameters_parts (x + 1 + 1) xs) refl in
       let h = body_peak b (y + 1) r (Outside ∷ u) (f.1) j refl in
-      both _ _ _ _ (most_in word (body_node (y + 1) b)) _ (most_in word (parameters_node (x + 1 + 1) xs)) (peak u) (peak l) (result_is n w) (leaf_is word x) (leaf_is word (x + 1)) (leaf_is word y) start (omega (arith, g, node)) h
+      both _ _ _ _ (most_in word (body_node (y + 1) b)) _ (most_in word (parameters_node (x + 1 + 1) xs)) (peak u) (peak l) (result_is n w)
+      (leaf_is word x) (leaf_is word (x + 1)) (leaf_is word y) start (omega (arith, g, node)) h

@@ -18,7 +18,8 @@ pub word_derives : (k : Class) (given : Bool) → MayBe k (word_symbols k given)
 word_derives k false = r.no
 word_derives k true = r.yes
 
-module _ {X W : Type 0} (Fits : X → Type 0) (spells : X → List Symbol) (writes : ℕ → X → W) (Is : ℕ → List Symbol → W → Type 0) (derives : (x : X) (at : ℕ) → Fits x → Is at (spells x) (writes at x)) where
+module _ {X W : Type 0} (Fits : X → Type 0) (spells : X → List Symbol) (writes : ℕ → X → W) (Is : ℕ → List Symbol → W → Type 0)
+    (derives : (x : X) (at : ℕ) → Fits x → Is at (spells x) (writes at x)) where
   more_derive : (xs : List X) (at : ℕ) → FitsMore Fits xs → AreMore Is at (more_symbols spells xs) (further spells writes at xs)
   more_derive [] at f = r.none
   more_derive (x ∷ xs) at f = r.more (derives x (at + 1) (f.0)) (more_derive xs (token_behind (at + 1) (spells x)) (f.1))
@@ -38,19 +39,22 @@ value_derives a at f = r.value (assignment_derives a at f)
 
 initialiser_derives : (x : Initialiser) (at : ℕ) → FitsInitialiser x → IsInitialiser at (initialiser_symbols x) (initialiser_of at x)
 initialiser_derives (OneValue a) at f = r.one (value_derives a at f)
-initialiser_derives (ValueList a xs trailing) at f = r.list (each_derive FitsAssignment assignment_symbols assignment_term IsValue value_derives a xs (at + 1) (f.0) (f.1)) (word_derives c.Comma trailing)
+initialiser_derives (ValueList a xs trailing) at f = r.list (each_derive FitsAssignment assignment_symbols assignment_term IsValue value_derives a xs
+    (at + 1) (f.0) (f.1)) (word_derives c.Comma trailing)
 
 given_derives : (o : Option Initialiser) (at : ℕ) → FitsValue o → IsGiven at (value_symbols o) (value_of at o)
 given_derives None at f = r.not_given
 given_derives (Some x) at f = r.given (initialiser_derives x (at + 1) f)
 
 declarator_derives : (d : Declarator) (at : ℕ) → FitsDeclarator d → IsDeclarator at (declarator_symbols d) (declarator_of at d)
-declarator_derives (Declared size value) at f = r.declared (size_derives size (at + 1) (f.0)) (given_derives value (token_behind (at + 1) (size_symbols size)) (f.1))
+declarator_derives (Declared size value) at f = r.declared (size_derives size (at + 1) (f.0))
+    (given_derives value (token_behind (at + 1) (size_symbols size)) (f.1))
 
 pub local_derives : (x : Local) (at : ℕ) → FitsLocal x → IsDeclaration at (local_symbols x) (declaration_of at x)
 local_derives (Locals constant n d ds) at f =
     let x = token_behind at (word_symbols c.Const constant) in
-    r.declares (word_derives c.Const constant) (type_derives n) (each_derive FitsDeclarator declarator_symbols declarator_of IsDeclarator declarator_derives d ds (token_behind x (type_symbols n)) (f.0) (f.1))
+    r.declares (word_derives c.Const constant) (type_derives n)
+    (each_derive FitsDeclarator declarator_symbols declarator_of IsDeclarator declarator_derives d ds (token_behind x (type_symbols n)) (f.0) (f.1))
 
 -- ---- statements
 
@@ -76,7 +80,8 @@ abbrev Derives : Plain → ℕ → Type 0
 Derives (Compound b) at = IsBlock at (block_symbols b) (block_of at b)
 Derives x at = IsPlain (is_plain_open x) at (plain_symbols x) (plain_of at x)
 
-as_statement : (x : Plain) (at : ℕ) → Derives x at → IsStatement (is_plain_open x) at (plain_symbols x) (s.States [] (s.From at (token_behind at (plain_symbols x)) (plain_of at x)))
+as_statement : (x : Plain) (at : ℕ) → Derives x at → IsStatement (is_plain_open x) at (plain_symbols x)
+    (s.States [] (s.From at (token_behind at (plain_symbols x)) (plain_of at x)))
 as_statement (Compound b) at h = r.block_alone h
 as_statement x at h = r.unlabelled h
 
@@ -93,7 +98,8 @@ mutual
   items_derive (LocalItem x xs) at f = r.local (local_derives x at (f.0)) (items_derive xs (token_behind at (local_symbols x)) (f.1))
   items_derive (StatementItem t xs) at f = r.statement (statement_derives t at (f.0)) (items_derive xs (token_behind at (statement_symbols t)) (f.1))
 
-  statement_derives : (t : Statement) (at : ℕ) → FitsStatement t → IsStatement (is_statement_open t) at (statement_symbols t) (s.States (labels_of at t) (statement_of at t))
+  statement_derives : (t : Statement) (at : ℕ) → FitsStatement t → IsStatement (is_statement_open t) at (statement_symbols t)
+      (s.States (labels_of at t) (statement_of at t))
   statement_derives (Labelled x t) at f = r.labelled (label_derives x at (f.0)) (statement_derives t (token_behind at (label_symbols x)) (f.1))
   statement_derives (Unlabelled x) at f = as_statement x at (plain_derives x at f)
 
@@ -108,13 +114,15 @@ mutual
   plain_derives (If e t) at f = r.if_alone (tested_derives c.If e at (f.0)) (body_derives t (token_behind at (tested_symbols c.If e)) (f.1))
   plain_derives (IfElse e t u) at f =
       let x = token_behind at (tested_symbols c.If e) in
-      r.if_else (tested_derives c.If e at (f.0)) (subst (λ o. IsBody o x (body_symbols t) (body_of x t)) (f.2) (body_derives t x (f.1))) (body_derives u (token_behind x (body_symbols t) + 1) (f.3))
+      r.if_else (tested_derives c.If e at (f.0)) (subst (λ o. IsBody o x (body_symbols t) (body_of x t)) (f.2) (body_derives t x (f.1)))
+      (body_derives u (token_behind x (body_symbols t) + 1) (f.3))
   plain_derives (While e t) at f = r.while (tested_derives c.While e at (f.0)) (body_derives t (token_behind at (tested_symbols c.While e)) (f.1))
   plain_derives (DoWhile t e) at f = r.do_while (body_derives t (at + 1) (f.0)) (tested_derives c.While e (token_behind (at + 1) (body_symbols t)) (f.1))
   plain_derives (For x t u b) at f =
       let y = token_behind (at + 1 + 1) (start_symbols x) in
       let z = token_behind y (optional_symbols t) + 1 in
-      r.for (start_derives x (at + 1 + 1) (f.0)) (optional_derives t y (f.1)) (optional_derives u z (f.2)) (body_derives b (token_behind z (optional_symbols u) + 1) (f.3))
+      r.for (start_derives x (at + 1 + 1) (f.0)) (optional_derives t y (f.1)) (optional_derives u z (f.2))
+      (body_derives b (token_behind z (optional_symbols u) + 1) (f.3))
   plain_derives (Switch e t) at f = r.switch (tested_derives c.Switch e at (f.0)) (body_derives t (token_behind at (tested_symbols c.Switch e)) (f.1))
   plain_derives Goto at f = r.goto
   plain_derives Break at f = r.break

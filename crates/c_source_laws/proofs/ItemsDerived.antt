@@ -21,7 +21,8 @@ word_given k xs b r.yes = refl
 
 -- ---- lists between commas
 
-module _ {X W : Type 0} (Fits : X → Type 0) (spells : X → List Symbol) (writes : ℕ → X → W) (Is : ℕ → List Symbol → W → Type 0) (given : (at : ℕ) (xs : List Symbol) (w : W) → Is at xs w → Given Fits spells writes at xs w) where
+module _ {X W : Type 0} (Fits : X → Type 0) (spells : X → List Symbol) (writes : ℕ → X → W) (Is : ℕ → List Symbol → W → Type 0)
+    (given : (at : ℕ) (xs : List Symbol) (w : W) → Is at xs w → Given Fits spells writes at xs w) where
   more_given : (at : ℕ) (xs : List Symbol) (ws : List W) → AreMore Is at xs ws → Given (FitsMore Fits) (more_symbols spells) (further spells writes) at xs ws
   more_given at xs ws r.none = record { d = []; fits = tt; symbols = refl; written = refl }
   more_given at us vs (r.more {xs = xs} {ys = ys} {w = w} {ws = ws} a b) =
@@ -63,13 +64,20 @@ size_given at xs z r.no_size = record { d = NoSize; fits = tt; symbols = refl; w
 size_given at xs z r.unsized = record { d = Unsized; fits = tt; symbols = refl; written = refl }
 size_given at us z (r.sized {xs = xs} {f = f} a) =
     let h = conditional_given (at + 1) xs f a in
-    record { d = Sized (h.d); fits = h.fits; symbols = λ i. Outside c.OpenIndex ∷ h.symbols i ++ Outside c.CloseIndex ∷ []; written = λ i. s.Sized (At (at + 1) (h.written i)) }
+    record {
+      d = Sized (h.d);
+      fits = h.fits;
+      symbols = λ i. Outside c.OpenIndex ∷ h.symbols i ++ Outside c.CloseIndex ∷ [];
+      written = λ i. s.Sized (At (at + 1) (h.written i));
+    }
 
 value_given : (at : ℕ) (xs : List Symbol) (t : Term) → IsValue at xs t → Given FitsAssignment assignment_symbols assignment_term at xs t
-value_given at xs t (r.value {f = f} a) = let h = assignment_given at xs f a in record { d = h.d; fits = h.fits; symbols = h.symbols; written = λ i. At at (h.written i) }
+value_given at xs t (r.value {f = f} a) = let h = assignment_given at xs f a in
+    record { d = h.d; fits = h.fits; symbols = h.symbols; written = λ i. At at (h.written i) }
 
 initialiser_given : (at : ℕ) (xs : List Symbol) (v : s.Initialiser) → IsInitialiser at xs v → Given FitsInitialiser initialiser_symbols initialiser_of at xs v
-initialiser_given at xs v (r.one {t = t} a) = let h = value_given at xs t a in record { d = OneValue (h.d); fits = h.fits; symbols = h.symbols; written = λ i. s.OneValue (h.written i) }
+initialiser_given at xs v (r.one {t = t} a) = let h = value_given at xs t a in
+    record { d = OneValue (h.d); fits = h.fits; symbols = h.symbols; written = λ i. s.OneValue (h.written i) }
 initialiser_given at us v (r.list {xs = xs} {ys = ys} {ts = ts} {trailing = trailing} a b) =
     let h = each_given FitsAssignment assignment_symbols assignment_term IsValue value_given (at + 1) xs ts a in
     let g = word_given c.Comma ys trailing b in
@@ -116,7 +124,8 @@ local_given at us d (r.declares {xs = xs} {ys = ys} {zs = zs} {constant = consta
 
 optional_given : (at : ℕ) (xs : List Symbol) (o : Option Term) → IsOptional at xs o → Given FitsOptional optional_symbols optional_term at xs o
 optional_given at xs o r.nothing = record { d = None; fits = tt; symbols = refl; written = refl }
-optional_given at xs o (r.some {f = f} a) = let h = expression_given at xs f a in record { d = Some (h.d); fits = h.fits; symbols = h.symbols; written = λ i. Some (At at (h.written i)) }
+optional_given at xs o (r.some {f = f} a) = let h = expression_given at xs f a in
+    record { d = Some (h.d); fits = h.fits; symbols = h.symbols; written = λ i. Some (At at (h.written i)) }
 
 label_given : (at : ℕ) (xs : List Symbol) (l : s.Label) → IsLabel at xs l → Given FitsLabel label_symbols label_of at xs l
 label_given at xs l r.named = record { d = NameLabel; fits = tt; symbols = refl; written = refl }
@@ -131,16 +140,28 @@ label_given at us l (r.case {xs = xs} {f = f} a) =
 label_given at xs l r.default = record { d = DefaultLabel; fits = tt; symbols = refl; written = refl }
 
 start_given : (at : ℕ) (xs : List Symbol) (x : s.Start) → IsStart at xs x → Given FitsForStart start_symbols start_of at xs x
-start_given at xs x (r.names {d = d} a) = let h = local_given at xs d a in record { d = StartLocal (h.d); fits = h.fits; symbols = h.symbols; written = λ i. s.StartNames (h.written i) }
+start_given at xs x (r.names {d = d} a) = let h = local_given at xs d a in
+    record { d = StartLocal (h.d); fits = h.fits; symbols = h.symbols; written = λ i. s.StartNames (h.written i) }
 start_given at xs x r.no_start = record { d = StartValue None; fits = tt; symbols = refl; written = refl }
 start_given at us x (r.started {xs = xs} {f = f} a) =
     let h = expression_given at xs f a in
-    record { d = StartValue (Some (h.d)); fits = h.fits; symbols = λ i. h.symbols i ++ Outside c.Semicolon ∷ []; written = λ i. s.StartValue (At at (h.written i)) }
+    record {
+      d = StartValue (Some (h.d));
+      fits = h.fits;
+      symbols = λ i. h.symbols i ++ Outside c.Semicolon ∷ [];
+      written = λ i. s.StartValue (At at (h.written i));
+    }
 
-tested_given : (k : Class) (at : ℕ) (xs : List Symbol) (t : Term) → IsTested k at xs t → Given FitsExpression (tested_symbols k) (λ n e. expression_term (n + 1 + 1) e) at xs t
+tested_given : (k : Class) (at : ℕ) (xs : List Symbol) (t : Term) → IsTested k at xs t →
+    Given FitsExpression (tested_symbols k) (λ n e. expression_term (n + 1 + 1) e) at xs t
 tested_given k at us t (r.tested {xs = xs} {f = f} a) =
     let h = expression_given (at + 1 + 1) xs f a in
-    record { d = h.d; fits = h.fits; symbols = λ i. Outside k ∷ Outside c.Open ∷ h.symbols i ++ Outside c.Close ∷ []; written = λ i. At (at + 1 + 1) (h.written i) }
+    record {
+      d = h.d;
+      fits = h.fits;
+      symbols = λ i. Outside k ∷ Outside c.Open ∷ h.symbols i ++ Outside c.Close ∷ [];
+      written = λ i. At (at + 1 + 1) (h.written i);
+    }
 
 abbrev pub BlockGiven : ℕ → List Symbol → s.Body → Type 0
 BlockGiven at xs b = Given FitsBlock block_symbols block_of at xs b
@@ -173,7 +194,8 @@ alone_symbols : (x : Plain) → IsAlone x → body_symbols (Unlabelled x) ≡ ne
 alone_symbols (Compound b) h = absurd h
 alone_symbols x h = refl
 
-alone_body : (x : Plain) (at : ℕ) → IsAlone x → body_of at (Unlabelled x) ≡ s.Lone at (token_behind at (plain_symbols x)) (s.States [] (s.From at (token_behind at (plain_symbols x)) (plain_of at x)))
+alone_body : (x : Plain) (at : ℕ) → IsAlone x → body_of at (Unlabelled x) ≡ s.Lone at (token_behind at (plain_symbols x))
+    (s.States [] (s.From at (token_behind at (plain_symbols x)) (plain_of at x)))
 alone_body (Compound b) at h = absurd h
 alone_body x at h = refl
 
@@ -186,8 +208,10 @@ abbrev plain_in : s.Item → s.Plain
 plain_in (s.States ls p) = p
 plain_in _ = s.From 0 0 s.Null
 
-labelled_given : {dangling : Bool} (at : ℕ) (xs ys : List Symbol) (l : s.Label) (ls : List s.Label) (p : s.Plain) (g : Given FitsLabel label_symbols label_of at xs l)
-    → (h : StatementGiven dangling (token_behind at xs) ys (s.States ls p)) → s.States (labels_of (token_behind at (label_symbols (g.d))) (h.is.d)) (statement_of (token_behind at (label_symbols (g.d))) (h.is.d)) ≡ s.States ls p
+labelled_given : {dangling : Bool} (at : ℕ) (xs ys : List Symbol) (l : s.Label) (ls : List s.Label) (p : s.Plain)
+    (g : Given FitsLabel label_symbols label_of at xs l)
+    → (h : StatementGiven dangling (token_behind at xs) ys (s.States ls p)) →
+    s.States (labels_of (token_behind at (label_symbols (g.d))) (h.is.d)) (statement_of (token_behind at (label_symbols (g.d))) (h.is.d)) ≡ s.States ls p
 labelled_given at xs ys l ls p g h = ap (λ z. item_of (token_behind at z) (h.is.d)) (g.symbols) ∙ h.is.written
 
 mutual
@@ -210,7 +234,8 @@ mutual
         d = LocalItem (g.d) (h.d);
         fits = (g.fits, h.fits);
         symbols = λ i. g.symbols i ++ h.symbols i;
-        written = λ i. s.Then (s.Declares at (token_behind at (g.symbols i)) (g.written i)) ((ap (λ l. items_of (token_behind at l) (h.d)) (g.symbols) ∙ h.written) i);
+        written = λ i. s.Then (s.Declares at (token_behind at (g.symbols i)) (g.written i))
+            ((ap (λ l. items_of (token_behind at l) (h.d)) (g.symbols) ∙ h.written) i);
       }
   items_given at us v (r.statement {dangling = o} {xs = xs} {ys = ys} {i = x} {is = is} a b) =
       let g = (statement_given o at xs x a).is in
@@ -225,11 +250,27 @@ mutual
   statement_given : (dangling : Bool) (at : ℕ) (xs : List Symbol) (x : s.Item) → IsStatement dangling at xs x → StatementGiven dangling at xs x
   statement_given o at xs x (r.block_alone {b = b} a) =
       let h = block_given at xs b a in
-      record { is = record { d = Unlabelled (Compound (h.d)); fits = h.fits; symbols = h.symbols; written = λ i. s.States [] (s.From at (token_behind at (h.symbols i)) (s.Block (h.written i))) }; opens = refl }
+      record {
+        is = record {
+          d = Unlabelled (Compound (h.d));
+          fits = h.fits;
+          symbols = h.symbols;
+          written = λ i. s.States [] (s.From at (token_behind at (h.symbols i)) (s.Block (h.written i)));
+        };
+        opens = refl;
+      }
   statement_given o at xs x (r.unlabelled {p = p} a) =
       let k = plain_given o at xs p a in
       let h = k.is in
-      record { is = record { d = Unlabelled (h.d); fits = h.fits; symbols = h.symbols; written = λ i. s.States [] (s.From at (token_behind at (h.symbols i)) (h.written i)) }; opens = k.opens }
+      record {
+        is = record {
+          d = Unlabelled (h.d);
+          fits = h.fits;
+          symbols = h.symbols;
+          written = λ i. s.States [] (s.From at (token_behind at (h.symbols i)) (h.written i));
+        };
+        opens = k.opens;
+      }
   statement_given o at us x (r.labelled {xs = xs} {ys = ys} {l = l} {ls = ls} {p = p} a b) =
       let g = label_given at xs l a in
       let k = statement_given o (token_behind at xs) ys (s.States ls p) b in
@@ -247,7 +288,15 @@ mutual
 
   body_given : (dangling : Bool) (at : ℕ) (xs : List Symbol) (b : s.Body) → IsBody dangling at xs b → BodyGiven dangling at xs b
   body_given o at xs b (r.block_list a) =
-      let h = block_given at xs b a in record { is = record { d = Unlabelled (Compound (h.d)); fits = h.fits; symbols = h.symbols; written = h.written }; opens = refl }
+      let h = block_given at xs b a in record {
+        is = record {
+          d = Unlabelled (Compound (h.d));
+          fits = h.fits;
+          symbols = h.symbols;
+          written = h.written;
+        };
+        opens = refl;
+      }
   body_given o at us b (r.unlabelled_list {xs = xs} {p = p} a) =
       let k = plain_given o at xs p a in
       let h = k.is in
@@ -256,7 +305,8 @@ mutual
           d = Unlabelled (h.d);
           fits = h.fits;
           symbols = alone_symbols (h.d) (k.alone) ∙ ap nested (h.symbols);
-          written = alone_body (h.d) at (k.alone) ∙ (λ i. s.Lone at (token_behind at (h.symbols i)) (s.States [] (s.From at (token_behind at (h.symbols i)) (h.written i))));
+          written = alone_body (h.d) at (k.alone) ∙ (λ i. s.Lone at (token_behind at (h.symbols i))
+              (s.States [] (s.From at (token_behind at (h.symbols i)) (h.written i))));
         };
         opens = k.opens;
       }
@@ -279,12 +329,26 @@ mutual
   plain_given o at xs x r.null = record { is = record { d = Simple None; fits = tt; symbols = refl; written = refl }; opens = refl; alone = tt }
   plain_given o at us x (r.evaluate {xs = xs} {f = f} a) =
       let h = expression_given at xs f a in
-      record { is = record { d = Simple (Some (h.d)); fits = h.fits; symbols = λ i. h.symbols i ++ Outside c.Semicolon ∷ []; written = λ i. s.Evaluate (At at (h.written i)) }; opens = refl; alone = tt }
+      record {
+        is = record {
+          d = Simple (Some (h.d));
+          fits = h.fits;
+          symbols = λ i. h.symbols i ++ Outside c.Semicolon ∷ [];
+          written = λ i. s.Evaluate (At at (h.written i));
+        };
+        opens = refl;
+        alone = tt;
+      }
   plain_given o at us x (r.if_alone {dangling = p} {xs = xs} {ys = ys} {t = t} {b = b} a e) =
       let g = tested_given c.If at xs t a in
       let h = (body_given p (token_behind at xs) ys b e).is in
       record {
-        is = record { d = If (g.d) (h.d); fits = (g.fits, h.fits); symbols = λ i. g.symbols i ++ h.symbols i; written = λ i. s.If (g.written i) ((ap (λ z. body_of (token_behind at z) (h.d)) (g.symbols) ∙ h.written) i) };
+        is = record {
+          d = If (g.d) (h.d);
+          fits = (g.fits, h.fits);
+          symbols = λ i. g.symbols i ++ h.symbols i;
+          written = λ i. s.If (g.written i) ((ap (λ z. body_of (token_behind at z) (h.d)) (g.symbols) ∙ h.written) i);
+        };
         opens = refl;
         alone = tt;
       }
@@ -310,7 +374,12 @@ mutual
       let k = body_given o (token_behind at xs) ys b e in
       let h = k.is in
       record {
-        is = record { d = While (g.d) (h.d); fits = (g.fits, h.fits); symbols = λ i. g.symbols i ++ h.symbols i; written = λ i. s.While (g.written i) ((ap (λ z. body_of (token_behind at z) (h.d)) (g.symbols) ∙ h.written) i) };
+        is = record {
+          d = While (g.d) (h.d);
+          fits = (g.fits, h.fits);
+          symbols = λ i. g.symbols i ++ h.symbols i;
+          written = λ i. s.While (g.written i) ((ap (λ z. body_of (token_behind at z) (h.d)) (g.symbols) ∙ h.written) i);
+        };
         opens = k.opens;
         alone = tt;
       }
@@ -341,7 +410,8 @@ mutual
           symbols = λ i. Outside c.For ∷ Outside c.Open ∷ g.symbols i ++ h.symbols i ++ Outside c.Semicolon ∷ k.symbols i ++ Outside c.Close ∷ n.symbols i;
           written = λ i. s.For (g.written i) ((ap (λ z. optional_term (token_behind (at + 1 + 1) z) (h.d)) (g.symbols) ∙ h.written) i)
               (((λ j. optional_term (token_behind (token_behind (at + 1 + 1) (g.symbols j)) (h.symbols j) + 1) (k.d)) ∙ k.written) i)
-              (((λ j. body_of (token_behind (token_behind (token_behind (at + 1 + 1) (g.symbols j)) (h.symbols j) + 1) (k.symbols j) + 1) (n.d)) ∙ n.written) i);
+              (((λ j. body_of (token_behind (token_behind (token_behind (at + 1 + 1) (g.symbols j)) (h.symbols j) + 1) (k.symbols j) + 1) (n.d)) ∙
+              n.written) i);
         };
         opens = m.opens;
         alone = tt;
@@ -351,7 +421,12 @@ mutual
       let k = body_given o (token_behind at xs) ys b e in
       let h = k.is in
       record {
-        is = record { d = Switch (g.d) (h.d); fits = (g.fits, h.fits); symbols = λ i. g.symbols i ++ h.symbols i; written = λ i. s.Switch (g.written i) ((ap (λ z. body_of (token_behind at z) (h.d)) (g.symbols) ∙ h.written) i) };
+        is = record {
+          d = Switch (g.d) (h.d);
+          fits = (g.fits, h.fits);
+          symbols = λ i. g.symbols i ++ h.symbols i;
+          written = λ i. s.Switch (g.written i) ((ap (λ z. body_of (token_behind at z) (h.d)) (g.symbols) ∙ h.written) i);
+        };
         opens = k.opens;
         alone = tt;
       }
@@ -360,4 +435,13 @@ mutual
   plain_given o at xs x r.continue = record { is = record { d = Continue; fits = tt; symbols = refl; written = refl }; opens = refl; alone = tt }
   plain_given o at us x (r.return {xs = xs} {t = t} a) =
       let h = optional_given (at + 1) xs t a in
-      record { is = record { d = Return (h.d); fits = h.fits; symbols = λ i. Outside c.Return ∷ h.symbols i ++ Outside c.Semicolon ∷ []; written = λ i. s.Return (h.written i) }; opens = refl; alone = tt }
+      record {
+        is = record {
+          d = Return (h.d);
+          fits = h.fits;
+          symbols = λ i. Outside c.Return ∷ h.symbols i ++ Outside c.Semicolon ∷ [];
+          written = λ i. s.Return (h.written i);
+        };
+        opens = refl;
+        alone = tt;
+      }

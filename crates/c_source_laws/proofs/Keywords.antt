@@ -27,7 +27,11 @@ module _ (word : ℕ → List ℕ) where
     items_keywords : (xs : Items) (at : ℕ) (r : List Class) → Stands at (items_tokens xs r) → ItemsHaveKeywords word at xs
     items_keywords NoItems at r s = tt
     items_keywords (LocalItem x xs) at r s = items_keywords xs (local_end at x) r (local_past IsClassed word x at _ s)
-    items_keywords (StatementItem t xs) at r s = (statement_keywords t at _ s, items_keywords xs (statement_end at t) r (statement_past IsClassed word t at _ s))
+    items_keywords (StatementItem t xs) at r s = (
+      statement_keywords t at _ s,
+      items_keywords xs (statement_end at t) r
+          (statement_past IsClassed word t at _ s),
+    )
 
     statement_keywords : (t : Statement) (at : ℕ) (r : List Class) → Stands at (statement_tokens t r) → HasKeywords word at t
     statement_keywords (Labelled x t) at r s = (label_keyword x at _ s, statement_keywords t (label_end at x) r (label_past IsClassed word x at _ s))
@@ -37,12 +41,21 @@ module _ (word : ℕ → List ℕ) where
     plain_keywords (Compound (Braces xs)) at r s = items_keywords xs (at + 1) _ (s.1)
     plain_keywords (Simple None) at r s = semicolon_foreign (word at) (s.0)
     plain_keywords (Simple (Some e)) at r s = tt
-    plain_keywords (If e t) at r s = (keyword_there c.If (word at) refl (s.0), statement_keywords t (expression_end (at + 1 + 1) e + 1) r (expression_past IsClassed word e (at + 1 + 1) _ ((s.1).1)).1)
+    plain_keywords (If e t) at r s = (
+      keyword_there c.If (word at) refl (s.0),
+      statement_keywords t (expression_end (at + 1 + 1) e + 1) r (expression_past IsClassed word e (at + 1 + 1) _ ((s.1).1)).1,
+    )
     plain_keywords (IfElse e t u) at r s =
         let x = expression_end (at + 1 + 1) e + 1 in
-        let a = (expression_past IsClassed word e (at + 1 + 1) _ ((s.1).1)).1 in
-        (keyword_there c.If (word at) refl (s.0), statement_keywords t x _ a, statement_keywords u (statement_end x t + 1) r (statement_past IsClassed word t x _ a).1)
-    plain_keywords (While e t) at r s = (keyword_there c.While (word at) refl (s.0), statement_keywords t (expression_end (at + 1 + 1) e + 1) r (expression_past IsClassed word e (at + 1 + 1) _ ((s.1).1)).1)
+        let a = (expression_past IsClassed word e (at + 1 + 1) _ ((s.1).1)).1 in (
+          keyword_there c.If (word at) refl (s.0),
+          statement_keywords t x _ a,
+          statement_keywords u (statement_end x t + 1) r (statement_past IsClassed word t x _ a).1,
+        )
+    plain_keywords (While e t) at r s = (
+      keyword_there c.While (word at) refl (s.0),
+      statement_keywords t (expression_end (at + 1 + 1) e + 1) r (expression_past IsClassed word e (at + 1 + 1) _ ((s.1).1)).1,
+    )
     plain_keywords (DoWhile t e) at r s = (keyword_there c.Do (word at) refl (s.0), statement_keywords t (at + 1) _ (s.1))
     plain_keywords (For f t u b) at r s =
         let x = for_start_end (at + 1 + 1) f in
@@ -50,7 +63,11 @@ module _ (word : ℕ → List ℕ) where
         let a = start_past IsClassed word f (at + 1 + 1) _ ((s.1).1) in
         let b0 = (optional_past IsClassed word t x _ a).1 in
         (keyword_there c.For (word at) refl (s.0), statement_keywords b (optional_end y u + 1) r (optional_past IsClassed word u y _ b0).1)
-    plain_keywords (Switch e t) at r s = (keyword_there c.Switch (word at) refl (s.0), statement_keywords t (expression_end (at + 1 + 1) e + 1) r (expression_past IsClassed word e (at + 1 + 1) _ ((s.1).1)).1)
+    plain_keywords (Switch e t) at r s = (
+      keyword_there c.Switch (word at) refl (s.0),
+      statement_keywords t (expression_end (at + 1 + 1) e + 1) r
+          (expression_past IsClassed word e (at + 1 + 1) _ ((s.1).1)).1,
+    )
     plain_keywords Goto at r s = keyword_there c.Goto (word at) refl (s.0)
     plain_keywords Break at r s = keyword_there c.Break (word at) refl (s.0)
     plain_keywords Continue at r s = keyword_there c.Continue (word at) refl (s.0)

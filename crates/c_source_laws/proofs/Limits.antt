@@ -35,7 +35,8 @@ all_of (x ∷ xs) = ap (λ l. x ∷ l) (all_of xs)
 
 pub function_peak : (x : Function) → peak (function_events x []) ≡ most_counted (function_symbols x)
 function_peak x =
-    let e : events 0 (function_symbols x) [] ≡ function_events x [] = ap (λ l. events 0 l []) (sym (all_of (function_symbols x))) ∙ (function_spelt x).counts [] [] in
+    let e : events 0 (function_symbols x) [] ≡ function_events x [] = ap (λ l. events 0 l []) (sym (all_of (function_symbols x))) ∙
+    (function_spelt x).counts [] [] in
     let h = peak_of 0 (function_symbols x) [] in
     let g = ap peak e in
     let m = walked_most_is (function_symbols x) in

@@ -70,7 +70,8 @@ returns_bare (b ∷ w) = by_rest (bare w) (returns_bare w)
     by_rest (d ∷ v) e = ap (λ x. is_return b && x) e
 
 breaks_bare : (b : ℕ) (w : List ℕ) → breaks_line b (bare w) ≡ breaks_line b w
-breaks_bare b w = ap (λ x. breaks_before b x (list_all is_return (bare w))) (sym (space_bare w)) ∙ ap (breaks_before b (list_all is_space w)) (sym (returns_bare w))
+breaks_bare b w = ap (λ x. breaks_before b x (list_all is_return (bare w))) (sym (space_bare w)) ∙
+    ap (breaks_before b (list_all is_space w)) (sym (returns_bare w))
 
 bare_whole : (w : List ℕ) → broken_at w ≡ None → broken_at (bare w) ≡ None
 bare_whole [] h = refl

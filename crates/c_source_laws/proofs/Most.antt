@@ -162,12 +162,15 @@ module _ (word : ℕ → List ℕ) where
 
   pub expression_peak : (e : Expression) (at : ℕ) (r : List Class) (q : List Event) → FitsExpression e → Stands at (expression_tokens e r) → count_of q ≡ 0
       → peak (expression_events e q) ≡ max (most_in (expression_node at e)) (peak q)
-  expression_peak e at r q f s z = let u = (expression_up e q).most in let h = expression_held e q in let k = expression_most word e at r f s in omega (arith, u, h, k, z)
+  expression_peak e at r q f s z = let u = (expression_up e q).most in let h = expression_held e q in let k = expression_most word e at r f s in
+      omega (arith, u, h, k, z)
 
   pub assignment_peak : (a : Assignment) (at : ℕ) (r : List Class) (q : List Event) → FitsAssignment a → Stands at (assignment_tokens a r) → count_of q ≡ 0
       → peak (assignment_events a q) ≡ max (most_in (assignment_node at a)) (peak q)
-  assignment_peak a at r q f s z = let u = (assignment_up a q).most in let h = assignment_held a q in let k = assignment_most word a at r f s in omega (arith, u, h, k, z)
+  assignment_peak a at r q f s z = let u = (assignment_up a q).most in let h = assignment_held a q in let k = assignment_most word a at r f s in
+      omega (arith, u, h, k, z)
 
   pub conditional_peak : (d : Conditional) (at : ℕ) (r : List Class) (q : List Event) → FitsConditional d → Stands at (conditional_tokens d r) → count_of q ≡ 0
       → peak (conditional_events d q) ≡ max (most_in (conditional_node at d)) (peak q)
-  conditional_peak d at r q f s z = let u = (conditional_up d q).most in let h = conditional_held d q in let k = conditional_most word d at r f s in omega (arith, u, h, k, z)
+  conditional_peak d at r q f s z = let u = (conditional_up d q).most in let h = conditional_held d q in let k = conditional_most word d at r f s in
+      omega (arith, u, h, k, z)

@@ -35,5 +35,7 @@ found first (l.Space b) f = tt
 found first (l.Line w) f = tt
 found first (l.Block w) f = tt
 
-pub classes : (pieces : List Piece) (t : List ℕ) → Spells pieces t → Along IsClassed (word_of t (tokens_of pieces)) 0 (classes_of t (tokens_of pieces) ++ c.End ∷ [])
-classes pieces t s = along IsClassed (record { kind = None; there = tt; classed = refl }) pieces t s (each_token IsClassedHere (λ first p r f m. found first p f) pieces t s)
+pub classes : (pieces : List Piece) (t : List ℕ) → Spells pieces t → Along IsClassed (word_of t (tokens_of pieces)) 0
+    (classes_of t (tokens_of pieces) ++ c.End ∷ [])
+classes pieces t s = along IsClassed (record { kind = None; there = tt; classed = refl }) pieces t s
+    (each_token IsClassedHere (λ first p r f m. found first p f) pieces t s)

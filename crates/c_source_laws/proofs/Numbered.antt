@@ -33,7 +33,8 @@ module _ (P : Spelling → Type 0) (here : (first : Bool) (p : Piece) (r : List 
   unmapped t (x ∷ xs) h = (h.0, unmapped t xs (h.1))
 
   pub each_token : (pieces : List Piece) (t : List ℕ) → Spells pieces t → Each (λ x. P (read_at t x)) (tokens_of pieces)
-  each_token pieces t s = unmapped t (tokens_of pieces) (subst (λ xs. Each P xs) (sym (tokens_read t pieces (s.spells))) (each true pieces (spells_walked pieces t s)))
+  each_token pieces t s = unmapped t (tokens_of pieces) (subst (λ xs. Each P xs) (sym (tokens_read t pieces (s.spells)))
+      (each true pieces (spells_walked pieces t s)))
 
 -- ---- by their numbers
 
@@ -47,11 +48,15 @@ module _ (P : Class → List ℕ → Type 0) (end : P c.End []) where
   in_bounds t x m = rw (le-leb x.start x.end (let a = m.0 in omega (arith, a)), le-leb x.end (length t) (m.1)) refl
 
   stand : (t : List ℕ) (word : ℕ → List ℕ) (tokens : List Token) (at : ℕ) → ((i j : ℕ) → j ≡ at + i → word j ≡ bytes_of t (slice_get tokens i))
-      → Each (λ x. P (class_of t x) (slice_range t x.start x.end)) tokens → All (λ (x : Token). IsWithin t x.start x.end) tokens → Along P word at (classes_of t tokens ++ c.End ∷ [])
+      → Each (λ x. P (class_of t x) (slice_range t x.start x.end)) tokens → All (λ (x : Token). IsWithin t x.start x.end) tokens →
+      Along P word at (classes_of t tokens ++ c.End ∷ [])
   stand t word [] at h f m = (subst (P c.End) (sym (h zero at (omega arith))) end, tt)
   stand t word (x ∷ xs) at h f m =
-      let e = h zero at (omega arith) ∙ in_bounds t x (All-head (λ (y : Token). IsWithin t y.start y.end) x xs m) in
-      (subst (P (class_of t x)) (sym e) (f.0), stand t word xs (at + 1) (λ i j d. h (suc i) j (omega (arith, d))) (f.1) (All-tail (λ (y : Token). IsWithin t y.start y.end) x xs m))
+      let e = h zero at (omega arith) ∙ in_bounds t x (All-head (λ (y : Token). IsWithin t y.start y.end) x xs m) in (
+        subst (P (class_of t x)) (sym e) (f.0),
+        stand t word xs (at + 1) (λ i j d. h (suc i) j (omega (arith, d))) (f.1)
+            (All-tail (λ (y : Token). IsWithin t y.start y.end) x xs m),
+      )
 
   by_number : (t : List ℕ) (tokens : List Token) (i j : ℕ) → j ≡ 0 + i → word_of t tokens j ≡ bytes_of t (slice_get tokens i)
   by_number t tokens i j e = let d : j ≡ i = omega (arith, e) in ap (word_of t tokens) d
@@ -59,4 +64,5 @@ module _ (P : Class → List ℕ → Type 0) (end : P c.End []) where
   pub along : (pieces : List Piece) (t : List ℕ) → Spells pieces t → Each (λ x. P (class_of t x) (slice_range t x.start x.end)) (tokens_of pieces)
       → Along P (word_of t (tokens_of pieces)) 0 (classes_of t (tokens_of pieces) ++ c.End ∷ [])
   along pieces t s f =
-      let tokens = tokens_of pieces in stand t (word_of t tokens) tokens 0 (by_number t tokens) f (tokens_bound t (Ok (scanned_of pieces)) (scan_read_back t pieces s))
+      let tokens = tokens_of pieces in stand t (word_of t tokens) tokens 0 (by_number t tokens) f
+      (tokens_bound t (Ok (scanned_of pieces)) (scan_read_back t pieces s))

@@ -102,7 +102,8 @@ module _ (P : Class → List ℕ → Type 0) (word : ℕ → List ℕ) where
 
   pub initialiser_past : (i : Initialiser) (at : ℕ) (r : List Class) → Stands at (initialiser_tokens i r) → Stands (initialiser_end at i) r
   initialiser_past (OneValue a) at r s = assignment_past a at r s
-  initialiser_past (ValueList a xs trailing) at r s = rest_past assignment_tokens assignment_end assignment_past xs trailing (assignment_end (at + 1) a) r (assignment_past a (at + 1) _ (s.1))
+  initialiser_past (ValueList a xs trailing) at r s = rest_past assignment_tokens assignment_end assignment_past xs trailing
+      (assignment_end (at + 1) a) r (assignment_past a (at + 1) _ (s.1))
 
   pub value_past : (o : Option Initialiser) (at : ℕ) (r : List Class) → Stands at (value_tokens o r) → Stands (value_end at o) r
   value_past None at r s = s
@@ -115,7 +116,8 @@ module _ (P : Class → List ℕ → Type 0) (word : ℕ → List ℕ) where
   local_past (Locals constant n d ds) at r s =
       let x = word_end at constant in
       let y = type_end x n in
-      (more_past declarator_tokens declarator_end declarator_past ds (declarator_end y d) _ (declarator_past d y _ (type_past n x _ (word_past constant c.Const at _ s)))).1
+      (more_past declarator_tokens declarator_end declarator_past ds (declarator_end y d)
+      _ (declarator_past d y _ (type_past n x _ (word_past constant c.Const at _ s)))).1
 
   -- ---- statements
 
@@ -143,7 +145,8 @@ module _ (P : Class → List ℕ → Type 0) (word : ℕ → List ℕ) where
     plain_past (Simple o) at r s = (optional_past o at _ s).1
     plain_past (If e t) at r s = statement_past t (expression_end (at + 1 + 1) e + 1) r (expression_past e (at + 1 + 1) _ ((s.1).1)).1
     plain_past (IfElse e t u) at r s =
-        let x = expression_end (at + 1 + 1) e + 1 in statement_past u (statement_end x t + 1) r (statement_past t x _ (expression_past e (at + 1 + 1) _ ((s.1).1)).1).1
+        let x = expression_end (at + 1 + 1) e + 1 in statement_past u (statement_end x t + 1) r
+        (statement_past t x _ (expression_past e (at + 1 + 1) _ ((s.1).1)).1).1
     plain_past (While e t) at r s = statement_past t (expression_end (at + 1 + 1) e + 1) r (expression_past e (at + 1 + 1) _ ((s.1).1)).1
     plain_past (DoWhile t e) at r s = ((expression_past e (statement_end (at + 1) t + 1 + 1) _ ((statement_past t (at + 1) _ (s.1)).1).1).1).1
     plain_past (For f t u b) at r s =
@@ -186,7 +189,8 @@ module _ (P : Class → List ℕ → Type 0) (word : ℕ → List ℕ) where
 
   pub top_past : (x : Top) (at : ℕ) (r : List Class) → Stands at (top_tokens x r) → Stands (top_end at x) r
   top_past Line at r s = s.1
-  top_past (OfEnum (Enumerated o xs trailing)) at r s = (rest_past enumerator_tokens enumerator_end enumerator_past xs trailing (enumerator_end (at + 1 + 1) o) _ (enumerator_past o (at + 1 + 1) _ ((s.1).1))).1
+  top_past (OfEnum (Enumerated o xs trailing)) at r s = (rest_past enumerator_tokens enumerator_end enumerator_past xs trailing
+      (enumerator_end (at + 1 + 1) o) _ (enumerator_past o (at + 1 + 1) _ ((s.1).1))).1
   top_past (OfDeclaration (Declares static x)) at r s = local_past x (word_end at static) r (word_past static c.Static at _ s)
   top_past (OfFunction (Defined static n xs b)) at r s =
       let w = word_end at static in

@@ -25,7 +25,8 @@ none_more : (ks : List Class) → length (ks ++ []) ≡ length ks
 none_more [] = refl
 none_more (k ∷ ks) = let h = none_more ks in omega (arith, h)
 
-placed : {X : Type 0} {k : List Event → List Event} (f : X → List Class → List Class) (z : ℕ → X → ℕ) (x : X) (xs : List Symbol) → Ends f z x → Spelt 0 (f x) k xs → Placed z x xs
+placed : {X : Type 0} {k : List Event → List Event} (f : X → List Class → List Class) (z : ℕ → X → ℕ) (x : X) (xs : List Symbol) → Ends f z x →
+    Spelt 0 (f x) k xs → Placed z x xs
 placed {X} {k} f z x xs e s at = let h = e at [] in let n = ap length (s.tokens []) ∙ none_more (classes_in xs) in omega (arith, h, n)
 
 pub type_placed : (n : NumberType) → Placed type_end n (type_symbols n)

@@ -32,7 +32,8 @@ further_values [] at at' p = refl
 further_values (a ∷ xs) at at' p =
     let q = up at at' p in
     let g = assignment_same a (at + 1) (at' + 1) q in
-    let h = further_values xs (assignment_end (at + 1) a) (token_behind (at' + 1) (assignment_symbols a)) (next assignment_end a (assignment_symbols a) (assignment_placed a) (at + 1) (at' + 1) q) in
+    let h = further_values xs (assignment_end (at + 1) a) (token_behind (at' + 1) (assignment_symbols a))
+    (next assignment_end a (assignment_symbols a) (assignment_placed a) (at + 1) (at' + 1) q) in
     λ i. At (q i) (g i) ∷ h i
 
 initialiser_same : (x : Initialiser) (at at' : ℕ) → at ≡ at' → old.written_initialiser at x ≡ new.initialiser_of at' x
@@ -40,7 +41,8 @@ initialiser_same (OneValue a) at at' p = let g = assignment_same a at at' p in �
 initialiser_same (ValueList a xs trailing) at at' p =
     let q = up at at' p in
     let g = assignment_same a (at + 1) (at' + 1) q in
-    let h = further_values xs (assignment_end (at + 1) a) (token_behind (at' + 1) (assignment_symbols a)) (next assignment_end a (assignment_symbols a) (assignment_placed a) (at + 1) (at' + 1) q) in
+    let h = further_values xs (assignment_end (at + 1) a) (token_behind (at' + 1) (assignment_symbols a))
+    (next assignment_end a (assignment_symbols a) (assignment_placed a) (at + 1) (at' + 1) q) in
     λ i. s.ValueList (At (q i) (g i) ∷ h i)
 
 value_same : (o : Option Initialiser) (at at' : ℕ) → at ≡ at' → old.written_value at o ≡ new.value_of at' o
@@ -51,7 +53,8 @@ declarator_same : (d : Declarator) (at at' : ℕ) → at ≡ at' → old.written
 declarator_same (Declared size value) at at' p =
     let q = up at at' p in
     let g = size_same size (at + 1) (at' + 1) q in
-    let h = value_same value (size_end (at + 1) size) (token_behind (at' + 1) (size_symbols size)) (next size_end size (size_symbols size) (size_placed size) (at + 1) (at' + 1) q) in
+    let h = value_same value (size_end (at + 1) size) (token_behind (at' + 1) (size_symbols size))
+    (next size_end size (size_symbols size) (size_placed size) (at + 1) (at' + 1) q) in
     λ i. record { name = p i; size = g i; value = h i }
 
 further_same : (ds : List Declarator) (at at' : ℕ) → at ≡ at' → old.further_declarators at ds ≡ new.further declarator_symbols new.declarator_of at' ds
@@ -59,7 +62,8 @@ further_same [] at at' p = refl
 further_same (d ∷ ds) at at' p =
     let q = up at at' p in
     let g = declarator_same d (at + 1) (at' + 1) q in
-    let h = further_same ds (declarator_end (at + 1) d) (token_behind (at' + 1) (declarator_symbols d)) (next declarator_end d (declarator_symbols d) (declarator_placed d) (at + 1) (at' + 1) q) in
+    let h = further_same ds (declarator_end (at + 1) d) (token_behind (at' + 1) (declarator_symbols d))
+    (next declarator_end d (declarator_symbols d) (declarator_placed d) (at + 1) (at' + 1) q) in
     λ i. g i ∷ h i
 
 pub declaration_same : (x : Local) (at at' : ℕ) → at ≡ at' → old.written_declaration at x ≡ new.declaration_of at' x
@@ -72,7 +76,8 @@ declaration_same (Locals constant n d ds) at at' p =
     let r = next type_end n (type_symbols n) (type_placed n) x x' q in
     let f = type_same n x x' q in
     let g = declarator_same d y y' r in
-    let h = further_same ds (declarator_end y d) (token_behind y' (declarator_symbols d)) (next declarator_end d (declarator_symbols d) (declarator_placed d) y y' r) in
+    let h = further_same ds (declarator_end y d) (token_behind y' (declarator_symbols d))
+    (next declarator_end d (declarator_symbols d) (declarator_placed d) y y' r) in
     λ i. record { constant = constant; words = f i; names = g i ∷ h i }
 
 -- ---- statements
@@ -115,7 +120,8 @@ tested_term e at at' p = term_same e (at + 1 + 1) (at' + 1 + 1) (two at at' p)
 tested : (k : Class) (e : Expression) (at at' : ℕ) → at ≡ at' → expression_end (at + 1 + 1) e + 1 ≡ token_behind at' (tested_symbols k e)
 tested k e at at' p = next tested_end e (tested_symbols k e) (tested_placed k e) at at' p
 
-pub block_same : (xs : Items) (at at' : ℕ) → at ≡ at' → old.written_items (at + 1) xs ≡ new.items_of (at' + 1) xs → old.written_block at xs ≡ new.block_of at' (Braces xs)
+pub block_same : (xs : Items) (at at' : ℕ) → at ≡ at' → old.written_items (at + 1) xs ≡ new.items_of (at' + 1) xs →
+    old.written_block at xs ≡ new.block_of at' (Braces xs)
 block_same xs at at' p h = let e = past items_end xs (items_symbols xs) (items_placed xs) (at + 1) (at' + 1) (up at at' p) in λ i. s.Braces (p i) (e i) (h i)
 
 -- what a block holds
@@ -124,12 +130,16 @@ body_in (s.Block b) = b
 body_in _ = s.Braces 0 0 s.NoItem
 
 -- a statement without labels, as the list of a construct
-lone_same : (x : Plain) (at at' : ℕ) → at ≡ at' → old.written_plain at x ≡ new.plain_of at' x → old.written_body at (Unlabelled x) ≡ new.body_of at' (Unlabelled x)
+lone_same : (x : Plain) (at at' : ℕ) → at ≡ at' → old.written_plain at x ≡ new.plain_of at' x →
+    old.written_body at (Unlabelled x) ≡ new.body_of at' (Unlabelled x)
 lone_same (Compound (Braces xs)) at at' p h = ap body_in h
-lone_same (Simple None) at at' p h = let e = next plain_end (Simple None) (plain_symbols (Simple None)) (plain_placed (Simple None)) at at' p in λ i. s.Lone (p i) (e i) (s.States [] (s.From (p i) (e i) (h i)))
+lone_same (Simple None) at at' p h = let e = next plain_end (Simple None) (plain_symbols (Simple None)) (plain_placed (Simple None)) at at' p in
+    λ i. s.Lone (p i) (e i) (s.States [] (s.From (p i) (e i) (h i)))
 lone_same (Simple (Some t)) at at' p h =
-    let x = Simple (Some t) in let e = next plain_end x (plain_symbols x) (plain_placed x) at at' p in λ i. s.Lone (p i) (e i) (s.States [] (s.From (p i) (e i) (h i)))
-lone_same x at at' p h = let e = next plain_end x (plain_symbols x) (plain_placed x) at at' p in λ i. s.Lone (p i) (e i) (s.States [] (s.From (p i) (e i) (h i)))
+    let x = Simple (Some t) in let e = next plain_end x (plain_symbols x) (plain_placed x) at at' p in
+    λ i. s.Lone (p i) (e i) (s.States [] (s.From (p i) (e i) (h i)))
+lone_same x at at' p h = let e = next plain_end x (plain_symbols x) (plain_placed x) at at' p in
+    λ i. s.Lone (p i) (e i) (s.States [] (s.From (p i) (e i) (h i)))
 
 mutual
   pub items_same : (xs : Items) (at at' : ℕ) → at ≡ at' → old.written_items at xs ≡ new.items_of at' xs
@@ -147,7 +157,8 @@ mutual
       λ i. s.Then (s.States (f i) (g i)) (h i)
 
   statement_same : (t : Statement) (at at' : ℕ) → at ≡ at' → old.behind_labels at t ≡ new.statement_of at' t
-  statement_same (Labelled x t) at at' p = statement_same t (label_end at x) (token_behind at' (label_symbols x)) (next label_end x (label_symbols x) (label_placed x) at at' p)
+  statement_same (Labelled x t) at at' p = statement_same t (label_end at x) (token_behind at' (label_symbols x))
+      (next label_end x (label_symbols x) (label_placed x) at at' p)
   statement_same (Unlabelled x) at at' p =
       let e = next plain_end x (plain_symbols x) (plain_placed x) at at' p in
       let h = plain_same x at at' p in
@@ -203,7 +214,8 @@ mutual
       let d = start_same f (at + 1 + 1) (at' + 1 + 1) o in
       let e = optional_same t x x' q in
       let g = optional_same u y y' r in
-      let h = body_same b (optional_end y u + 1) (token_behind y' (optional_symbols u) + 1) (past optional_end u (optional_symbols u) (optional_placed u) y y' r) in
+      let h = body_same b (optional_end y u + 1) (token_behind y' (optional_symbols u) + 1)
+      (past optional_end u (optional_symbols u) (optional_placed u) y y' r) in
       λ i. s.For (d i) (e i) (g i) (h i)
   plain_same (Switch e t) at at' p =
       let g = tested_term e at at' p in

@@ -46,14 +46,16 @@ mutual
   expression_same (One a) at at' p = assignment_same a at at' p
   expression_same (More a e) at at' p =
       let g = assignment_same a at at' p in
-      let h = terms_same e (assignment_end at a + 1) (token_behind at' (assignment_symbols a) + 1) (past assignment_end a (assignment_symbols a) (assignment_placed a) at at' p) in
+      let h = terms_same e (assignment_end at a + 1) (token_behind at' (assignment_symbols a) + 1)
+      (past assignment_end a (assignment_symbols a) (assignment_placed a) at at' p) in
       λ i. s.Commas (At (p i) (g i)) (h i)
 
   terms_same : (e : Expression) (at at' : ℕ) → at ≡ at' → old.expression_terms at e ≡ new.expression_terms at' e
   terms_same (One a) at at' p = let g = assignment_same a at at' p in λ i. s.Then (At (p i) (g i)) NoTerm
   terms_same (More a e) at at' p =
       let g = assignment_same a at at' p in
-      let h = terms_same e (assignment_end at a + 1) (token_behind at' (assignment_symbols a) + 1) (past assignment_end a (assignment_symbols a) (assignment_placed a) at at' p) in
+      let h = terms_same e (assignment_end at a + 1) (token_behind at' (assignment_symbols a) + 1)
+      (past assignment_end a (assignment_symbols a) (assignment_placed a) at at' p) in
       λ i. s.Then (At (p i) (g i)) (h i)
 
   pub assignment_same : (a : Assignment) (at at' : ℕ) → at ≡ at' → old.assignment_form at a ≡ new.assignment_form at' a
@@ -71,7 +73,8 @@ mutual
       let y = past expression_end e (expression_symbols e) (expression_placed e) (binary_end at b + 1) (token_behind at' (binary_symbols b) + 1) x in
       let f = binary_same b at at' p in
       let g = expression_same e (binary_end at b + 1) (token_behind at' (binary_symbols b) + 1) x in
-      let h = conditional_same d (expression_end (binary_end at b + 1) e + 1) (token_behind (token_behind at' (binary_symbols b) + 1) (expression_symbols e) + 1) y in
+      let h = conditional_same d (expression_end (binary_end at b + 1) e + 1)
+      (token_behind (token_behind at' (binary_symbols b) + 1) (expression_symbols e) + 1) y in
       λ i. s.Choice (At (p i) (f i)) (At (x i) (g i)) (At (y i) (h i))
   conditional_same (Only b) at at' p = binary_same b at at' p
 
@@ -126,7 +129,8 @@ mutual
   arguments_same (Last x) at at' p = let g = argument_same x at at' p in λ i. s.Then (At (p i) (g i)) NoTerm
   arguments_same (Then x xs) at at' p =
       let g = argument_same x at at' p in
-      let h = arguments_same xs (argument_end at x + 1) (token_behind at' (argument_symbols x) + 1) (past argument_end x (argument_symbols x) (argument_placed x) at at' p) in
+      let h = arguments_same xs (argument_end at x + 1) (token_behind at' (argument_symbols x) + 1)
+      (past argument_end x (argument_symbols x) (argument_placed x) at at' p) in
       λ i. s.Then (At (p i) (g i)) (h i)
 
   argument_same : (x : Argument) (at at' : ℕ) → at ≡ at' → old.argument_form at x ≡ new.argument_form at' x

@@ -39,19 +39,22 @@ enumerator_same (Some d) at at' p =
     let h = conditional_same d (at + 1 + 1) (at' + 1 + 1) q in
     λ i. record { name = p i; value = Some (At (q i) (h i)) }
 
-further_enumerators : (xs : List (Option Conditional)) (at at' : ℕ) → at ≡ at' → old_files.further_enumerators at xs ≡ further enumerator_symbols new.enumerator_of at' xs
+further_enumerators : (xs : List (Option Conditional)) (at at' : ℕ) → at ≡ at' →
+    old_files.further_enumerators at xs ≡ further enumerator_symbols new.enumerator_of at' xs
 further_enumerators [] at at' p = refl
 further_enumerators (x ∷ xs) at at' p =
     let q = up at at' p in
     let g = enumerator_same x (at + 1) (at' + 1) q in
-    let h = further_enumerators xs (enumerator_end (at + 1) x) (token_behind (at' + 1) (enumerator_symbols x)) (next enumerator_end x (enumerator_symbols x) (enumerator_placed x) (at + 1) (at' + 1) q) in
+    let h = further_enumerators xs (enumerator_end (at + 1) x) (token_behind (at' + 1) (enumerator_symbols x))
+    (next enumerator_end x (enumerator_symbols x) (enumerator_placed x) (at + 1) (at' + 1) q) in
     λ i. g i ∷ h i
 
 enumeration_same : (x : Enumeration) (at at' : ℕ) → at ≡ at' → old_files.written_enumeration at x ≡ new.enumerators_of at' x
 enumeration_same (Enumerated x xs trailing) at at' p =
     let q = two at at' p in
     let g = enumerator_same x (at + 1 + 1) (at' + 1 + 1) q in
-    let h = further_enumerators xs (enumerator_end (at + 1 + 1) x) (token_behind (at' + 1 + 1) (enumerator_symbols x)) (next enumerator_end x (enumerator_symbols x) (enumerator_placed x) (at + 1 + 1) (at' + 1 + 1) q) in
+    let h = further_enumerators xs (enumerator_end (at + 1 + 1) x) (token_behind (at' + 1 + 1) (enumerator_symbols x))
+    (next enumerator_end x (enumerator_symbols x) (enumerator_placed x) (at + 1 + 1) (at' + 1 + 1) q) in
     λ i. g i ∷ h i
 
 -- ---- functions
@@ -70,7 +73,8 @@ parameter_same (Typed constant n named size) at at' p =
     let r = next type_end n (type_symbols n) (type_placed n) x x' q in
     let f = type_same n x x' q in
     let g = name_same named y y' r in
-    let h = size_same size (word_end y named) (token_behind y' (word_symbols c.Name named)) (next word_end named (word_symbols c.Name named) (word_placed c.Name named) y y' r) in
+    let h = size_same size (word_end y named) (token_behind y' (word_symbols c.Name named))
+    (next word_end named (word_symbols c.Name named) (word_placed c.Name named) y y' r) in
     λ i. record { first = p i; constant = constant; words = f i; name = g i; size = h i }
 
 further_parameters : (xs : List Parameter) (at at' : ℕ) → at ≡ at' → old.further_parameters at xs ≡ further parameter_symbols new.parameter_of at' xs
@@ -78,7 +82,8 @@ further_parameters [] at at' p = refl
 further_parameters (x ∷ xs) at at' p =
     let q = up at at' p in
     let g = parameter_same x (at + 1) (at' + 1) q in
-    let h = further_parameters xs (parameter_end (at + 1) x) (token_behind (at' + 1) (parameter_symbols x)) (next parameter_end x (parameter_symbols x) (parameter_placed x) (at + 1) (at' + 1) q) in
+    let h = further_parameters xs (parameter_end (at + 1) x) (token_behind (at' + 1) (parameter_symbols x))
+    (next parameter_end x (parameter_symbols x) (parameter_placed x) (at + 1) (at' + 1) q) in
     λ i. g i ∷ h i
 
 parameters_same : (xs : Parameters) (at at' : ℕ) → at ≡ at' → old.written_parameters at xs ≡ new.parameters_of at' xs
@@ -86,7 +91,8 @@ parameters_same NoParameters at at' p = refl
 parameters_same VoidParameters at at' p = refl
 parameters_same (SomeParameters x xs) at at' p =
     let g = parameter_same x at at' p in
-    let h = further_parameters xs (parameter_end at x) (token_behind at' (parameter_symbols x)) (next parameter_end x (parameter_symbols x) (parameter_placed x) at at' p) in
+    let h = further_parameters xs (parameter_end at x) (token_behind at' (parameter_symbols x))
+    (next parameter_end x (parameter_symbols x) (parameter_placed x) at at' p) in
     λ i. g i ∷ h i
 
 result_same : (o : Option NumberType) (at at' : ℕ) → at ≡ at' → old.result_words at o ≡ option_map (λ (t : NumberType). numbers_of at' (type_symbols t)) o
@@ -101,7 +107,8 @@ module _ (word : ℕ → List ℕ) where
   abbrev Stands : ℕ → List Class → Type 0
   Stands at r = Along IsWeighed word at r
 
-  function_same : (x : Function) (at at' : ℕ) (r : List Class) → at ≡ at' → FitsFunction x → Stands at (function_tokens x r) → old.written_function word at x ≡ new.function_of at' x
+  function_same : (x : Function) (at at' : ℕ) (r : List Class) → at ≡ at' → FitsFunction x → Stands at (function_tokens x r) →
+      old.written_function word at x ≡ new.function_of at' x
   function_same (Defined static n xs b) at at' r p f t =
       let w = word_end at static in
       let w' = token_behind at' (word_symbols c.Static static) in
@@ -127,7 +134,8 @@ module _ (word : ℕ → List ℕ) where
       ap (s.Globals static) (declaration_same x (word_end at static) (token_behind at' (word_symbols c.Static static)) q)
   top_same (OfFunction x) at at' r p f t = ap s.Defines (function_same x at at' r p f t)
 
-  pub tops_same : (xs : List Top) (at at' : ℕ) (r : List Class) → at ≡ at' → FitsFile xs → Stands at (file_tokens xs r) → old_files.written_tops word at xs ≡ new.tops_of at' xs
+  pub tops_same : (xs : List Top) (at at' : ℕ) (r : List Class) → at ≡ at' → FitsFile xs → Stands at (file_tokens xs r) →
+      old_files.written_tops word at xs ≡ new.tops_of at' xs
   tops_same [] at at' r p f t = refl
   tops_same (x ∷ xs) at at' r p f t =
       let e = next top_end x (top_symbols x) (top_placed x) at at' p in

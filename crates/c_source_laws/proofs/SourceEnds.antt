@@ -35,10 +35,13 @@ texts_ends (MoreTexts n) at r = let h = texts_ends n (at + 1) r in omega (arith,
 mutual
   pub expression_ends : (e : Expression) → Ends expression_tokens expression_end e
   expression_ends (One a) at r = assignment_ends a at r
-  expression_ends (More a e) at r = let g = assignment_ends a at (c.Comma ∷ expression_tokens e r) in let h = expression_ends e (assignment_end at a + 1) r in omega (arith, g, h)
+  expression_ends (More a e) at r = let g = assignment_ends a at (c.Comma ∷ expression_tokens e r) in let h =
+      expression_ends e
+      (assignment_end at a + 1) r in omega (arith, g, h)
 
   pub assignment_ends : (a : Assignment) → Ends assignment_tokens assignment_end a
-  assignment_ends (To t m a) at r = let g = target_ends t at (m ∷ assignment_tokens a r) in let h = assignment_ends a (target_end at t + 1) r in omega (arith, g, h)
+  assignment_ends (To t m a) at r = let g = target_ends t at (m ∷ assignment_tokens a r) in let h = assignment_ends a (target_end at t + 1) r in
+      omega (arith, g, h)
   assignment_ends (Value d) at r = conditional_ends d at r
 
   pub conditional_ends : (d : Conditional) → Ends conditional_tokens conditional_end d
@@ -58,7 +61,8 @@ mutual
   pub unary_ends : (u : Unary) → Ends unary_tokens unary_end u
   unary_ends (Prefixed m u) at r = let h = unary_ends u (at + 1) r in omega (arith, h)
   unary_ends (StepTo t) at r = let h = target_ends t (at + 1) r in omega (arith, h)
-  unary_ends (CastTo n u) at r = let g = type_ends n (at + 1) (c.Close ∷ unary_tokens u r) in let h = unary_ends u (type_end (at + 1) n + 1) r in omega (arith, g, h)
+  unary_ends (CastTo n u) at r = let g = type_ends n (at + 1) (c.Close ∷ unary_tokens u r) in let h = unary_ends u (type_end (at + 1) n + 1) r in
+      omega (arith, g, h)
   unary_ends (CastVoid u) at r = let h = unary_ends u (at + 1 + 1 + 1) r in omega (arith, h)
   unary_ends (Place t) at r = target_ends t at r
   unary_ends (StepAfter t) at r = let h = target_ends t at (c.Step ∷ r) in omega (arith, h)
@@ -75,7 +79,9 @@ mutual
 
   pub arguments_ends : (xs : Arguments) → Ends arguments_tokens arguments_end xs
   arguments_ends (Last x) at r = argument_ends x at r
-  arguments_ends (Then x xs) at r = let g = argument_ends x at (c.Comma ∷ arguments_tokens xs r) in let h = arguments_ends xs (argument_end at x + 1) r in omega (arith, g, h)
+  arguments_ends (Then x xs) at r = let g = argument_ends x at (c.Comma ∷ arguments_tokens xs r) in let h =
+      arguments_ends xs (argument_end at x + 1)
+      r in omega (arith, g, h)
 
   pub argument_ends : (x : Argument) → Ends argument_tokens argument_end x
   argument_ends (Given a) at r = assignment_ends a at r
@@ -103,7 +109,9 @@ more_ends {X} f z e (x ∷ xs) at r = let g = e x (at + 1) (more_tokens f xs r) 
 rest_ends : {X : Type 0} (f : X → List Class → List Class) (z : ℕ → X → ℕ) → ((x : X) → Ends f z x) → (xs : List X) (trailing : Bool) (at : ℕ) (r : List Class)
     → at + length (rest_tokens f xs trailing r) ≡ rest_end z at xs trailing + length r
 rest_ends {X} f z e [] trailing at r = let h = word_ends c.Comma trailing at (c.CloseBlock ∷ r) in omega (arith, h)
-rest_ends {X} f z e (x ∷ xs) trailing at r = let g = e x (at + 1) (rest_tokens f xs trailing r) in let h = rest_ends f z e xs trailing (z (at + 1) x) r in omega (arith, g, h)
+rest_ends {X} f z e (x ∷ xs) trailing at r = let g = e x (at + 1) (rest_tokens f xs trailing r) in let h =
+    rest_ends f z e xs trailing (z (at + 1) x)
+    r in omega (arith, g, h)
 
 initialiser_ends : (i : Initialiser) → Ends initialiser_tokens initialiser_end i
 initialiser_ends (OneValue a) at r = assignment_ends a at r
@@ -117,7 +125,9 @@ value_ends None at r = omega arith
 value_ends (Some i) at r = let h = initialiser_ends i (at + 1) r in omega (arith, h)
 
 pub declarator_ends : (d : Declarator) → Ends declarator_tokens declarator_end d
-declarator_ends (Declared size value) at r = let g = size_ends size (at + 1) (value_tokens value r) in let h = value_ends value (size_end (at + 1) size) r in omega (arith, g, h)
+declarator_ends (Declared size value) at r = let g = size_ends size (at + 1) (value_tokens value r) in let h =
+    value_ends value (size_end (at + 1) size)
+    r in omega (arith, g, h)
 
 pub local_ends : (x : Local) → Ends local_tokens local_end x
 local_ends (Locals constant n d ds) at r =
@@ -161,7 +171,9 @@ mutual
   pub plain_ends : (x : Plain) → Ends plain_tokens plain_end x
   plain_ends (Compound b) at r = block_ends b at r
   plain_ends (Simple o) at r = let h = optional_ends o at (c.Semicolon ∷ r) in omega (arith, h)
-  plain_ends (If e t) at r = let g = expression_ends e (at + 1 + 1) (c.Close ∷ statement_tokens t r) in let h = statement_ends t (expression_end (at + 1 + 1) e + 1) r in omega (arith, g, h)
+  plain_ends (If e t) at r = let g = expression_ends e (at + 1 + 1) (c.Close ∷ statement_tokens t r) in let h =
+      statement_ends t
+      (expression_end (at + 1 + 1) e + 1) r in omega (arith, g, h)
   plain_ends (IfElse e t u) at r =
       let x = expression_end (at + 1 + 1) e + 1 in
       let rest = c.Else ∷ statement_tokens u r in
@@ -169,7 +181,9 @@ mutual
       let g = statement_ends t x rest in
       let h = statement_ends u (statement_end x t + 1) r in
       omega (arith, f, g, h)
-  plain_ends (While e t) at r = let g = expression_ends e (at + 1 + 1) (c.Close ∷ statement_tokens t r) in let h = statement_ends t (expression_end (at + 1 + 1) e + 1) r in omega (arith, g, h)
+  plain_ends (While e t) at r = let g = expression_ends e (at + 1 + 1) (c.Close ∷ statement_tokens t r) in let h =
+      statement_ends t
+      (expression_end (at + 1 + 1) e + 1) r in omega (arith, g, h)
   plain_ends (DoWhile t e) at r =
       let rest = c.Close ∷ c.Semicolon ∷ r in
       let g = statement_ends t (at + 1) (c.While ∷ c.Open ∷ expression_tokens e rest) in
@@ -185,7 +199,9 @@ mutual
       let g = optional_ends u y last in
       let h = statement_ends b (optional_end y u + 1) r in
       omega (arith, d, e, g, h)
-  plain_ends (Switch e t) at r = let g = expression_ends e (at + 1 + 1) (c.Close ∷ statement_tokens t r) in let h = statement_ends t (expression_end (at + 1 + 1) e + 1) r in omega (arith, g, h)
+  plain_ends (Switch e t) at r = let g = expression_ends e (at + 1 + 1) (c.Close ∷ statement_tokens t r) in let h =
+      statement_ends t
+      (expression_end (at + 1 + 1) e + 1) r in omega (arith, g, h)
   plain_ends Goto at r = omega arith
   plain_ends Break at r = omega arith
   plain_ends Continue at r = omega arith
@@ -237,7 +253,9 @@ body_ends (Some b) at r = block_ends b at r
 pub top_ends : (x : Top) → Ends top_tokens top_end x
 top_ends Line at r = omega arith
 top_ends (OfEnum x) at r = enumeration_ends x at r
-top_ends (OfDeclaration (Declares static x)) at r = let g = word_ends c.Static static at (local_tokens x r) in let h = local_ends x (word_end at static) r in omega (arith, g, h)
+top_ends (OfDeclaration (Declares static x)) at r = let g = word_ends c.Static static at (local_tokens x r) in let h =
+    local_ends x (word_end at static)
+    r in omega (arith, g, h)
 top_ends (OfFunction (Defined static n xs b)) at r =
     let w = word_end at static in
     let x = result_end w n in

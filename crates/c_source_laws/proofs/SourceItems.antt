@@ -82,7 +82,8 @@ abbrev mutual
   body_of at (Unlabelled (Compound b)) = block_of at b
   body_of at (Unlabelled x) = let y = token_behind at (plain_symbols x) in s.Lone at y (s.States [] (s.From at y (plain_of at x)))
   body_of at (Labelled x t) =
-      s.Lone at (token_behind at (label_symbols x ++ statement_symbols t)) (s.States (label_of at x ∷ labels_of (token_behind at (label_symbols x)) t) (statement_of (token_behind at (label_symbols x)) t))
+      s.Lone at (token_behind at (label_symbols x ++ statement_symbols t))
+      (s.States (label_of at x ∷ labels_of (token_behind at (label_symbols x)) t) (statement_of (token_behind at (label_symbols x)) t))
 
   pub plain_of : ℕ → Plain → s.Statement
   plain_of at (Compound b) = s.Block (block_of at b)

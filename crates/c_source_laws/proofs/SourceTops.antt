@@ -21,7 +21,13 @@ abbrev pub parameter_of : ℕ → Parameter → s.Parameter
 parameter_of at (Typed constant n named size) =
     let x = token_behind at (word_symbols c.Const constant) in
     let y = token_behind x (type_symbols n) in
-    record { first = at; constant = constant; words = numbers_of x (type_symbols n); name = cond named (Some y) None; size = size_of (token_behind y (word_symbols c.Name named)) size }
+    record {
+      first = at;
+      constant = constant;
+      words = numbers_of x (type_symbols n);
+      name = cond named (Some y) None;
+      size = size_of (token_behind y (word_symbols c.Name named)) size;
+    }
 
 abbrev pub parameters_of : ℕ → Parameters → List s.Parameter
 parameters_of at (SomeParameters x xs) = each parameter_symbols parameter_of at x xs

@@ -28,7 +28,8 @@ use Rattle.c_source_laws.proofs.TopsDerive.{file_derives}
 use Rattle.c_source_laws.proofs.TopsDerived.{file_given}
 
 -- the syntax of a derivation of the grammar writes what the derivation does
-sources : (word : ℕ → List ℕ) (file : List g.Top) (r : List Class) → FitsFile file → Along IsClassed word 0 (file_tokens file r) → Along IsWeighed word 0 (file_tokens file r) → file_of word (file_node file) ≡ tops_of 0 file
+sources : (word : ℕ → List ℕ) (file : List g.Top) (r : List Class) → FitsFile file → Along IsClassed word 0 (file_tokens file r) →
+    Along IsWeighed word 0 (file_tokens file r) → file_of word (file_node file) ≡ tops_of 0 file
 sources word file r f s w = file_writes word file (file_keywords word file 0 r s) ∙ tops_same word file 0 0 r refl f w
 
 spelt : (file : List g.Top) → file_tokens file (c.End ∷ []) ≡ with_end (file_symbols file)
@@ -39,14 +40,16 @@ first_along file xs e = subst (λ (l : List Symbol). IsFirst (old.first_too_many
 
 -- ---- derivations
 
-module _ (word : ℕ → List ℕ) (tokens : List Class) (classed : Along IsClassed word 0 (tokens ++ c.End ∷ [])) (weighed : Along IsWeighed word 0 (tokens ++ c.End ∷ [])) where
+module _ (word : ℕ → List ℕ) (tokens : List Class) (classed : Along IsClassed word 0 (tokens ++ c.End ∷ []))
+    (weighed : Along IsWeighed word 0 (tokens ++ c.End ∷ [])) where
   writes : (file : List g.Top) → FitsFile file → file_tokens file (c.End ∷ []) ≡ tokens ++ c.End ∷ [] → file_of word (file_node file) ≡ tops_of 0 file
   writes file f e = sources word file (c.End ∷ []) f (subst (Along IsClassed word 0) (sym e) classed) (subst (Along IsWeighed word 0) (sym e) weighed)
 
   pub derives_file : (x : Syntax) → Derives tokens x → DeriveFile tokens (file_of word x)
   derives_file x d = record {
     symbols = file_symbols (d.file);
-    derives = subst (IsFile 0 (file_symbols (d.file))) (sym (ap (file_of word) (d.syntax_of) ∙ writes (d.file) (d.formed) (d.spelled))) (file_derives (d.file) 0 (d.formed));
+    derives = subst (IsFile 0 (file_symbols (d.file))) (sym (ap (file_of word) (d.syntax_of) ∙ writes (d.file) (d.formed) (d.spelled)))
+        (file_derives (d.file) 0 (d.formed));
     spelled = sym (spelt (d.file)) ∙ d.spelled;
     within = none_is _ (IsOver (file_symbols (d.file))) (file_first (d.file)) (d.within);
   }
@@ -71,7 +74,13 @@ module _ (word : ℕ → List ℕ) (tokens : List Class) (classed : Along IsClas
 -- ---- faults
 
 abbrev viable_given : (tokens : List Class) → old.Viable tokens → Viable tokens
-viable_given tokens v = record { symbols = file_symbols (v.file); file = tops_of 0 (v.file); derives = file_derives (v.file) 0 (v.formed); more = v.more; begins = sym (spelt (v.file)) ∙ v.begins }
+viable_given tokens v = record {
+  symbols = file_symbols (v.file);
+  file = tops_of 0 (v.file);
+  derives = file_derives (v.file) 0 (v.formed);
+  more = v.more;
+  begins = sym (spelt (v.file)) ∙ v.begins;
+}
 
 -- a derivation of the grammar that is over a limit at the same token first
 record ViableBack (tokens : List Class) (v : Viable tokens) : Type 0 where

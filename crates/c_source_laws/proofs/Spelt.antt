@@ -54,14 +54,17 @@ uncounted k = record { tokens = λ r. refl; counts = λ rest q. refl; nests = λ
 pub outside : {level : ℕ} (k : Class) → Spelt level (λ r. k ∷ r) (λ q. e.Outside ∷ q) (Outside k ∷ [])
 outside k = record { tokens = λ r. refl; counts = λ rest q. refl; nests = λ rest h. h }
 
-pub join : {level : ℕ} {f g : List Class → List Class} {k l : List Event → List Event} {xs ys : List Symbol} → Spelt level f k xs → Spelt level g l ys → Spelt level (λ r. f (g r)) (λ q. l (k q)) (xs ++ ys)
+pub join : {level : ℕ} {f g : List Class → List Class} {k l : List Event → List Event} {xs ys : List Symbol} → Spelt level f k xs →
+    Spelt level g l ys → Spelt level (λ r. f (g r)) (λ q. l (k q)) (xs ++ ys)
 join {level} {f} {g} {k} {l} {xs} {ys} a b = record {
-  tokens = λ r. ap f (b.tokens r) ∙ a.tokens (classes_in ys ++ r) ∙ sym (append_assoc (classes_in xs) (classes_in ys) r) ∙ ap (λ z. z ++ r) (sym (classes_joined xs ys));
+  tokens = λ r. ap f (b.tokens r) ∙ a.tokens (classes_in ys ++ r) ∙ sym (append_assoc (classes_in xs) (classes_in ys) r) ∙
+      ap (λ z. z ++ r) (sym (classes_joined xs ys));
   counts = λ rest q. ap (λ z. events level z q) (append_assoc xs ys rest) ∙ a.counts (ys ++ rest) q ∙ b.counts rest (k q);
   nests = λ rest h. subst (AreNested level) (sym (append_assoc xs ys rest)) (a.nests (ys ++ rest) (b.nests rest h));
 }
 
-pub in_level : {level : ℕ} {f : List Class → List Class} {k : List Event → List Event} {xs : List Symbol} → Spelt (level + 1) f k xs → Spelt level f (λ q. k (e.Opened (level + 1) ∷ q)) (nested xs)
+pub in_level : {level : ℕ} {f : List Class → List Class} {k : List Event → List Event} {xs : List Symbol} → Spelt (level + 1) f k xs →
+    Spelt level f (λ q. k (e.Opened (level + 1) ∷ q)) (nested xs)
 in_level {level} {f} {k} {xs} a = record {
   tokens = λ r. a.tokens r ∙ ap (λ z. z ++ r) (sym (classes_joined xs (EndsLevel ∷ []) ∙ none (classes_in xs)));
   counts = λ rest q. let h = e.Opened (level + 1) ∷ q in let same : level + 1 - 1 ≡ level = omega arith in
@@ -103,7 +106,8 @@ mutual
   assignment_spelt (Value d) = conditional_spelt d
 
   pub conditional_spelt : {level : ℕ} (d : Conditional) → Spelt level (conditional_tokens d) (conditional_events d) (conditional_symbols d)
-  conditional_spelt (Choose b e d) = join (join (binary_spelt b) (join (counted c.Question) (expression_spelt e))) (join (uncounted c.Colon) (conditional_spelt d))
+  conditional_spelt (Choose b e d) = join (join (binary_spelt b) (join (counted c.Question) (expression_spelt e)))
+      (join (uncounted c.Colon) (conditional_spelt d))
   conditional_spelt (Only b) = binary_spelt b
 
   pub binary_spelt : {level : ℕ} (b : Binary) → Spelt level (binary_tokens b) (binary_events b) (binary_symbols b)

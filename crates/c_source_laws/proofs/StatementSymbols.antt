@@ -32,7 +32,8 @@ size_symbols (Sized d) = Outside c.OpenIndex ∷ conditional_symbols d ++ Outsid
 
 abbrev pub initialiser_symbols : Initialiser → List Symbol
 initialiser_symbols (OneValue a) = assignment_symbols a
-initialiser_symbols (ValueList a xs trailing) = Outside c.OpenBlock ∷ each_symbols assignment_symbols a xs ++ word_symbols c.Comma trailing ++ Outside c.CloseBlock ∷ []
+initialiser_symbols (ValueList a xs trailing) = Outside c.OpenBlock ∷ each_symbols assignment_symbols a xs ++ word_symbols c.Comma trailing ++ Outside
+    c.CloseBlock ∷ []
 
 abbrev pub value_symbols : Option Initialiser → List Symbol
 value_symbols None = []

@@ -20,12 +20,14 @@ use Rattle.c_source_laws.proofs.Declarations.{optional_read, local_read}
 use Rattle.c_source_laws.proofs.Ends.{body_few, stand_below}
 
 module _ (word : ℕ → List ℕ) (bytes : (at : ℕ) → AreBytes (word at)) where
-  label_read : (at : ℕ) (x : Label) (r : List Class) → FitsLabel x → Stand word at (label_tokens x r) → IsReadLabel word (written_label at x) × LabelHasKeyword word at x × Stand word (label_end at x) r
+  label_read : (at : ℕ) (x : Label) (r : List Class) → FitsLabel x → Stand word at (label_tokens x r) →
+      IsReadLabel word (written_label at x) × LabelHasKeyword word at x × Stand word (label_end at x) r
   label_read at NameLabel r f s = (name_there (word at) (s.0), name_foreign (word at) (s.0), (s.1).1)
   label_read at (CaseLabel d) r f s = let x = conditional_read word bytes (at + 1) d (c.Colon ∷ r) f (s.1) in (x.0, tt, (x.1).1)
   label_read at DefaultLabel r f s = (tt, keyword_there c.Default (word at) refl (s.0), (s.1).1)
 
-  start_read : (at : ℕ) (x : ForStart) (r : List Class) → FitsForStart x → Stand word at (for_start_tokens x r) → IsReadStart word (written_start at x) × Stand word (for_start_end at x) r
+  start_read : (at : ℕ) (x : ForStart) (r : List Class) → FitsForStart x → Stand word at (for_start_tokens x r) →
+      IsReadStart word (written_start at x) × Stand word (for_start_end at x) r
   start_read at (StartLocal x) r f s = local_read word bytes at x r f s
   start_read at (StartValue None) r f s = (tt, s.1)
   start_read at (StartValue (Some e)) r f s = let x = expression_read word bytes at e (c.Semicolon ∷ r) f s in (x.0, (x.1).1)
@@ -47,7 +49,8 @@ module _ (word : ℕ → List ℕ) (bytes : (at : ℕ) → AreBytes (word at)) w
     pub keywords : ItemsHaveKeywords word at xs
     pub behind : Stand word (items_end at xs) r
 
-  as_list : (first after : ℕ) (ls : List s.Label) (p : s.Plain) → Each (IsReadLabel word) ls → IsReadPlain word p → IsReadBody word (list_of_plain first after ls p)
+  as_list : (first after : ℕ) (ls : List s.Label) (p : s.Plain) → Each (IsReadLabel word) ls → IsReadPlain word p →
+      IsReadBody word (list_of_plain first after ls p)
   as_list first after [] (s.From a b (s.Block list)) g h = h
   as_list first after [] (s.From a b _) g h = (g, h)
   as_list first after (l ∷ ls) p g h = (g, h)
@@ -131,7 +134,11 @@ module _ (word : ℕ → List ℕ) (bytes : (at : ℕ) → AreBytes (word at)) w
           keywords = (keyword_there c.Switch (word at) refl (s.0), m.keywords);
           behind = m.behind;
         }
-    plain_read at Goto r f s = record { statement = name_there (word (at + 1)) ((s.1).0); keywords = keyword_there c.Goto (word at) refl (s.0); behind = ((s.1).1).1 }
+    plain_read at Goto r f s = record {
+      statement = name_there (word (at + 1)) ((s.1).0);
+      keywords = keyword_there c.Goto (word at) refl (s.0);
+      behind = ((s.1).1).1;
+    }
     plain_read at Break r f s = record { statement = tt; keywords = keyword_there c.Break (word at) refl (s.0); behind = (s.1).1 }
     plain_read at Continue r f s = record { statement = tt; keywords = keyword_there c.Continue (word at) refl (s.0); behind = (s.1).1 }
     plain_read at (Return o) r f s =

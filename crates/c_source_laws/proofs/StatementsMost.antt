@@ -103,7 +103,8 @@ module _ (word : ℕ → List ℕ) where
   pub more_peak : {X : Type 0} (F : X → Type 0) (f : X → List Class → List Class) (z : ℕ → X → ℕ) (k : X → List Event → List Event) (n : ℕ → X → Syntax)
       → ((x : X) (at : ℕ) (r : List Class) → Stands at (f x r) → Stands (z at x) r)
       → ((x : X) (at : ℕ) (r : List Class) (q : List Event) → F x → Stands at (f x r) → count_of q ≡ 0 → peak (k x q) ≡ max (most_in word (n at x)) (peak q))
-      → (xs : List X) (at : ℕ) (r : List Class) (q : List Event) → FitsMore F xs → Stands at (more_tokens f xs r) → peak (more_events k xs q) ≡ max (most_of word (more_parts z n at xs)) (peak q)
+      → (xs : List X) (at : ℕ) (r : List Class) (q : List Event) → FitsMore F xs → Stands at (more_tokens f xs r) →
+      peak (more_events k xs q) ≡ max (most_of word (more_parts z n at xs)) (peak q)
   more_peak {X} F f z k n past peak [] at r q g s = omega arith
   more_peak {X} F f z k n past peak (x ∷ xs) at r q g s =
       let a = leaf_is word at in
@@ -111,7 +112,8 @@ module _ (word : ℕ → List ℕ) where
       let d = more_peak F f z k n past peak xs (z (at + 1) x) r (k x (Outside ∷ q)) (g.1) (past x (at + 1) _ (s.1)) in
       omega (arith, a, b, d)
 
-  rest_peak : (xs : List Assignment) (trailing : Bool) (at : ℕ) (r : List Class) (q : List Event) → FitsMore FitsAssignment xs → Stands at (rest_tokens assignment_tokens xs trailing r)
+  rest_peak : (xs : List Assignment) (trailing : Bool) (at : ℕ) (r : List Class) (q : List Event) → FitsMore FitsAssignment xs →
+      Stands at (rest_tokens assignment_tokens xs trailing r)
       → peak (rest_events assignment_events xs trailing q) ≡ max (most_of word (rest_parts assignment_end assignment_node at xs trailing)) (peak q)
   rest_peak [] trailing at r q g s =
       let a = joined word (word_parts at trailing) (leaf (word_end at trailing) ∷ []) in
@@ -122,10 +124,12 @@ module _ (word : ℕ → List ℕ) where
   rest_peak (x ∷ xs) trailing at r q g s =
       let a = leaf_is word at in
       let b = assignment_peak word x (at + 1) _ (Outside ∷ q) (g.0) (s.1) refl in
-      let d = rest_peak xs trailing (assignment_end (at + 1) x) r (assignment_events x (Outside ∷ q)) (g.1) (assignment_past IsWeighed word x (at + 1) _ (s.1)) in
+      let d = rest_peak xs trailing (assignment_end (at + 1) x) r (assignment_events x (Outside ∷ q)) (g.1)
+      (assignment_past IsWeighed word x (at + 1) _ (s.1)) in
       omega (arith, a, b, d)
 
-  pub size_peak : (x : Size) (at : ℕ) (r : List Class) (q : List Event) → FitsSize x → Stands at (size_tokens x r) → peak (size_events x q) ≡ max (most_of word (size_parts at x)) (peak q)
+  pub size_peak : (x : Size) (at : ℕ) (r : List Class) (q : List Event) → FitsSize x → Stands at (size_tokens x r) →
+      peak (size_events x q) ≡ max (most_of word (size_parts at x)) (peak q)
   size_peak NoSize at r q f s = omega arith
   size_peak Unsized at r q f s = let a = leaf_is word at in let b = leaf_is word (at + 1) in omega (arith, a, b)
   size_peak (Sized d) at r q f s =
@@ -140,10 +144,12 @@ module _ (word : ℕ → List ℕ) where
   initialiser_peak (ValueList a xs trailing) at r q f s z =
       let g = leaf_is word at in
       let b = assignment_peak word a (at + 1) _ (Outside ∷ q) (f.0) (s.1) refl in
-      let d = rest_peak xs trailing (assignment_end (at + 1) a) r (assignment_events a (Outside ∷ q)) (f.1) (assignment_past IsWeighed word a (at + 1) _ (s.1)) in
+      let d = rest_peak xs trailing (assignment_end (at + 1) a) r (assignment_events a (Outside ∷ q)) (f.1)
+      (assignment_past IsWeighed word a (at + 1) _ (s.1)) in
       omega (arith, g, b, d)
 
-  value_peak : (o : Option Initialiser) (at : ℕ) (r : List Class) (q : List Event) → FitsValue o → Stands at (value_tokens o r) → peak (value_events o q) ≡ max (most_of word (value_parts at o)) (peak q)
+  value_peak : (o : Option Initialiser) (at : ℕ) (r : List Class) (q : List Event) → FitsValue o → Stands at (value_tokens o r) →
+      peak (value_events o q) ≡ max (most_of word (value_parts at o)) (peak q)
   value_peak None at r q f s = omega arith
   value_peak (Some x) at r q f s =
       let a = leaf_is word at in
@@ -182,7 +188,8 @@ module _ (word : ℕ → List ℕ) where
       let l = type_held n (word_events constant q) in
       let o = word_closed constant q z in
       let m = declarator_peak d y _ w (f.0) t (omega (arith, l, o)) in
-      let u = more_peak FitsDeclarator declarator_tokens declarator_end declarator_events declarator_node (declarator_past IsWeighed word) declarator_peak ds (declarator_end y d) _ (declarator_events d w) (f.1) (declarator_past IsWeighed word d y _ t) in
+      let u = more_peak FitsDeclarator declarator_tokens declarator_end declarator_events declarator_node (declarator_past IsWeighed word)
+      declarator_peak ds (declarator_end y d) _ (declarator_events d w) (f.1) (declarator_past IsWeighed word d y _ t) in
       omega (arith, i, j, k, a, b, e, g, h, m, u)
 
   -- ---- statements
@@ -195,7 +202,9 @@ module _ (word : ℕ → List ℕ) where
   label_peak : (x : Label) (at : ℕ) (r : List Class) (q : List Event) → FitsLabel x → Stands at (label_tokens x r) → count_of q ≡ 0
       → peak (label_events x q) ≡ max (most_in word (label_node at x)) (peak q)
   label_peak NameLabel at r q f s z =
-      let n = node_is word p.Label at (label_end at NameLabel) (label_parts at NameLabel) refl in let a = leaf_is word at in let b = leaf_is word (at + 1) in omega (arith, n, a, b, z)
+      let n = node_is word p.Label at (label_end at NameLabel) (label_parts at NameLabel) refl in let a = leaf_is word at in let b =
+      leaf_is word
+      (at + 1) in omega (arith, n, a, b, z)
   label_peak (CaseLabel d) at r q f s z =
       let n = node_is word p.Label at (label_end at (CaseLabel d)) (label_parts at (CaseLabel d)) refl in
       let a = leaf_is word at in
@@ -203,7 +212,9 @@ module _ (word : ℕ → List ℕ) where
       let e = leaf_is word (conditional_end (at + 1) d) in
       omega (arith, n, a, b, e)
   label_peak DefaultLabel at r q f s z =
-      let n = node_is word p.Label at (label_end at DefaultLabel) (label_parts at DefaultLabel) refl in let a = leaf_is word at in let b = leaf_is word (at + 1) in omega (arith, n, a, b)
+      let n = node_is word p.Label at (label_end at DefaultLabel) (label_parts at DefaultLabel) refl in let a = leaf_is word at in let b =
+      leaf_is word
+      (at + 1) in omega (arith, n, a, b)
 
   start_peak : (x : ForStart) (at : ℕ) (r : List Class) (q : List Event) → FitsForStart x → Stands at (for_start_tokens x r) → count_of q ≡ 0
       → peak (for_start_events x q) ≡ max (most_of word (for_start_parts at x)) (peak q)
@@ -223,7 +234,8 @@ module _ (word : ℕ → List ℕ) where
 
   -- by the parts of a statement the events of the list of a construct
   abbrev Peak : ℕ → Statement → ℕ → List Event → Type 0
-  Peak level t at q = peak (statement_events (level_within level t) t (opened_by level t q)) ≡ max (most_of word (statement_parts at t)) (peak (opened_by level t q))
+  Peak level t at q = peak (statement_events (level_within level t) t (opened_by level t q)) ≡ max (most_of word (statement_parts at t))
+      (peak (opened_by level t q))
 
   body_peak : (t : Statement) (level at : ℕ) (q : List Event) → count_of q ≡ 0 → Peak level t at q
       → peak (statement_events (level_within level t) t (opened_by level t q)) ≡ max (most_in word (statement_node at t)) (peak q)
@@ -233,9 +245,11 @@ module _ (word : ℕ → List ℕ) where
   open_closed t level q z = opened_closed (level + 1) (is_block t) q z
 
   -- an expression in brackets behind a word, and the list behind it
-  tested_peak : (e : Expression) (t : Statement) (at level : ℕ) (r : List Class) (q : List Event) → FitsExpression e → Stands (at + 1 + 1) (expression_tokens e r)
+  tested_peak : (e : Expression) (t : Statement) (at level : ℕ) (r : List Class) (q : List Event) → FitsExpression e →
+      Stands (at + 1 + 1) (expression_tokens e r)
       → let x = expression_end (at + 1 + 1) e in let u = Outside ∷ expression_events e (Outside ∷ Outside ∷ q) in Peak level t (x + 1) u
-      → peak (statement_events (level_within level t) t (opened_by level t u)) ≡ max (most_of word (leaf at ∷ leaf (at + 1) ∷ expression_node (at + 1 + 1) e ∷ leaf x ∷ statement_node (x + 1) t ∷ [])) (peak q)
+      → peak (statement_events (level_within level t) t (opened_by level t u)) ≡ max
+      (most_of word (leaf at ∷ leaf (at + 1) ∷ expression_node (at + 1 + 1) e ∷ leaf x ∷ statement_node (x + 1) t ∷ [])) (peak q)
   tested_peak e t at level r q f s h =
       let x = expression_end (at + 1 + 1) e in
       let g = body_peak t level (x + 1) (Outside ∷ expression_events e (Outside ∷ Outside ∷ q)) refl h in
@@ -265,7 +279,8 @@ module _ (word : ℕ → List ℕ) where
     items_peak (StatementItem t xs) level at r q f s z =
         let n = statement_is t at in
         let g = statement_peak t level at _ q (f.0) s z in
-        let h = items_peak xs level (statement_end at t) r (statement_events level t q) (f.1) (statement_past IsWeighed word t at _ s) (statement_closed t level q z) in
+        let h = items_peak xs level (statement_end at t) r (statement_events level t q) (f.1) (statement_past IsWeighed word t at _ s)
+        (statement_closed t level q z) in
         omega (arith, n, g, h)
 
     statement_peak : (t : Statement) (level at : ℕ) (r : List Class) (q : List Event) → FitsStatement t → Stands at (statement_tokens t r) → count_of q ≡ 0
@@ -293,7 +308,8 @@ module _ (word : ℕ → List ℕ) where
     plain_peak (If e t) level at r q f s z =
         let x = expression_end (at + 1 + 1) e + 1 in
         let u = Outside ∷ expression_events e (Outside ∷ Outside ∷ q) in
-        tested_peak e t at level _ q (f.0) ((s.1).1) (statement_peak t (level_within level t) x r (opened_by level t u) (f.1) (expression_past IsWeighed word e (at + 1 + 1) _ ((s.1).1)).1 (open_closed t level u refl))
+        tested_peak e t at level _ q (f.0) ((s.1).1) (statement_peak t (level_within level t) x r (opened_by level t u) (f.1)
+        (expression_past IsWeighed word e (at + 1 + 1) _ ((s.1).1)).1 (open_closed t level u refl))
     plain_peak (IfElse e t w) level at r q f s z =
         let x = expression_end (at + 1 + 1) e + 1 in
         let y = statement_end x t in
@@ -301,8 +317,10 @@ module _ (word : ℕ → List ℕ) where
         let v = statement_events (level_within level t) t (opened_by level t u) in
         let a = (expression_past IsWeighed word e (at + 1 + 1) _ ((s.1).1)).1 in
         let b = (statement_past IsWeighed word t x _ a).1 in
-        let g = tested_peak e t at level _ q (f.0) ((s.1).1) (statement_peak t (level_within level t) x _ (opened_by level t u) (f.1) a (open_closed t level u refl)) in
-        let h = body_peak w level (y + 1) (Outside ∷ v) refl (statement_peak w (level_within level w) (y + 1) r (opened_by level w (Outside ∷ v)) (f.3) b (open_closed w level (Outside ∷ v) refl)) in
+        let g = tested_peak e t at level _ q (f.0) ((s.1).1)
+        (statement_peak t (level_within level t) x _ (opened_by level t u) (f.1) a (open_closed t level u refl)) in
+        let h = body_peak w level (y + 1) (Outside ∷ v) refl
+        (statement_peak w (level_within level w) (y + 1) r (opened_by level w (Outside ∷ v)) (f.3) b (open_closed w level (Outside ∷ v) refl)) in
         let front = leaf at ∷ leaf (at + 1) ∷ expression_node (at + 1 + 1) e ∷ leaf (expression_end (at + 1 + 1) e) ∷ statement_node x t ∷ [] in
         let j = joined word front (leaf y ∷ statement_node (y + 1) w ∷ []) in
         let k = behind_token _ (most_in word (leaf y)) (most_in word (statement_node (y + 1) w)) (peak v) (leaf_is word y) h in
@@ -310,13 +328,15 @@ module _ (word : ℕ → List ℕ) where
     plain_peak (While e t) level at r q f s z =
         let x = expression_end (at + 1 + 1) e + 1 in
         let u = Outside ∷ expression_events e (Outside ∷ Outside ∷ q) in
-        tested_peak e t at level _ q (f.0) ((s.1).1) (statement_peak t (level_within level t) x r (opened_by level t u) (f.1) (expression_past IsWeighed word e (at + 1 + 1) _ ((s.1).1)).1 (open_closed t level u refl))
+        tested_peak e t at level _ q (f.0) ((s.1).1) (statement_peak t (level_within level t) x r (opened_by level t u) (f.1)
+        (expression_past IsWeighed word e (at + 1 + 1) _ ((s.1).1)).1 (open_closed t level u refl))
     plain_peak (DoWhile t e) level at r q f s z =
         let x = statement_end (at + 1) t in
         let y = expression_end (x + 1 + 1) e in
         let v = statement_events (level_within level t) t (opened_by level t (Outside ∷ q)) in
         let d = ((statement_past IsWeighed word t (at + 1) _ (s.1)).1).1 in
-        let g = body_peak t level (at + 1) (Outside ∷ q) refl (statement_peak t (level_within level t) (at + 1) _ (opened_by level t (Outside ∷ q)) (f.0) (s.1) (open_closed t level (Outside ∷ q) refl)) in
+        let g = body_peak t level (at + 1) (Outside ∷ q) refl
+        (statement_peak t (level_within level t) (at + 1) _ (opened_by level t (Outside ∷ q)) (f.0) (s.1) (open_closed t level (Outside ∷ q) refl)) in
         let h = expression_peak word e (x + 1 + 1) _ (Outside ∷ Outside ∷ v) (f.1) d refl in
         let a = leaf_is word at in
         let b = leaf_is word x in
@@ -341,7 +361,8 @@ module _ (word : ℕ → List ℕ) where
         let g = start_peak i (at + 1 + 1) _ k (f.0) ((s.1).1) refl in
         let h = optional_peak t x _ l (f.1) a (start_closed i k) in
         let o = optional_peak u (y + 1) _ (Outside ∷ m) (f.2) d refl in
-        let v = body_peak b level (w + 1) (Outside ∷ n) refl (statement_peak b (level_within level b) (w + 1) r (opened_by level b (Outside ∷ n)) (f.3) e (open_closed b level (Outside ∷ n) refl)) in
+        let v = body_peak b level (w + 1) (Outside ∷ n) refl
+        (statement_peak b (level_within level b) (w + 1) r (opened_by level b (Outside ∷ n)) (f.3) e (open_closed b level (Outside ∷ n) refl)) in
         let j1 = joined word front (optional_parts x t) in
         let j2 = joined word (front ++ optional_parts x t) (leaf y ∷ optional_parts (y + 1) u) in
         let j3 = joined word (front ++ optional_parts x t ++ leaf y ∷ optional_parts (y + 1) u) (leaf w ∷ statement_node (w + 1) b ∷ []) in
@@ -350,11 +371,13 @@ module _ (word : ℕ → List ℕ) where
         let first : peak l ≡ max (most_of word front) (peak q) = omega (arith, g, a1, a2) in
         let second = in_turn _ (most_of word front) _ _ (peak l) (peak q) j1 first h in
         let third = in_turn _ (most_of word (front ++ optional_parts x t)) _ _ (peak m) (peak q) j2 second (list_behind _ _ _ (peak m) (leaf_is word y) o) in
-        in_turn _ (most_of word (front ++ optional_parts x t ++ leaf y ∷ optional_parts (y + 1) u)) _ _ (peak n) (peak q) j3 third (behind_token _ _ _ (peak n) (leaf_is word w) v)
+        in_turn _ (most_of word (front ++ optional_parts x t ++ leaf y ∷ optional_parts (y + 1) u)) _ _ (peak n) (peak q) j3 third
+        (behind_token _ _ _ (peak n) (leaf_is word w) v)
     plain_peak (Switch e t) level at r q f s z =
         let x = expression_end (at + 1 + 1) e + 1 in
         let u = Outside ∷ expression_events e (Outside ∷ Outside ∷ q) in
-        tested_peak e t at level _ q (f.0) ((s.1).1) (statement_peak t (level_within level t) x r (opened_by level t u) (f.1) (expression_past IsWeighed word e (at + 1 + 1) _ ((s.1).1)).1 (open_closed t level u refl))
+        tested_peak e t at level _ q (f.0) ((s.1).1) (statement_peak t (level_within level t) x r (opened_by level t u) (f.1)
+        (expression_past IsWeighed word e (at + 1 + 1) _ ((s.1).1)).1 (open_closed t level u refl))
     plain_peak Goto level at r q f s z = let a = leaf_is word at in let b = leaf_is word (at + 1) in let e = leaf_is word (at + 1 + 1) in omega (arith, a, b, e)
     plain_peak Break level at r q f s z = let a = leaf_is word at in let b = leaf_is word (at + 1) in omega (arith, a, b)
     plain_peak Continue level at r q f s z = let a = leaf_is word at in let b = leaf_is word (at + 1) in omega (arith, a, b)

@@ -19,7 +19,8 @@ pub word_spelt : {level : ℕ} (k : Class) (given : Bool) → Spelt level (word_
 word_spelt k false = nothing
 word_spelt k true = outside k
 
-more_spelt : {level : ℕ} {X : Type 0} (f : X → List Class → List Class) (k : X → List Event → List Event) (n : X → List Symbol) → ((x : X) → Spelt level (f x) (k x) (n x))
+more_spelt : {level : ℕ} {X : Type 0} (f : X → List Class → List Class) (k : X → List Event → List Event) (n : X → List Symbol) →
+    ((x : X) → Spelt level (f x) (k x) (n x))
     → (xs : List X) → Spelt level (more_tokens f xs) (more_events k xs) (more_symbols n xs)
 more_spelt {level} {X} f k n each [] = nothing
 more_spelt {level} {X} f k n each (x ∷ xs) = join (join (outside c.Comma) (each x)) (more_spelt f k n each xs)
@@ -39,14 +40,16 @@ regroup f m w e = sym (append_assoc f (m ++ w) e) ∙ ap (λ z. z ++ e) (sym (ap
 abbrev rest_symbols : {X : Type 0} → (X → List Symbol) → List X → Bool → List Symbol
 rest_symbols n xs trailing = more_symbols n xs ++ word_symbols c.Comma trailing ++ Outside c.CloseBlock ∷ []
 
-rest_spelt : {level : ℕ} {X : Type 0} (f : X → List Class → List Class) (k : X → List Event → List Event) (n : X → List Symbol) → ((x : X) → Spelt level (f x) (k x) (n x))
+rest_spelt : {level : ℕ} {X : Type 0} (f : X → List Class → List Class) (k : X → List Event → List Event) (n : X → List Symbol) →
+    ((x : X) → Spelt level (f x) (k x) (n x))
     → (xs : List X) (trailing : Bool) → Spelt level (rest_tokens f xs trailing) (rest_events k xs trailing) (rest_symbols n xs trailing)
 rest_spelt {level} {X} f k n each [] trailing = join (word_spelt c.Comma trailing) (outside c.CloseBlock)
 rest_spelt {level} {X} f k n each (x ∷ xs) trailing =
     let last = word_symbols c.Comma trailing in
     let end = Outside c.CloseBlock ∷ [] in
     let front = Outside c.Comma ∷ n x in
-    again (front ++ (more_symbols n xs ++ last ++ end)) (front ++ more_symbols n xs ++ last ++ end) (regroup front (more_symbols n xs) last end) (join (join (outside c.Comma) (each x)) (rest_spelt f k n each xs trailing))
+    again (front ++ (more_symbols n xs ++ last ++ end)) (front ++ more_symbols n xs ++ last ++ end) (regroup front (more_symbols n xs) last end)
+    (join (join (outside c.Comma) (each x)) (rest_spelt f k n each xs trailing))
 
 pub optional_spelt : {level : ℕ} (o : Option Expression) → Spelt level (optional_tokens o) (optional_events o) (optional_symbols o)
 optional_spelt None = nothing
@@ -72,7 +75,8 @@ pub declarator_spelt : {level : ℕ} (d : Declarator) → Spelt level (declarato
 declarator_spelt (Declared size value) = join (join (outside c.Name) (size_spelt size)) (value_spelt value)
 
 pub local_spelt : {level : ℕ} (x : Local) → Spelt level (local_tokens x) (local_events x) (local_symbols x)
-local_spelt (Locals constant n d ds) = join (join (join (word_spelt c.Const constant) (type_spelt n)) (join (declarator_spelt d) (more_spelt declarator_tokens declarator_events declarator_symbols declarator_spelt ds))) (outside c.Semicolon)
+local_spelt (Locals constant n d ds) = join (join (join (word_spelt c.Const constant) (type_spelt n))
+    (join (declarator_spelt d) (more_spelt declarator_tokens declarator_events declarator_symbols declarator_spelt ds))) (outside c.Semicolon)
 
 pub label_spelt : {level : ℕ} (x : Label) → Spelt level (label_tokens x) (label_events x) (label_symbols x)
 label_spelt NameLabel = join (uncounted c.Name) (outside c.Colon)
@@ -83,14 +87,16 @@ pub start_spelt : {level : ℕ} (x : ForStart) → Spelt level (for_start_tokens
 start_spelt (StartLocal x) = local_spelt x
 start_spelt (StartValue o) = join (optional_spelt o) (outside c.Semicolon)
 
-pub tested_spelt : {level : ℕ} (k : Class) (e : Expression) → Spelt level (λ r. k ∷ c.Open ∷ expression_tokens e (c.Close ∷ r)) (λ q. ev.Outside ∷ expression_events e (ev.Outside ∷ ev.Outside ∷ q)) (tested_symbols k e)
+pub tested_spelt : {level : ℕ} (k : Class) (e : Expression) → Spelt level (λ r. k ∷ c.Open ∷ expression_tokens e (c.Close ∷ r))
+    (λ q. ev.Outside ∷ expression_events e (ev.Outside ∷ ev.Outside ∷ q)) (tested_symbols k e)
 tested_spelt k e = join (join (outside k) (join (outside c.Open) (expression_spelt e))) (outside c.Close)
 
 -- the list of a construct, and its events
 abbrev body_counts : ℕ → Statement → List Event → List Event
 body_counts level t q = statement_events (level_within level t) t (opened_by level t q)
 
-lone_spelt : {level : ℕ} (x : Plain) → ((n : ℕ) → Spelt n (plain_tokens x) (plain_events n x) (plain_symbols x)) → Spelt level (plain_tokens x) (body_counts level (Unlabelled x)) (body_symbols (Unlabelled x))
+lone_spelt : {level : ℕ} (x : Plain) → ((n : ℕ) → Spelt n (plain_tokens x) (plain_events n x) (plain_symbols x)) →
+    Spelt level (plain_tokens x) (body_counts level (Unlabelled x)) (body_symbols (Unlabelled x))
 lone_spelt {level} (Compound b) a = a level
 lone_spelt {level} x a = in_level (a (level + 1))
 
@@ -119,7 +125,8 @@ mutual
   plain_spelt level (While e t) = join (tested_spelt c.While e) (body_spelt level t)
   plain_spelt level (DoWhile t e) = join (join (join (outside c.Do) (body_spelt level t)) (tested_spelt c.While e)) (outside c.Semicolon)
   plain_spelt level (For f t u b) =
-      join (join (join (join (outside c.For) (join (outside c.Open) (start_spelt f))) (optional_spelt t)) (join (outside c.Semicolon) (optional_spelt u))) (join (outside c.Close) (body_spelt level b))
+      join (join (join (join (outside c.For) (join (outside c.Open) (start_spelt f))) (optional_spelt t))
+      (join (outside c.Semicolon) (optional_spelt u))) (join (outside c.Close) (body_spelt level b))
   plain_spelt level (Switch e t) = join (tested_spelt c.Switch e) (body_spelt level t)
   plain_spelt level Goto = join (outside c.Goto) (join (outside c.Name) (outside c.Semicolon))
   plain_spelt level Break = join (outside c.Break) (outside c.Semicolon)
@@ -148,7 +155,8 @@ enumeration_spelt (Enumerated x xs trailing) =
     let close = Outside c.CloseBlock ∷ [] in
     let end = Outside c.Semicolon ∷ [] in
     again _ _ (ap (λ z. z ++ end) (regroup front more last close) ∙ append_assoc (front ++ more ++ last) close end)
-    (join (join (join (outside c.Enum) (join (outside c.OpenBlock) (enumerator_spelt x))) (rest_spelt enumerator_tokens enumerator_events enumerator_symbols enumerator_spelt xs trailing)) (outside c.Semicolon))
+    (join (join (join (outside c.Enum) (join (outside c.OpenBlock) (enumerator_spelt x)))
+    (rest_spelt enumerator_tokens enumerator_events enumerator_symbols enumerator_spelt xs trailing)) (outside c.Semicolon))
 
 pub result_spelt : {level : ℕ} (o : Option NumberType) → Spelt level (result_tokens o) (result_events o) (result_symbols o)
 result_spelt None = outside c.Void
@@ -160,7 +168,8 @@ body_of_function (Some b) = block_spelt 0 b
 
 pub function_spelt : (x : Function) → Spelt 0 (function_tokens x) (function_events x) (function_symbols x)
 function_spelt (Defined static n xs b) =
-    join (join (join (word_spelt c.Static static) (result_spelt n)) (join (outside c.Name) (join (outside c.Open) (parameters_spelt xs)))) (join (outside c.Close) (body_of_function b))
+    join (join (join (word_spelt c.Static static) (result_spelt n)) (join (outside c.Name) (join (outside c.Open) (parameters_spelt xs))))
+    (join (outside c.Close) (body_of_function b))
 
 pub top_spelt : (x : Top) → Spelt 0 (top_tokens x) (top_events x) (top_symbols x)
 top_spelt Line = outside c.Directive

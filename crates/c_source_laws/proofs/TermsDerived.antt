@@ -91,7 +91,8 @@ mutual
       }
 
   assignments_given : (at : ℕ) (xs : List Symbol) (ts : Terms) → AreAssignments at xs ts → TermsGiven at xs ts
-  assignments_given at xs ts (r.last {f = f} a) = let h = assignment_given at xs f a in record { d = One (h.d); fits = h.fits; symbols = h.symbols; written = λ i. s.Then (At at (h.written i)) NoTerm }
+  assignments_given at xs ts (r.last {f = f} a) = let h = assignment_given at xs f a in
+      record { d = One (h.d); fits = h.fits; symbols = h.symbols; written = λ i. s.Then (At at (h.written i)) NoTerm }
   assignments_given at zs w (r.then {xs = xs} {ys = ys} {f = f} {ts = ts} a b) =
       let g = assignment_given at xs f a in
       let h = assignments_given (token_behind at xs + 1) ys ts b in
@@ -110,9 +111,11 @@ mutual
         d = To (g.d) m (h.d);
         fits = (g.fits, e, h.fits);
         symbols = λ i. g.symbols i ++ Counted m ∷ h.symbols i;
-        written = λ i. s.Assign (token_behind at (g.symbols i)) (At at (g.written i)) (At (token_behind at (g.symbols i) + 1) ((ap (λ l. assignment_form (token_behind at l + 1) (h.d)) (g.symbols) ∙ h.written) i));
+        written = λ i. s.Assign (token_behind at (g.symbols i)) (At at (g.written i))
+            (At (token_behind at (g.symbols i) + 1) ((ap (λ l. assignment_form (token_behind at l + 1) (h.d)) (g.symbols) ∙ h.written) i));
       }
-  assignment_given at xs f (r.value a) = let h = conditional_given at xs f a in record { d = Value (h.d); fits = h.fits; symbols = h.symbols; written = h.written }
+  assignment_given at xs f (r.value a) = let h = conditional_given at xs f a in
+      record { d = Value (h.d); fits = h.fits; symbols = h.symbols; written = h.written }
 
   pub conditional_given : (at : ℕ) (xs : List Symbol) (f : Form) → IsConditional at xs f → ConditionalGiven at xs f
   conditional_given at us w (r.choose {k = k} {xs = xs} {ys = ys} {zs = zs} {f = f} {g = u} {h = v} b e a) =
@@ -123,13 +126,17 @@ mutual
         d = Choose (q.d) (g.d) (h.d);
         fits = (q.fits, g.fits, h.fits);
         symbols = λ i. q.symbols i ++ Counted c.Question ∷ g.symbols i ++ Uncounted c.Colon ∷ h.symbols i;
-        written = λ i. s.Choice (At at (q.written i)) (At (token_behind at (q.symbols i) + 1) ((ap (λ l. expression_form (token_behind at l + 1) (g.d)) (q.symbols) ∙ g.written) i))
-            (At (token_behind (token_behind at (q.symbols i) + 1) (g.symbols i) + 1) (((λ j. conditional_form (token_behind (token_behind at (q.symbols j) + 1) (g.symbols j) + 1) (h.d)) ∙ h.written) i));
+        written = λ i. s.Choice (At at (q.written i)) (At (token_behind at (q.symbols i) + 1)
+            ((ap (λ l. expression_form (token_behind at l + 1) (g.d)) (q.symbols) ∙ g.written) i))
+            (At (token_behind (token_behind at (q.symbols i) + 1) (g.symbols i) + 1)
+            (((λ j. conditional_form (token_behind (token_behind at (q.symbols j) + 1) (g.symbols j) + 1) (h.d)) ∙ h.written) i));
       }
-  conditional_given at xs f (r.only {k = k} a) = let h = (binary_given k at xs f a).is in record { d = Only (h.d); fits = h.fits; symbols = h.symbols; written = h.written }
+  conditional_given at xs f (r.only {k = k} a) = let h = (binary_given k at xs f a).is in
+      record { d = Only (h.d); fits = h.fits; symbols = h.symbols; written = h.written }
 
   binary_given : (k at : ℕ) (xs : List Symbol) (f : Form) → IsBinary k at xs f → BinaryGiven k at xs f
-  binary_given k at xs f (r.single a) = let h = unary_given at xs f a in record { is = record { d = Single (h.d); fits = h.fits; symbols = h.symbols; written = h.written }; roots = refl }
+  binary_given k at xs f (r.single a) = let h = unary_given at xs f a in
+      record { is = record { d = Single (h.d); fits = h.fits; symbols = h.symbols; written = h.written }; roots = refl }
   binary_given n at zs w (r.both {k = k} {l = l} {xs = xs} {ys = ys} {f = f} {g = v} a m b p q u) =
       let x = binary_given k at xs f a in
       let y = binary_given l (token_behind at xs + 1) ys v b in
@@ -140,7 +147,8 @@ mutual
           d = Both (g.d) m (h.d);
           fits = (g.fits, h.fits, p, subst (λ z. level m ≤ z) (sym (x.roots)) q, subst (λ z. level m < z) (sym (y.roots)) u);
           symbols = λ i. g.symbols i ++ Counted m ∷ h.symbols i;
-          written = λ i. s.Binary (token_behind at (g.symbols i)) (At at (g.written i)) (At (token_behind at (g.symbols i) + 1) ((ap (λ z. binary_form (token_behind at z + 1) (h.d)) (g.symbols) ∙ h.written) i));
+          written = λ i. s.Binary (token_behind at (g.symbols i)) (At at (g.written i))
+              (At (token_behind at (g.symbols i) + 1) ((ap (λ z. binary_form (token_behind at z + 1) (h.d)) (g.symbols) ∙ h.written) i));
         };
         roots = refl;
       }
@@ -159,19 +167,35 @@ mutual
         d = CastTo (g.d) (h.d);
         fits = h.fits;
         symbols = λ i. Counted c.Open ∷ g.symbols i ++ Uncounted c.Close ∷ h.symbols i;
-        written = λ i. s.CastTo (numbers_of (at + 1) (g.symbols i)) (At (token_behind (at + 1) (g.symbols i) + 1) ((ap (λ l. unary_form (token_behind (at + 1) l + 1) (h.d)) (g.symbols) ∙ h.written) i));
+        written = λ i. s.CastTo (numbers_of (at + 1) (g.symbols i))
+            (At (token_behind (at + 1) (g.symbols i) + 1) ((ap (λ l. unary_form (token_behind (at + 1) l + 1) (h.d)) (g.symbols) ∙ h.written) i));
       }
   unary_given at zs w (r.cast_void {xs = xs} {f = f} a) =
       let h = unary_given (at + 1 + 1 + 1) xs f a in
-      record { d = CastVoid (h.d); fits = h.fits; symbols = λ i. Counted c.Open ∷ Uncounted c.Void ∷ Uncounted c.Close ∷ h.symbols i; written = λ i. s.CastVoid (At (at + 1 + 1 + 1) (h.written i)) }
+      record {
+        d = CastVoid (h.d);
+        fits = h.fits;
+        symbols = λ i. Counted c.Open ∷ Uncounted c.Void ∷ Uncounted c.Close ∷ h.symbols i;
+        written = λ i. s.CastVoid (At (at + 1 + 1 + 1) (h.written i));
+      }
   unary_given at xs f (r.place a) = let h = target_given at xs f a in record { d = Place (h.d); fits = h.fits; symbols = h.symbols; written = h.written }
   unary_given at zs w (r.step_after {xs = xs} {f = f} a) =
       let h = target_given at xs f a in
-      record { d = StepAfter (h.d); fits = h.fits; symbols = λ i. h.symbols i ++ Counted c.Step ∷ []; written = λ i. s.Suffix (token_behind at (h.symbols i)) (At at (h.written i)) }
+      record {
+        d = StepAfter (h.d);
+        fits = h.fits;
+        symbols = λ i. h.symbols i ++ Counted c.Step ∷ [];
+        written = λ i. s.Suffix (token_behind at (h.symbols i)) (At at (h.written i));
+      }
   unary_given at zs w r.call_none = record { d = CallNone; fits = tt; symbols = refl; written = refl }
   unary_given at zs w (r.call {xs = xs} {ts = ts} a) =
       let h = arguments_given (at + 1 + 1) xs ts a in
-      record { d = CallWith (h.d); fits = h.fits; symbols = λ i. Uncounted c.Name ∷ Counted c.Open ∷ h.symbols i ++ Uncounted c.Close ∷ []; written = λ i. s.Call at (h.written i) }
+      record {
+        d = CallWith (h.d);
+        fits = h.fits;
+        symbols = λ i. Uncounted c.Name ∷ Counted c.Open ∷ h.symbols i ++ Uncounted c.Close ∷ [];
+        written = λ i. s.Call at (h.written i);
+      }
   unary_given at zs w r.number = record { d = Number; fits = tt; symbols = refl; written = refl }
   unary_given at zs w r.character = record { d = Character; fits = tt; symbols = refl; written = refl }
   unary_given at zs f (r.within {xs = xs} e a) =
@@ -187,13 +211,19 @@ mutual
   target_given at xs f r.variable = record { d = Variable; fits = tt; symbols = refl; written = refl }
   target_given at zs w (r.cell {xs = xs} {f = f} a) =
       let h = expression_given (at + 1 + 1) xs f a in
-      record { d = Cell (h.d); fits = h.fits; symbols = λ i. Uncounted c.Name ∷ Counted c.OpenIndex ∷ h.symbols i ++ Uncounted c.CloseIndex ∷ []; written = λ i. s.Cell at (At (at + 1 + 1) (h.written i)) }
+      record {
+        d = Cell (h.d);
+        fits = h.fits;
+        symbols = λ i. Uncounted c.Name ∷ Counted c.OpenIndex ∷ h.symbols i ++ Uncounted c.CloseIndex ∷ [];
+        written = λ i. s.Cell at (At (at + 1 + 1) (h.written i));
+      }
   target_given at zs f (r.round {xs = xs} a) =
       let h = target_given (at + 1) xs f a in
       record { d = Round (h.d); fits = h.fits; symbols = λ i. Counted c.Open ∷ h.symbols i ++ Uncounted c.Close ∷ []; written = h.written }
 
   arguments_given : (at : ℕ) (xs : List Symbol) (ts : Terms) → AreArguments at xs ts → ArgumentsGiven at xs ts
-  arguments_given at xs ts (r.last_argument {f = f} a) = let h = argument_given at xs f a in record { d = Last (h.d); fits = h.fits; symbols = h.symbols; written = λ i. s.Then (At at (h.written i)) NoTerm }
+  arguments_given at xs ts (r.last_argument {f = f} a) = let h = argument_given at xs f a in
+      record { d = Last (h.d); fits = h.fits; symbols = h.symbols; written = λ i. s.Then (At at (h.written i)) NoTerm }
   arguments_given at zs w (r.then_argument {xs = xs} {ys = ys} {f = f} {ts = ts} a b) =
       let g = argument_given at xs f a in
       let h = arguments_given (token_behind at xs + 1) ys ts b in
@@ -205,5 +235,7 @@ mutual
       }
 
   argument_given : (at : ℕ) (xs : List Symbol) (f : Form) → IsArgument at xs f → ArgumentGiven at xs f
-  argument_given at xs f (r.given a) = let h = assignment_given at xs f a in record { d = g.Given (h.d); fits = h.fits; symbols = h.symbols; written = h.written }
-  argument_given at xs f (r.texts a) = let h = texts_given xs a in record { d = g.Written (h.d); fits = tt; symbols = h.symbols; written = λ i. s.Texts (numbers_of at (h.symbols i)) }
+  argument_given at xs f (r.given a) = let h = assignment_given at xs f a in
+      record { d = g.Given (h.d); fits = h.fits; symbols = h.symbols; written = h.written }
+  argument_given at xs f (r.texts a) = let h = texts_given xs a in
+      record { d = g.Written (h.d); fits = tt; symbols = h.symbols; written = λ i. s.Texts (numbers_of at (h.symbols i)) }

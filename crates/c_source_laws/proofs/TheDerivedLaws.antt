@@ -24,7 +24,8 @@ use Rattle.c_source_laws.proofs.Depths.{file_shallow}
 use Rattle.c_source_laws.proofs.Comments.{comments}
 use Rattle.c_source_laws.proofs.Directives.{directives}
 
-module _ (pieces : List Piece) (t : List ℕ) (spells : Spells pieces t) (bytes : AreBytes t) (few : length (tokens_of pieces) ≤ 4294967295) (x : Syntax) (d : Derives (classes_of t (tokens_of pieces)) x) where
+module _ (pieces : List Piece) (t : List ℕ) (spells : Spells pieces t) (bytes : AreBytes t) (few : length (tokens_of pieces) ≤ 4294967295)
+    (x : Syntax) (d : Derives (classes_of t (tokens_of pieces)) x) where
   abbrev the_word : ℕ → List ℕ
   the_word = word_of t (tokens_of pieces)
 

@@ -23,4 +23,11 @@ module _ (t : List ℕ) (pieces : List Piece) (s : Spells pieces t) where
       record { syntax_of = h.syntax_of; derives = h.derives; writes = h.writes }
 
 pub source_laws : SourceLaws
-source_laws = record { file = file; syntax_of = syntax_of; unexpected = unexpected_given; unexpected_back = unexpected_back; too_many = too_many_given; too_many_back = too_many_back }
+source_laws = record {
+  file = file;
+  syntax_of = syntax_of;
+  unexpected = unexpected_given;
+  unexpected_back = unexpected_back;
+  too_many = too_many_given;
+  too_many_back = too_many_back;
+}

@@ -32,7 +32,8 @@ parameter_derives (Typed constant n named size) at f =
 parameters_derive : (xs : Parameters) (at : ℕ) → FitsParameters xs → AreParameters at (parameters_symbols xs) (parameters_of at xs)
 parameters_derive NoParameters at f = r.none
 parameters_derive VoidParameters at f = r.void
-parameters_derive (SomeParameters x xs) at f = r.some (each_derive FitsParameter parameter_symbols parameter_of IsParameter parameter_derives x xs at (f.0) (f.1))
+parameters_derive (SomeParameters x xs) at f = r.some (each_derive FitsParameter parameter_symbols parameter_of IsParameter parameter_derives x xs at
+    (f.0) (f.1))
 
 result_derives : (o : Option NumberType) (at : ℕ) → IsResult at (result_symbols o) (option_map (λ (t : NumberType). numbers_of at (type_symbols t)) o)
 result_derives None at = r.no_number
@@ -52,8 +53,10 @@ function_derives (Defined static n xs b) at f =
 top_derives : (x : Top) (at : ℕ) → FitsTop x → IsTop at (top_symbols x) (top_of at x)
 top_derives Line at f = r.line
 top_derives (OfEnum (Enumerated x xs trailing)) at f =
-    r.enum (each_derive FitsConstant enumerator_symbols enumerator_of IsEnumerator enumerator_derives x xs (at + 1 + 1) (f.0) (f.1)) (word_derives c.Comma trailing)
-top_derives (OfDeclaration (Declares static x)) at f = r.globals (word_derives c.Static static) (local_derives x (token_behind at (word_symbols c.Static static)) f)
+    r.enum (each_derive FitsConstant enumerator_symbols enumerator_of IsEnumerator enumerator_derives x xs (at + 1 + 1) (f.0) (f.1))
+    (word_derives c.Comma trailing)
+top_derives (OfDeclaration (Declares static x)) at f = r.globals (word_derives c.Static static)
+    (local_derives x (token_behind at (word_symbols c.Static static)) f)
 top_derives (OfFunction x) at f = r.defines (function_derives x at f)
 
 pub file_derives : (xs : List Top) (at : ℕ) → FitsFile xs → IsFile at (file_symbols xs) (tops_of at xs)

@@ -22,7 +22,12 @@ enumerator_given : (at : ℕ) (xs : List Symbol) (x : s.Enumerator) → IsEnumer
 enumerator_given at xs x r.alone = record { d = None; fits = tt; symbols = refl; written = refl }
 enumerator_given at us x (r.given {xs = xs} {f = f} a) =
     let h = conditional_given (at + 1 + 1) xs f a in
-    record { d = Some (h.d); fits = h.fits; symbols = λ i. Outside c.Name ∷ Outside c.Equals ∷ h.symbols i; written = λ i. record { name = at; value = Some (At (at + 1 + 1) (h.written i)) } }
+    record {
+      d = Some (h.d);
+      fits = h.fits;
+      symbols = λ i. Outside c.Name ∷ Outside c.Equals ∷ h.symbols i;
+      written = λ i. record { name = at; value = Some (At (at + 1 + 1) (h.written i)) };
+    }
 
 record NameGiven (at : ℕ) (xs : List Symbol) (n : Option ℕ) : Type 0 where
   d : Bool
@@ -70,7 +75,8 @@ result_given at xs o (r.number a) = let h = type_given xs a in record { d = Some
 
 body_given : (at : ℕ) (xs : List Symbol) (b : Option Body) → IsDefined at xs b → Given FitsBody files.body_symbols (λ n o. option_map (block_of n) o) at xs b
 body_given at xs b r.declared = record { d = None; fits = tt; symbols = refl; written = refl }
-body_given at xs b (r.defined {b = x} a) = let h = block_given at xs x a in record { d = Some (h.d); fits = h.fits; symbols = h.symbols; written = λ i. Some (h.written i) }
+body_given at xs b (r.defined {b = x} a) = let h = block_given at xs x a in
+    record { d = Some (h.d); fits = h.fits; symbols = h.symbols; written = λ i. Some (h.written i) }
 
 function_given : (at : ℕ) (xs : List Symbol) (x : s.Function) → IsFunction at xs x → Given FitsFunction function_symbols function_of at xs x
 function_given at us x (r.function {xs = xs} {ys = ys} {zs = zs} {ws = ws} {static = static} {r = o} {ps = ps} {b = b} a e f q) =
@@ -113,7 +119,8 @@ top_given at us x (r.globals {xs = xs} {ys = ys} {static = static} {d = d} a b) 
       symbols = λ i. g i ++ h.symbols i;
       written = λ i. s.Globals static ((ap (λ l. declaration_of (token_behind at l) (h.d)) g ∙ h.written) i);
     }
-top_given at xs x (r.defines {f = f} a) = let h = function_given at xs f a in record { d = OfFunction (h.d); fits = h.fits; symbols = h.symbols; written = λ i. s.Defines (h.written i) }
+top_given at xs x (r.defines {f = f} a) = let h = function_given at xs f a in
+    record { d = OfFunction (h.d); fits = h.fits; symbols = h.symbols; written = λ i. s.Defines (h.written i) }
 
 pub file_given : (at : ℕ) (xs : List Symbol) (ts : List s.Top) → IsFile at xs ts → Given FitsFile file_symbols tops_of at xs ts
 file_given at xs ts r.no_top = record { d = []; fits = tt; symbols = refl; written = refl }

@@ -231,7 +231,8 @@ first_behind (Outside k ∷ xs) q at e c l =
 first_behind (OpensLevel ∷ xs) q at e c l =
     by_limit (levels_back q + 1) at _ (OverBehind q (OpensLevel ∷ xs)) (λ h. reached OpensLevel q xs at e (inr h))
     (λ h. passed _ OpensLevel q xs c h (first_behind xs (OpensLevel ∷ q) at e c h))
-first_behind (EndsLevel ∷ xs) q at e c l = let m : levels_back q - 1 ≤ limit = omega (arith, l) in passed _ EndsLevel q xs c m (first_behind xs (EndsLevel ∷ q) at e c m)
+first_behind (EndsLevel ∷ xs) q at e c l = let m : levels_back q - 1 ≤ limit = omega (arith, l) in
+    passed _ EndsLevel q xs c m (first_behind xs (EndsLevel ∷ q) at e c m)
 
 -- what the walk finds is the first token over a limit
 pub walked_first : (xs : List Symbol) → AreNested 0 xs → IsFirst (walked_over 0 0 0 xs) (IsOver xs)

@@ -95,7 +95,32 @@ unmarked class w e u =
 word_byte : (b : ℕ) → is_word_byte b ≡ true → mark_at b ≡ None
 word_byte b h =
     let d = λ (n : ℕ) (o : is_word_byte n ≡ false). differs is_word_byte n b o h in
-    rw (d 91 refl, d 93 refl, d 40 refl, d 41 refl, d 123 refl, d 125 refl, d 46 refl, d 38 refl, d 42 refl, d 43 refl, d 45 refl, d 126 refl, d 33 refl, d 47 refl, d 37 refl, d 60 refl, d 62 refl, d 94 refl, d 124 refl, d 63 refl, d 58 refl, d 59 refl, d 61 refl, d 44 refl) refl
+    rw (
+      d 91 refl,
+      d 93 refl,
+      d 40 refl,
+      d 41 refl,
+      d 123 refl,
+      d 125 refl,
+      d 46 refl,
+      d 38 refl,
+      d 42 refl,
+      d 43 refl,
+      d 45 refl,
+      d 126 refl,
+      d 33 refl,
+      d 47 refl,
+      d 37 refl,
+      d 60 refl,
+      d 62 refl,
+      d 94 refl,
+      d 124 refl,
+      d 63 refl,
+      d 58 refl,
+      d 59 refl,
+      d 61 refl,
+      d 44 refl,
+    ) refl
 
 word_unmarked : (b : ℕ) (w : List ℕ) → is_word_byte b ≡ true → mark_of (b ∷ w) ≡ None
 word_unmarked b w h = sym (mark_is (b ∷ w)) ∙ ap (λ o. grown o w) (word_byte b h)
@@ -130,5 +155,7 @@ weighed first (l.Space b) f = tt
 weighed first (l.Line w) f = tt
 weighed first (l.Block w) f = tt
 
-pub weights : (pieces : List Piece) (t : List ℕ) → Spells pieces t → Along IsWeighed (word_of t (tokens_of pieces)) 0 (classes_of t (tokens_of pieces) ++ c.End ∷ [])
-weights pieces t s = along IsWeighed (unmarked c.End [] refl (record { counts = refl; binds = refl })) pieces t s (each_token IsWeighedHere (λ first p r f m. weighed first p f) pieces t s)
+pub weights : (pieces : List Piece) (t : List ℕ) → Spells pieces t → Along IsWeighed (word_of t (tokens_of pieces)) 0
+    (classes_of t (tokens_of pieces) ++ c.End ∷ [])
+weights pieces t s = along IsWeighed (unmarked c.End [] refl (record { counts = refl; binds = refl })) pieces t s
+    (each_token IsWeighedHere (λ first p r f m. weighed first p f) pieces t s)

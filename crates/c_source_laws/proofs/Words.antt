@@ -45,7 +45,8 @@ along_stand : (word : ℕ → List ℕ) (r : List Class) (at : ℕ) → Along Is
 along_stand word [] at s n = omega (arith, n)
 along_stand word (k ∷ r) at s n = (s.0, along_stand word r (at + 1) (s.1) (omega (arith, n)))
 
-pub words : (pieces : List Piece) (t : List ℕ) → Spells pieces t → length (tokens_of pieces) ≤ 4294967295 → Stand (word_of t (tokens_of pieces)) 0 (classes_of t (tokens_of pieces) ++ c.End ∷ [])
+pub words : (pieces : List Piece) (t : List ℕ) → Spells pieces t → length (tokens_of pieces) ≤ 4294967295 →
+    Stand (word_of t (tokens_of pieces)) 0 (classes_of t (tokens_of pieces) ++ c.End ∷ [])
 words pieces t s n =
     let tokens = tokens_of pieces in
     let d = length-append (classes_of t tokens) (c.End ∷ []) in

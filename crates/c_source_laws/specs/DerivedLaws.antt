@@ -40,10 +40,12 @@ OfDerivation P =
 
 pub record DerivedLaws : Type 0 where
   -- the tokens of a text stand by their numbers, as words of their classes
-  pub words : (pieces : List Piece) (t : List ℕ) → Spells pieces t → length (tokens_of pieces) ≤ 4294967295 → Stand (word_of t (tokens_of pieces)) 0 (classes_of t (tokens_of pieces) ++ c.End ∷ [])
+  pub words : (pieces : List Piece) (t : List ℕ) → Spells pieces t → length (tokens_of pieces) ≤ 4294967295 →
+      Stand (word_of t (tokens_of pieces)) 0 (classes_of t (tokens_of pieces) ++ c.End ∷ [])
   -- what derives an expression there is read
   pub expressions : OfBytes (λ word.
-      (at : ℕ) (e : Expression) (r : List Class) → FitsExpression e → Stand word at (expression_tokens e r) → IsReadForm word (expression_form at e) × Stand word (expression_end at e) r)
+      (at : ℕ) (e : Expression) (r : List Class) → FitsExpression e → Stand word at (expression_tokens e r) →
+      IsReadForm word (expression_form at e) × Stand word (expression_end at e) r)
   -- and what derives the items of a list
   pub items : OfBytes (λ word.
       (at : ℕ) (xs : Items) (r : List Class) → FitsItems xs → Stand word at (items_tokens xs r)
@@ -55,6 +57,8 @@ pub record DerivedLaws : Type 0 where
   -- and the lists of each function stand at most so deep in each other as its limit says
   pub shallow : OfDerivation (λ word tokens x d. Each IsShallow (file_of word x))
   -- at each place of a text stand comments
-  pub comments : (pieces : List Piece) (t : List ℕ) → Spells pieces t → (xs : List Top) (a : Anchor) → Each IsComment (notes_of t (tokens_of pieces) (comments_of pieces) xs a)
+  pub comments : (pieces : List Piece) (t : List ℕ) → Spells pieces t → (xs : List Top) (a : Anchor) →
+      Each IsComment (notes_of t (tokens_of pieces) (comments_of pieces) xs a)
   -- and its directives are `#include` lines
-  pub directives : (pieces : List Piece) (t : List ℕ) → Spells pieces t → Each (λ (x : Token). IsDirectiveToken x.kind (slice_range t x.start x.end)) (tokens_of pieces)
+  pub directives : (pieces : List Piece) (t : List ℕ) → Spells pieces t →
+      Each (λ (x : Token). IsDirectiveToken x.kind (slice_range t x.start x.end)) (tokens_of pieces)

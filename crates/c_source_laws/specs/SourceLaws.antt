@@ -22,7 +22,8 @@ pub record SourceLaws : Type 0 where
   pub file : (t : List ℕ) (pieces : List Piece) → Spells pieces t → (x : Syntax) → Derives (classes_of t (tokens_of pieces)) x
       → DeriveFile (classes_of t (tokens_of pieces)) (file_of (word_of t (tokens_of pieces)) x)
   -- and one that derives a file derives a syntax that writes it
-  pub syntax_of : (t : List ℕ) (pieces : List Piece) → Spells pieces t → (file : List Top) → DeriveFile (classes_of t (tokens_of pieces)) file → SyntaxOf t pieces file
+  pub syntax_of : (t : List ℕ) (pieces : List Piece) → Spells pieces t → (file : List Top) → DeriveFile (classes_of t (tokens_of pieces)) file →
+      SyntaxOf t pieces file
   -- of tokens the same is unexpected, or over a limit, by derivations of the grammar
   pub unexpected : (tokens : List Class) (k : ℕ) → grammar.IsUnexpected tokens k → IsUnexpected tokens k
   pub unexpected_back : (tokens : List Class) (k : ℕ) → IsUnexpected tokens k → grammar.IsUnexpected tokens k

@@ -13,7 +13,8 @@ use Rattle.c_statements.specs.Nodes.{items_of}
 
 -- ---- items
 
-items-cons : (word : ℕ → List ℕ) (x : Syntax) (xs : List Syntax) → items_of word (x ∷ xs) ≡ cond (is_token (out-Syntax x).rule) (items_of word xs) (Then (item_of word x) (items_of word xs))
+items-cons : (word : ℕ → List ℕ) (x : Syntax) (xs : List Syntax) → items_of word (x ∷ xs) ≡ cond (is_token (out-Syntax x).rule) (items_of word xs)
+    (Then (item_of word x) (items_of word xs))
 items-cons word x xs = ap (λ r. cond (is_token r) (items_of word xs) (Then (item_of word x) (items_of word xs))) (part-rule word x)
 
 -- a token is no item
@@ -27,7 +28,8 @@ items-item word xs i d h t = rw (add-one, drop-cons xs i d, items-cons word (get
 
 -- ---- values
 
-values-cons : (word : ℕ → List ℕ) (x : Syntax) (xs : List Syntax) → term_list_of word (x ∷ xs) ≡ cond (is_token (out-Syntax x).rule) (term_list_of word xs) (term_of word x ∷ term_list_of word xs)
+values-cons : (word : ℕ → List ℕ) (x : Syntax) (xs : List Syntax) → term_list_of word (x ∷ xs) ≡ cond (is_token (out-Syntax x).rule)
+    (term_list_of word xs) (term_of word x ∷ term_list_of word xs)
 values-cons word x xs = ap (λ r. cond (is_token r) (term_list_of word xs) (term_of word x ∷ term_list_of word xs)) (part-rule word x)
 
 pub values-token : (word : ℕ → List ℕ) (xs : List Syntax) (i : ℕ) (d : Syntax) → i < length xs → is_token (out-Syntax (get_or xs i d)).rule ≡ true
@@ -68,20 +70,24 @@ pub labels-some : (word : ℕ → List ℕ) (xs : List Syntax) (i : ℕ) (d : Sy
 labels-some word xs i d y h e =
     rw (add-one, drop-cons xs i d) (ap (λ o. elim o [ Some l ↦ l ∷ labels_of word (drop (suc i) xs) | None ↦ labels_of word (drop (suc i) xs) ]) e)
 
-one-length : (word : ℕ → List ℕ) (o : Option Label) (ls : List Label) → longest_label word (elim o [ Some l ↦ l ∷ ls | None ↦ ls ]) ≡ max (length_in word o) (longest_label word ls)
+one-length : (word : ℕ → List ℕ) (o : Option Label) (ls : List Label) →
+    longest_label word (elim o [ Some l ↦ l ∷ ls | None ↦ ls ]) ≡ max (length_in word o) (longest_label word ls)
 one-length word (Some l) ls = refl
 one-length word None ls = omega arith
 
 pub label_length_at : (word : ℕ → List ℕ) (xs : List Syntax) (i : ℕ) (d : Syntax) → i < length xs
-    → longest_label word (labels_of word (drop i xs)) ≡ max (length_in word (label_of word (get_or xs i d))) (longest_label word (labels_of word (drop (i + 1) xs)))
+    → longest_label word (labels_of word (drop i xs)) ≡ max (length_in word (label_of word (get_or xs i d)))
+    (longest_label word (labels_of word (drop (i + 1) xs)))
 label_length_at word xs i d h = rw (add-one, drop-cons xs i d) (one-length word (label_of word (get_or xs i d)) (labels_of word (drop (suc i) xs)))
 
-one-declared : (word : ℕ → List ℕ) (o : Option Declarator) (ds : List Declarator) → longest_declared word (elim o [ Some d ↦ d ∷ ds | None ↦ ds ]) ≡ max (declared_length word o) (longest_declared word ds)
+one-declared : (word : ℕ → List ℕ) (o : Option Declarator) (ds : List Declarator) →
+    longest_declared word (elim o [ Some d ↦ d ∷ ds | None ↦ ds ]) ≡ max (declared_length word o) (longest_declared word ds)
 one-declared word (Some d) ds = refl
 one-declared word None ds = omega arith
 
 pub name_length_at : (word : ℕ → List ℕ) (xs : List Syntax) (i : ℕ) (d : Syntax) → i < length xs
-    → longest_declared word (declarators_of word (drop i xs)) ≡ max (declared_length word (declarator_of word (get_or xs i d))) (longest_declared word (declarators_of word (drop (i + 1) xs)))
+    → longest_declared word (declarators_of word (drop i xs)) ≡ max (declared_length word (declarator_of word (get_or xs i d)))
+    (longest_declared word (declarators_of word (drop (i + 1) xs)))
 name_length_at word xs i d h = rw (add-one, drop-cons xs i d) (one-declared word (declarator_of word (get_or xs i d)) (declarators_of word (drop (suc i) xs)))
 
 pub declarators-none : (word : ℕ → List ℕ) (xs : List Syntax) (i : ℕ) (d : Syntax) → i < length xs → declarator_of word (get_or xs i d) ≡ None
@@ -89,7 +95,8 @@ pub declarators-none : (word : ℕ → List ℕ) (xs : List Syntax) (i : ℕ) (d
 declarators-none word xs i d h e =
     rw (add-one, drop-cons xs i d) (ap (λ o. elim o [ Some l ↦ l ∷ declarators_of word (drop (suc i) xs) | None ↦ declarators_of word (drop (suc i) xs) ]) e)
 
-pub declarators-some : (word : ℕ → List ℕ) (xs : List Syntax) (i : ℕ) (d : Syntax) (y : Declarator) → i < length xs → declarator_of word (get_or xs i d) ≡ Some y
+pub declarators-some : (word : ℕ → List ℕ) (xs : List Syntax) (i : ℕ) (d : Syntax) (y : Declarator) → i < length xs →
+    declarator_of word (get_or xs i d) ≡ Some y
     → declarators_of word (drop i xs) ≡ y ∷ declarators_of word (drop (i + 1) xs)
 declarators-some word xs i d y h e =
     rw (add-one, drop-cons xs i d) (ap (λ o. elim o [ Some l ↦ l ∷ declarators_of word (drop (suc i) xs) | None ↦ declarators_of word (drop (suc i) xs) ]) e)

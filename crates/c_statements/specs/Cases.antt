@@ -66,7 +66,8 @@ with_value v seen = insert_key int_cmp seen v
 
 abbrev pub entry_faults : IntKind → List ℤ → Bool → List Entry → Faults → Faults
 entry_faults kind seen default [] vs = vs
-entry_faults kind seen default (Value at v ∷ es) vs = entry_faults kind (with_value (converted kind v) seen) default es (fault_if (is_among (converted kind v) seen) at 30 vs)
+entry_faults kind seen default (Value at v ∷ es) vs = entry_faults kind (with_value (converted kind v) seen) default es
+    (fault_if (is_among (converted kind v) seen) at 30 vs)
 entry_faults kind seen default (Other at ∷ es) vs = entry_faults kind seen true es (fault_if default at 31 vs)
 
 -- where the selector has a violation, equal cases are not looked for

@@ -39,7 +39,12 @@ parameter_name word None = []
 parameter_name word (Some at) = word at
 
 abbrev pub parameter_slot : (ℕ → List ℕ) → Parameter → Slot
-parameter_slot word x = record { name = parameter_name word x.name; kind = kind_of word x.words; cells = cond (is_array x.size) (Some 0) None; constant = x.constant }
+parameter_slot word x = record {
+  name = parameter_name word x.name;
+  kind = kind_of word x.words;
+  cells = cond (is_array x.size) (Some 0) None;
+  constant = x.constant;
+}
 
 abbrev pub parameter_shape : (ℕ → List ℕ) → Parameter → Shape
 parameter_shape word x = record { kind = kind_of word x.words; array = is_array x.size; constant = x.constant }
@@ -94,7 +99,16 @@ inside word f scopes = bind_parameters word f.parameters (entered scopes)
 
 abbrev pub function : (ℕ → List ℕ) → Function → List Slot → List (List ℕ) → Option (List item.Item) → tree.Function
 function word f slots labels body =
-    record { name = word f.name; result = result_kind word f; file_only = f.static; params = length f.parameters; slots = slots; labels = labels; body = body; flat = false }
+    record {
+      name = word f.name;
+      result = result_kind word f;
+      file_only = f.static;
+      params = length f.parameters;
+      slots = slots;
+      labels = labels;
+      body = body;
+      flat = false;
+    }
 
 -- what the body gives, if there is one, behind the parameters
 

@@ -75,7 +75,11 @@ start_items ctx (StartNames d) w = declaration_items ctx d w
 
 -- a statement that begins a section of a switch
 abbrev pub begun : Context → Env → List Label → List item.Item → Option Reading
-begun ctx env ls xs = Some (record { cases = section_cases env ls; default = has_default ls; list = notes_at ctx (AtSection (items.first_label ls)) ++ section_marks ctx ls ++ xs })
+begun ctx env ls xs = Some (record {
+  cases = section_cases env ls;
+  default = has_default ls;
+  list = notes_at ctx (AtSection (items.first_label ls)) ++ section_marks ctx ls ++ xs;
+})
 
 abbrev pub sections_of : Option Reading → List item.Item → List Section
 sections_of (Some s) notes = closed (extended (Some s) notes)

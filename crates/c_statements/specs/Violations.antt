@@ -55,9 +55,11 @@ abbrev mutual
   statement_faults ctx around first (For start t u b) w vs =
       let inner = behind_start ctx start (enter w) in
       let env = env_at ctx inner in
-      body_faults ctx (in_loop around) b inner (optional_faults (dropped_faults env) u (optional_faults (value_faults env) t (start_faults ctx start (enter w) vs)))
+      body_faults ctx (in_loop around) b inner
+      (optional_faults (dropped_faults env) u (optional_faults (value_faults env) t (start_faults ctx start (enter w) vs)))
   statement_faults ctx around first (Switch t b) w vs =
-      switch_faults (option_map (λ v. v.kind) (value_of (typed (env_at ctx w) t))) (body_entries ctx b w []) (switch_body_faults ctx (in_switch around) b w (value_faults (env_at ctx w) t vs))
+      switch_faults (option_map (λ v. v.kind) (value_of (typed (env_at ctx w) t))) (body_entries ctx b w [])
+      (switch_body_faults ctx (in_switch around) b w (value_faults (env_at ctx w) t vs))
   statement_faults ctx around first (Block b) w vs = body_faults ctx around b w vs
   statement_faults ctx around first (Goto at) w vs = fault_if (not (has_label ctx.labels (ctx.word at))) at 33 vs
   statement_faults ctx around first Break w vs = fault_if (not (around.loop || around.switch)) first 27 vs
@@ -80,10 +82,12 @@ abbrev mutual
 
   pub outside_faults : Context → Around → Items → Walk → Faults → Faults
   outside_faults ctx around NoItem w vs = vs
-  outside_faults ctx around (Then (Declares first after d) xs) w vs = outside_faults ctx around xs (declared_by ctx d w) (fault first 29 (declaration_faults ctx d w vs))
+  outside_faults ctx around (Then (Declares first after d) xs) w vs = outside_faults ctx around xs (declared_by ctx d w)
+      (fault first 29 (declaration_faults ctx d w vs))
   outside_faults ctx around (Then (States ls p) xs) w vs = elim (has_case ls) [
     | true ↦ list_faults ctx around xs (behind_plain ctx p w) (plain_faults ctx around p w (labels_faults (env_at ctx w) around.switch ls vs))
-    | false ↦ outside_faults ctx around xs (behind_plain ctx p w) (fault_if (not (is_null ls p)) (stated_first ls p) 29 (plain_faults ctx around p w (labels_faults (env_at ctx w) around.switch ls vs)))
+    | false ↦ outside_faults ctx around xs (behind_plain ctx p w)
+        (fault_if (not (is_null ls p)) (stated_first ls p) 29 (plain_faults ctx around p w (labels_faults (env_at ctx w) around.switch ls vs)))
   ]
 
   pub outside_fault : Context → Around → Item → Walk → Faults → Faults

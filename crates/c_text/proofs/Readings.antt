@@ -80,7 +80,8 @@ first_fault : (t : List ℕ) (refusal : Refusal) → scanning t ≡ Err refusal 
 first_fault t refusal e = subst (λ (o : Result Scanned Refusal). IsReading scanned_of t o) e (scan_reading t)
 
 -- the token at fault, by derivations of the grammar and by those of its file
-at_fault : (t : List ℕ) (tokens : List Token) (refusal : Refusal) → IsRefusedAt grammar.IsUnexpected 10 t tokens refusal ⊎ IsRefusedAt grammar.IsTooMany 11 t tokens refusal
+at_fault : (t : List ℕ) (tokens : List Token) (refusal : Refusal) → IsRefusedAt grammar.IsUnexpected 10 t tokens refusal ⊎ IsRefusedAt
+    grammar.IsTooMany 11 t tokens refusal
     → IsRefusedAt IsUnexpected 10 t tokens refusal ⊎ IsRefusedAt IsTooMany 11 t tokens refusal
 at_fault t tokens refusal (inl f) = inl (record { number = f.number; fault = source_laws.unexpected _ f.number f.fault; named = f.named })
 at_fault t tokens refusal (inr f) = inr (record { number = f.number; fault = source_laws.too_many _ f.number f.fault; named = f.named })
@@ -99,15 +100,18 @@ faulty_token t refusal scanned s e = record {
 abbrev pub written : List ℕ → List Piece → List Top → File
 written t pieces xs = file_written counts_of t (tokens_of pieces) (comments_of pieces) xs
 
-same_violation : (t : List ℕ) (pieces : List Piece) (xs : List Top) → violation_of (file_at counts_of t (tokens_of pieces) (comments_of pieces) xs) xs ≡ violation_of (written t pieces xs) xs
+same_violation : (t : List ℕ) (pieces : List Piece) (xs : List Top) → violation_of (file_at counts_of t (tokens_of pieces) (comments_of pieces) xs)
+    xs ≡ violation_of (written t pieces xs) xs
 same_violation t pieces xs = program_laws.violation counts_of t (tokens_of pieces) (comments_of pieces) xs
 
-pub same_program : (t : List ℕ) (pieces : List Piece) (xs : List Top) → DeriveFile (classes_of t (tokens_of pieces)) xs → (scope : List Identifier) → IsFileScope typed (written t pieces xs) xs scope
+pub same_program : (t : List ℕ) (pieces : List Piece) (xs : List Top) → DeriveFile (classes_of t (tokens_of pieces)) xs → (scope : List Identifier) →
+    IsFileScope typed (written t pieces xs) xs scope
     → program_of (file_at counts_of t (tokens_of pieces) (comments_of pieces) xs) xs ≡ program typed (written t pieces xs) scope xs
 same_program t pieces xs derives scope e = program_laws.written counts_of t (tokens_of pieces) (comments_of pieces) derives.symbols xs derives.derives scope e
 
 -- with the one typing in the place of another
-pub typed_scope : (t : List ℕ) (pieces : List Piece) (xs : List Top) (typing : Typing) → IsTyping typing → (scope : List Identifier) → IsFileScope typing (written t pieces xs) xs scope → IsFileScope typed (written t pieces xs) xs scope
+pub typed_scope : (t : List ℕ) (pieces : List Piece) (xs : List Top) (typing : Typing) → IsTyping typing → (scope : List Identifier) →
+    IsFileScope typing (written t pieces xs) xs scope → IsFileScope typed (written t pieces xs) xs scope
 typed_scope t pieces xs typing types scope e = subst (λ (z : Typing). IsFileScope z (written t pieces xs) xs scope) (sole_typing typing types) e
 
 violated : (t : List ℕ) (tokens : List Token) (p : Program) (v : Option Fault) (refusal : Refusal) → answer t tokens p v ≡ Err refusal
@@ -123,7 +127,20 @@ violation t refusal pieces x spells derives e =
     let v = violated t (tokens_of pieces) (program_of file xs) (violation_of file xs) refusal e in
     let d = source_laws.file t pieces spells x derives in
     let scope = program_laws.scope (written t pieces xs) d.symbols xs d.derives in
-    record { pieces = pieces; spells = spells; file = xs; derives = d; typing = typed; types = typed_typing; scope = scope.0; scopes = scope.1; violation = v.0; least = (file_laws.least (written t pieces xs) d.symbols xs d.derives scope.0 scope.1 v.0).0 (sym (same_violation t pieces xs) ∙ v.1); place = v.2 }
+    record {
+      pieces = pieces;
+      spells = spells;
+      file = xs;
+      derives = d;
+      typing = typed;
+      types = typed_typing;
+      scope = scope.0;
+      scopes = scope.1;
+      violation = v.0;
+      least = (file_laws.least (written t pieces xs) d.symbols xs d.derives scope.0 scope.1 v.0).0
+          (sym (same_violation t pieces xs) ∙ v.1);
+      place = v.2;
+    }
 
 -- ---- the whole
 
@@ -176,7 +193,18 @@ program_as t p e =
     let g = answered t (tokens_of a.pieces) (program_of file xs) p (violation_of file xs) a.resolves in
     let d = source_laws.file t a.pieces a.spells a.syntax_of a.derives in
     let scope = program_laws.scope (written t a.pieces xs) d.symbols xs d.derives in
-    record { pieces = a.pieces; spells = a.spells; file = xs; derives = d; typing = typed; types = typed_typing; scope = scope.0; scopes = scope.1; faultless = (file_laws.faultless (written t a.pieces xs) d.symbols xs d.derives scope.0 scope.1).0 (sym (same_violation t a.pieces xs) ∙ g.0); is = g.1 ∙ same_program t a.pieces xs d scope.0 scope.1 }
+    record {
+      pieces = a.pieces;
+      spells = a.spells;
+      file = xs;
+      derives = d;
+      typing = typed;
+      types = typed_typing;
+      scope = scope.0;
+      scopes = scope.1;
+      faultless = (file_laws.faultless (written t a.pieces xs) d.symbols xs d.derives scope.0 scope.1).0 (sym (same_violation t a.pieces xs) ∙ g.0);
+      is = g.1 ∙ same_program t a.pieces xs d scope.0 scope.1;
+    }
 
 -- ---- and back: with such a fault, and with no other, it is refused
 
@@ -186,8 +214,10 @@ scanned_back t pieces spells = ap (of_tokens counts_of t) (scan_read_back t piec
 
 faulty_back : (t : List ℕ) (tokens : List Token) (refusal : Refusal) → IsRefusedAt IsUnexpected 10 t tokens refusal ⊎ IsRefusedAt IsTooMany 11 t tokens refusal
     → parsed t tokens ≡ Err refusal
-faulty_back t tokens refusal (inl f) = ap (answer_of t tokens) (refuses (classes_of t tokens) f.number (source_laws.unexpected_back _ f.number f.fault)) ∙ ap Err (sym f.named)
-faulty_back t tokens refusal (inr f) = ap (answer_of t tokens) (limits (classes_of t tokens) f.number (source_laws.too_many_back _ f.number f.fault)) ∙ ap Err (sym f.named)
+faulty_back t tokens refusal (inl f) = ap (answer_of t tokens)
+    (refuses (classes_of t tokens) f.number (source_laws.unexpected_back _ f.number f.fault)) ∙ ap Err (sym f.named)
+faulty_back t tokens refusal (inr f) = ap (answer_of t tokens)
+    (limits (classes_of t tokens) f.number (source_laws.too_many_back _ f.number f.fault)) ∙ ap Err (sym f.named)
 
 -- what a file is answered
 abbrev answered_of : List ℕ → List Piece → List Top → Result Program Refusal
@@ -196,10 +226,12 @@ answered_of t pieces xs =
     answer t (tokens_of pieces) (program_of file xs) (violation_of file xs)
 
 -- a text whose tokens derive this file is answered so
-pub derived_back : (t : List ℕ) (pieces : List Piece) (xs : List Top) → Spells pieces t → DeriveFile (classes_of t (tokens_of pieces)) xs → reading t ≡ answered_of t pieces xs
+pub derived_back : (t : List ℕ) (pieces : List Piece) (xs : List Top) → Spells pieces t → DeriveFile (classes_of t (tokens_of pieces)) xs →
+    reading t ≡ answered_of t pieces xs
 derived_back t pieces xs spells derives =
     let x = source_laws.syntax_of t pieces spells xs derives in
-    scanned_back t pieces spells ∙ ap (of_syntax counts_of t (scanned_of pieces)) (parses t (tokens_of pieces) x.syntax_of x.derives) ∙ ap (answered_of t pieces) x.writes
+    scanned_back t pieces spells ∙ ap (of_syntax counts_of t (scanned_of pieces)) (parses t (tokens_of pieces) x.syntax_of x.derives) ∙
+    ap (answered_of t pieces) x.writes
 
 pub refused_back : (t : List ℕ) (refusal : Refusal) → IsRefusedFor t refusal → reading t ≡ Err refusal
 refused_back t refusal (inl first) = ap (of_tokens counts_of t) (scan_fault_back t refusal first)
@@ -211,7 +243,10 @@ refused_back t refusal (inr (inr rule)) =
     let file = file_at counts_of t tokens (comments_of rule.pieces) xs in
     let scopes = typed_scope t rule.pieces xs rule.typing rule.types rule.scope rule.scopes in
     derived_back t rule.pieces xs rule.spells rule.derives
-    ∙ ap (answer t tokens (program_of file xs)) (same_violation t rule.pieces xs ∙ (file_laws.least (written t rule.pieces xs) rule.derives.symbols xs rule.derives.derives rule.scope scopes rule.violation).1 (subst (λ (typing : Typing). IsLeast (IsViolation typing (written t rule.pieces xs) rule.scope xs) rule.violation) (sole_typing rule.typing rule.types) rule.least))
+    ∙ ap (answer t tokens (program_of file xs))
+    (same_violation t rule.pieces xs ∙ (file_laws.least (written t rule.pieces xs) rule.derives.symbols xs rule.derives.derives rule.scope scopes
+    rule.violation).1 (subst (λ (typing : Typing). IsLeast (IsViolation typing (written t rule.pieces xs) rule.scope xs) rule.violation)
+    (sole_typing rule.typing rule.types) rule.least))
     ∙ ap Err (sym rule.place)
 
 -- and the program of a text is what it reads as
@@ -222,8 +257,11 @@ program_back t p h =
     let file = file_at counts_of t tokens (comments_of h.pieces) xs in
     let scopes = typed_scope t h.pieces xs h.typing h.types h.scope h.scopes in
     derived_back t h.pieces xs h.spells h.derives
-    ∙ ap (answer t tokens (program_of file xs)) (same_violation t h.pieces xs ∙ (file_laws.faultless (written t h.pieces xs) h.derives.symbols xs h.derives.derives h.scope scopes).1 (subst (λ (typing : Typing). IsFaultless (IsViolation typing (written t h.pieces xs) h.scope xs)) (sole_typing h.typing h.types) h.faultless))
-    ∙ ap Ok (same_program t h.pieces xs h.derives h.scope scopes ∙ ap (λ (typing : Typing). program typing (written t h.pieces xs) h.scope xs) (sym (sole_typing h.typing h.types)) ∙ sym h.is)
+    ∙ ap (answer t tokens (program_of file xs))
+    (same_violation t h.pieces xs ∙ (file_laws.faultless (written t h.pieces xs) h.derives.symbols xs h.derives.derives h.scope scopes).1
+    (subst (λ (typing : Typing). IsFaultless (IsViolation typing (written t h.pieces xs) h.scope xs)) (sole_typing h.typing h.types) h.faultless))
+    ∙ ap Ok (same_program t h.pieces xs h.derives h.scope scopes ∙ ap (λ (typing : Typing). program typing (written t h.pieces xs) h.scope xs)
+    (sym (sole_typing h.typing h.types)) ∙ sym h.is)
 
 not_both : {A : Type 0} (o : Result A Refusal) (x : A) (r : Refusal) → o ≡ Ok x → o ≡ Err r → ⊥
 not_both o x r e g = cc
@@ -238,7 +276,8 @@ faultless t refusal h inside = unread t refusal (refused_back t refusal h) insid
 
 -- ---- what is returned
 
-pub refused_at : (t : List ℕ) (r : Result Program ReadStop) → Gives (λ (p : Program). p) r (reading t) → (refusal : Refusal) → r ≡ Err (stops.Refused refusal) → IsRefusedFor t refusal
+pub refused_at : (t : List ℕ) (r : Result Program ReadStop) → Gives (λ (p : Program). p) r (reading t) → (refusal : Refusal) →
+    r ≡ Err (stops.Refused refusal) → IsRefusedFor t refusal
 refused_at t (Ok p) g refusal e = cc
 refused_at t (Err (stops.Refused q)) g refusal e = let same : q ≡ refusal = cc in refused_for t refusal (g ∙ ap Err same)
 refused_at t (Err stops.Memory) g refusal e = cc
@@ -256,6 +295,7 @@ same_read : (o : Result Program Refusal) (p q : Program) → o ≡ Ok p → o �
 same_read o p q e g = cc
 
 -- a text has one program
-pub program_back_of : (t : List ℕ) (r : Result Program ReadStop) → Gives (λ (p : Program). p) r (reading t) → (p : Program) → IsProgramOf t p → IfOk r (λ q. q ≡ p)
+pub program_back_of : (t : List ℕ) (r : Result Program ReadStop) → Gives (λ (p : Program). p) r (reading t) → (p : Program) → IsProgramOf t p →
+    IfOk r (λ q. q ≡ p)
 program_back_of t (Ok q) g p h = same_read (reading t) q p g (program_back t p h)
 program_back_of t (Err stop) g p h = tt

@@ -39,7 +39,8 @@ resolved t p bytes few e =
     (limit_laws.read a.pieces t a.spells bytes few_tokens a.syntax_of a.derives) a.resolves
 
 -- of what is returned
-pub resolved_of : (t : List ℕ) (r : Result Program ReadStop) → AreBytes t → Gives (λ (p : Program). p) r (reading t) → IfOk r (λ _. IfOk (scanning t) (λ s. length s.tokens ≤ 4294967295))
+pub resolved_of : (t : List ℕ) (r : Result Program ReadStop) → AreBytes t → Gives (λ (p : Program). p) r (reading t) →
+    IfOk r (λ _. IfOk (scanning t) (λ s. length s.tokens ≤ 4294967295))
     → IfOk r IsResolved
 resolved_of t (Ok p) bytes g few = resolved t p bytes few g
 resolved_of t (Err stop) bytes g few = tt

@@ -17,13 +17,15 @@ use Rattle.c_tree.proofs.TreeLaws.{section-parts}
 
 -- a list, at one of its items
 
-pub trees-split : (xs : List Item) (i : ℕ) (x : Item) → slice_get xs i ≡ Some x → trees_of xs ≡ join (trees_of (take i xs)) (join (one (tree_of x)) (trees_of (drop (suc i) xs)))
+pub trees-split : (xs : List Item) (i : ℕ) (x : Item) → slice_get xs i ≡ Some x →
+    trees_of xs ≡ join (trees_of (take i xs)) (join (one (tree_of x)) (trees_of (drop (suc i) xs)))
 unfolding trees_of
 trees-split [] i x e = cc
 trees-split (y ∷ ys) zero x e = let h : y ≡ x = cc in ap (λ z. Then (tree_of z) (trees_of ys)) h
 trees-split (y ∷ ys) (suc i) x e = ap (Then (tree_of y)) (trees-split ys i x e)
 
-pub trees-set : (xs : List Item) (i : ℕ) (x y : Item) → slice_get xs i ≡ Some x → trees_of (slice_set xs i y) ≡ join (trees_of (take i xs)) (join (one (tree_of y)) (trees_of (drop (suc i) xs)))
+pub trees-set : (xs : List Item) (i : ℕ) (x y : Item) → slice_get xs i ≡ Some x →
+    trees_of (slice_set xs i y) ≡ join (trees_of (take i xs)) (join (one (tree_of y)) (trees_of (drop (suc i) xs)))
 unfolding trees_of
 trees-set [] i x y e = cc
 trees-set (z ∷ zs) zero x y e = refl
@@ -55,11 +57,13 @@ pub section-with : (w : List Item) (c : Real.Section) →
 section-with w c =
     let o = Real.out-Section c in
     section-parts (with_list w c)
-    ∙ ap (λ (z : Real.Section-F Item Real.Section). parts_tree z) (Real.out-roll-Section (record { cases = o.cases; default = o.default; list = w; ends = o.ends }))
+    ∙ ap (λ (z : Real.Section-F Item Real.Section). parts_tree z)
+    (Real.out-roll-Section (record { cases = o.cases; default = o.default; list = w; ends = o.ends }))
     ∙ ap (λ (z : SectionTree). relisted z (trees_of w)) (sym (section-parts c))
 
 module _ (R : Forest → Forest → Type 0) where
-  sections_changed : (cs : List Real.Section) (k : ℕ) (c : Real.Section) (w : List Item) → slice_get cs k ≡ Some c → Changed R (trees_of (list_of c)) (trees_of w)
+  sections_changed : (cs : List Real.Section) (k : ℕ) (c : Real.Section) (w : List Item) → slice_get cs k ≡ Some c →
+      Changed R (trees_of (list_of c)) (trees_of w)
       → ChangedSections R (sections_of cs) (sections_of (slice_set cs k (with_list w c)))
   unfolding sections_of
   sections_changed [] k c w e h = cc
@@ -78,10 +82,13 @@ module _ (R : Forest → Forest → Type 0) where
   layer_changed B.Body (Open.While t x) a w e h = let f : x ≡ a = cc in C.in_while (test_tree t) (subst (λ z. Changed R (trees_of z) (trees_of w)) (sym f) h)
   layer_changed B.Body (Open.Do x t) a w e h = let f : x ≡ a = cc in C.in_do (test_tree t) (subst (λ z. Changed R (trees_of z) (trees_of w)) (sym f) h)
   layer_changed B.Body (Open.For g t u x) a w e h =
-      let f : x ≡ a = cc in C.in_for (trees_of g) (option_map expression_tree t) (option_map expression_tree u) (subst (λ z. Changed R (trees_of z) (trees_of w)) (sym f) h)
+      let f : x ≡ a = cc in C.in_for (trees_of g) (option_map expression_tree t) (option_map expression_tree u)
+      (subst (λ z. Changed R (trees_of z) (trees_of w)) (sym f) h)
   layer_changed B.Body (Open.Block x) a w e h = let f : x ≡ a = cc in C.in_block (subst (λ z. Changed R (trees_of z) (trees_of w)) (sym f) h)
-  layer_changed B.Then (Open.If t x z) a w e h = let f : x ≡ a = cc in C.in_then (test_tree t) (trees_of z) (subst (λ v. Changed R (trees_of v) (trees_of w)) (sym f) h)
-  layer_changed B.Else (Open.If t x z) a w e h = let f : z ≡ a = cc in C.in_else (test_tree t) (trees_of x) (subst (λ v. Changed R (trees_of v) (trees_of w)) (sym f) h)
+  layer_changed B.Then (Open.If t x z) a w e h = let f : x ≡ a = cc in
+      C.in_then (test_tree t) (trees_of z) (subst (λ v. Changed R (trees_of v) (trees_of w)) (sym f) h)
+  layer_changed B.Else (Open.If t x z) a w e h = let f : z ≡ a = cc in
+      C.in_else (test_tree t) (trees_of x) (subst (λ v. Changed R (trees_of v) (trees_of w)) (sym f) h)
   layer_changed (B.Section k) (Open.Switch s cs) a w e h =
       let p = map_some list_of (slice_get cs k) a e in
       C.in_switch (selector_tree s)
@@ -89,13 +96,15 @@ module _ (R : Forest → Forest → Type 0) where
       (sections_changed cs k p.0 w p.1 (subst (λ z. Changed R (trees_of z) (trees_of w)) (sym p.2) h)))
   layer_changed _ _ a w e h = cc
 
-  item_changed : (b : Branch) (x : Item) (a w : List Item) → child b x ≡ Some a → Changed R (trees_of a) (trees_of w) → Changed R (one (tree_of x)) (one (tree_of (with_child b w x)))
+  item_changed : (b : Branch) (x : Item) (a w : List Item) → child b x ≡ Some a → Changed R (trees_of a) (trees_of w) →
+      Changed R (one (tree_of x)) (one (tree_of (with_child b w x)))
   item_changed b x a w e h =
       subst (λ t. Changed R (one t) (one (tree_of (with_child b w x)))) (sym (tree-out x))
       (subst (λ t. Changed R (one (layer_tree (out-Item x))) (one t)) (sym (tree-roll (with_child_F b w (out-Item x)))) (layer_changed b (out-Item x) a w e h))
 
   -- a body with w in place of the list a at the steps, where w is a changed in one place
-  pub changed_at : (xs : List Item) (ss : List Step) (a w : List Item) → list_at xs ss ≡ Some a → Changed R (trees_of a) (trees_of w) → Changed R (trees_of xs) (trees_of (put_at xs ss w))
+  pub changed_at : (xs : List Item) (ss : List Step) (a w : List Item) → list_at xs ss ≡ Some a → Changed R (trees_of a) (trees_of w) →
+      Changed R (trees_of xs) (trees_of (put_at xs ss w))
   changed_at xs [] a w e r = let f : xs ≡ a = cc in subst (λ z. Changed R (trees_of z) (trees_of w)) (sym f) r
   changed_at xs (s ∷ ss) a w e r =
       let t = stepped xs s ss a e in
@@ -103,5 +112,6 @@ module _ (R : Forest → Forest → Type 0) where
       let h = item_changed s.branch t.item t.inner (put_at t.inner ss w) t.inner_is (changed_at t.inner ss a w t.rest r) in
       subst (λ z. Changed R (trees_of xs) (trees_of z)) (sym (put_step xs s ss w t.item t.inner t.item_is t.inner_is))
       (subst (λ z. Changed R (trees_of xs) z) (sym (trees-set xs s.item t.item made t.item_is))
-      (subst (λ z. Changed R z (join (trees_of (take s.item xs)) (join (one (tree_of made)) (trees_of (drop (suc s.item) xs))))) (sym (trees-split xs s.item t.item t.item_is))
+      (subst (λ z. Changed R z (join (trees_of (take s.item xs)) (join (one (tree_of made)) (trees_of (drop (suc s.item) xs)))))
+      (sym (trees-split xs s.item t.item t.item_is))
       (C.within (trees_of (take s.item xs)) (trees_of (drop (suc s.item) xs)) h)))

@@ -21,9 +21,11 @@ get_set-other (z ∷ zs) (suc i) (suc j) x n = get_set-other zs i j x (λ e. n (
 
 -- the other lists of an item
 
-section_other : (k j : ℕ) (cs : List Section) (w : List Item) → k ≢ j → option_map list_of (slice_get (with_section_list k w cs) j) ≡ option_map list_of (slice_get cs j)
+section_other : (k j : ℕ) (cs : List Section) (w : List Item) → k ≢ j →
+    option_map list_of (slice_get (with_section_list k w cs) j) ≡ option_map list_of (slice_get cs j)
 section_other k j cs w n = put (slice_get cs k) refl where
-  put : (o : Option Section) → slice_get cs k ≡ o → option_map list_of (slice_get (option_map_or (λ c. slice_set cs k (with_list w c)) o cs) j) ≡ option_map list_of (slice_get cs j)
+  put : (o : Option Section) → slice_get cs k ≡ o → option_map list_of
+      (slice_get (option_map_or (λ c. slice_set cs k (with_list w c)) o cs) j) ≡ option_map list_of (slice_get cs j)
   put None e = refl
   put (Some c) e = ap (option_map list_of) (get_set-other cs k j (with_list w c) n)
 
@@ -64,7 +66,8 @@ put-append xs (s ∷ ss) ts a w e =
 pub put_within : (xs : List Item) (ss ts : List Step) (w a : List Item) → list_at xs ss ≡ Some a → list_at (put_at xs ss w) (ss ++ ts) ≡ list_at w ts
 put_within xs ss ts w a e = list-append (put_at xs ss w) ss ts w (list_put xs ss w a e)
 
-pub put_above : (xs : List Item) (ss front rest : List Step) (w a : List Item) → ss ≡ front ++ rest → list_at xs front ≡ Some a → list_at (put_at xs ss w) front ≡ Some (put_at a rest w)
+pub put_above : (xs : List Item) (ss front rest : List Step) (w a : List Item) → ss ≡ front ++ rest → list_at xs front ≡ Some a →
+    list_at (put_at xs ss w) front ≡ Some (put_at a rest w)
 put_above xs ss front rest w a e h =
     ap (λ t. list_at (put_at xs t w) front) e
     ∙ ap (λ l. list_at l front) (put-append xs front rest a w h)
@@ -80,7 +83,8 @@ put_beside xs _ _ w a (at_branch s t ss ts m n) e =
     let p = stepped xs s ss a e in
     let made = with_child s.branch (put_at p.inner ss w) p.item in
     let old : slice_get xs t.item ≡ Some p.item = subst (λ i. slice_get xs i ≡ Some p.item) m p.item_is in
-    let new : slice_get (slice_set xs s.item made) t.item ≡ Some made = subst (λ i. slice_get (slice_set xs s.item made) i ≡ Some made) m (get_set xs s.item p.item made p.item_is) in
+    let new : slice_get (slice_set xs s.item made) t.item ≡ Some made =
+    subst (λ i. slice_get (slice_set xs s.item made) i ≡ Some made) m (get_set xs s.item p.item made p.item_is) in
     ap (λ l. list_at l (t ∷ ts)) (put_step xs s ss w p.item p.inner p.item_is p.inner_is)
     ∙ ap (option_and_then (λ x. option_and_then (λ a. list_at a ts) (child t.branch x))) new
     ∙ ap (option_and_then (λ a. list_at a ts)) (child-with-other s.branch t.branch p.item (put_at p.inner ss w) n)
@@ -89,12 +93,14 @@ put_beside xs _ _ w a (further s ss ts d) e =
     let p = stepped xs s ss a e in
     let made = with_child s.branch (put_at p.inner ss w) p.item in
     ap (λ l. list_at l (s ∷ ts)) (put_step xs s ss w p.item p.inner p.item_is p.inner_is)
-    ∙ list_step (slice_set xs s.item made) s ts made (put_at p.inner ss w) (get_set xs s.item p.item made p.item_is) (child_with s.branch p.item (put_at p.inner ss w) p.inner p.inner_is)
+    ∙ list_step (slice_set xs s.item made) s ts made (put_at p.inner ss w) (get_set xs s.item p.item made p.item_is)
+    (child_with s.branch p.item (put_at p.inner ss w) p.inner p.inner_is)
     ∙ put_beside p.inner ss ts w a d p.rest
     ∙ sym (list_step xs s ts p.item p.inner p.item_is p.inner_is)
 
 -- all of it
-pub exchanged : (old : List Item) (steps : List Step) (w a new : List Item) → list_at old steps ≡ Some a → new ≡ put_at old steps w → IsExchanged old steps w new
+pub exchanged : (old : List Item) (steps : List Step) (w a new : List Item) → list_at old steps ≡ Some a → new ≡ put_at old steps w →
+    IsExchanged old steps w new
 exchanged old steps w a new e h = record {
   within = λ more. ap (λ l. list_at l (steps ++ more)) h ∙ put_within old steps more w a e;
   beside = λ others d. ap (λ l. list_at l others) h ∙ put_beside old steps others w a d e;

@@ -122,11 +122,15 @@ record KeepsExitsIn (c d : Sections) : Type 0 where
   continues : continues_in d ≡ 0
   inside : EverywhereIn BindsNoExit d
 
-entering : (l : ℕ) (t : Forest) (x y : Tree) → breaks_of y ≡ breaks_of x → continues_of y ≡ continues_of x → (EverywhereOf BindsNoExit x → EverywhereOf BindsNoExit y)
-    → breaks (Then (Leap l) (join t (one x))) + continues (Then (Leap l) (join t (one x))) ≡ 0 → Bound (Then (Leap l) (join t (one x))) → KeepsExits (Then (Leap l) (join t (one x))) (join (guarded l t) (one y))
+entering : (l : ℕ) (t : Forest) (x y : Tree) → breaks_of y ≡ breaks_of x → continues_of y ≡ continues_of x →
+    (EverywhereOf BindsNoExit x → EverywhereOf BindsNoExit y)
+    → breaks (Then (Leap l) (join t (one x))) + continues (Then (Leap l) (join t (one x))) ≡ 0 → Bound (Then (Leap l) (join t (one x))) →
+    KeepsExits (Then (Leap l) (join t (one x))) (join (guarded l t) (one y))
 entering l t x y e f go o h = record {
   out =
-      let a = breaks-join t (one x) in let b = continues-join t (one x) in let c = breaks-join (guarded l t) (one y) in let d = continues-join (guarded l t) (one y) in
+      let a = breaks-join t (one x) in let b = continues-join t (one x) in let c = breaks-join (guarded l t) (one y) in let d =
+      continues-join
+      (guarded l t) (one y) in
       let p = breaks-guarded l t in let q = continues-guarded l t in omega arith;
   inside = both (guarded l t) (one y) (guarded_bound l t (front t (one x) h.1)) (go (back t (one x) h.1).0, tt);
 }
@@ -139,7 +143,13 @@ moved_exits (M.join_before l t) o h = record {
 }
 moved_exits (M.lifted l x t w) o h = record {
   out = refl;
-  inside = (((λ z. let p = breaks-join t (one (Leap l)) in let q = continues-join t (one (Leap l)) in omega arith), (tt, (h.0, front t (one (Leap l)) h.1))), tt);
+  inside = (
+    (
+      (λ z. let p = breaks-join t (one (Leap l)) in let q = continues-join t (one (Leap l)) in omega arith),
+      (tt, (h.0, front t (one (Leap l)) h.1)),
+    ),
+    tt,
+  );
 }
 moved_exits (M.out_then l t a b c) o h = record {
   out = let p = breaks-left l a b in let q = continues-left l a b in omega arith;
@@ -151,20 +161,35 @@ moved_exits (M.out_else l t a b c) o h = record {
 }
 moved_exits (M.out_while l t a b) o h = record {
   out = refl;
-  inside = (((λ z. let p = breaks-left l a b in let q = continues-left l a b in let r = h.0.0 (left_jumps l a b) in omega arith), left_bound l a b h.0.1), (tt, tt));
+  inside = (
+    (
+      (λ z. let p = breaks-left l a b in let q = continues-left l a b in let r = h.0.0 (left_jumps l a b) in omega arith),
+      left_bound l a b h.0.1,
+    ),
+    (tt, tt),
+  );
 }
 moved_exits (M.out_do l t a b) o h = record {
   out = refl;
-  inside = (((λ z. let p = breaks-left l a b in let q = continues-left l a b in let r = h.0.0 (left_jumps l a b) in omega arith), left_bound l a b h.0.1), (tt, tt));
+  inside = (
+    (
+      (λ z. let p = breaks-left l a b in let q = continues-left l a b in let r = h.0.0 (left_jumps l a b) in omega arith),
+      left_bound l a b h.0.1,
+    ),
+    (tt, tt),
+  );
 }
 moved_exits (M.out_switch l s r) o h = record {
   out = let p = continues-sections_left l r in omega arith;
   inside = (((λ z. let p = breaks-sections_left l r in let q = h.0.0 (sections_left_jumps l r) in omega arith), sections_left_bound l r h.0.1), (tt, tt));
 }
-moved_exits (M.in_then l t u a b w) o h = entering l t (If u a b) (If (OrOn l u) (Then (Leap l) a) b) (omega arith) (omega arith) (λ e. (tt, (tt, e.1), e.2)) o h
-moved_exits (M.in_else l t u a b w) o h = entering l t (If u a b) (If (AndOff l u) a (Then (Leap l) b)) (omega arith) (omega arith) (λ e. (tt, e.1, (tt, e.2))) o h
+moved_exits (M.in_then l t u a b w) o h = entering l t (If u a b) (If (OrOn l u) (Then (Leap l) a) b) (omega arith) (omega arith)
+    (λ e. (tt, (tt, e.1), e.2)) o h
+moved_exits (M.in_else l t u a b w) o h = entering l t (If u a b) (If (AndOff l u) a (Then (Leap l) b)) (omega arith) (omega arith)
+    (λ e. (tt, e.1, (tt, e.2))) o h
 moved_exits (M.in_while l t u a w) o h =
-    entering l t (While u a) (While (OrOn l u) (Then (Leap l) a)) refl refl (λ e. ((λ z. let r = e.0 (let q = lands-jumps l a in omega arith) in omega arith), (tt, e.1))) o h
+    entering l t (While u a) (While (OrOn l u) (Then (Leap l) a)) refl refl
+    (λ e. ((λ z. let r = e.0 (let q = lands-jumps l a in omega arith) in omega arith), (tt, e.1))) o h
 moved_exits (M.in_do l t u a w) o h =
     entering l t (Do a u) (Do (Then (Leap l) a) u) refl refl (λ e. ((λ z. let r = e.0 (let q = lands-jumps l a in omega arith) in omega arith), (tt, e.1))) o h
 moved_exits (M.in_switch l t s k n {c = c} {d = d} r p) o h =
@@ -179,11 +204,15 @@ mutual
       let p = breaks-join a (join xs b) in let q = breaks-join xs b in let v = continues-join a (join xs b) in let w = continues-join xs b in
       let k = changed_exits c (omega arith) (front xs b e) in
       record {
-        out = let i = k.out in let p' = breaks-join a (join ys b) in let q' = breaks-join ys b in let v' = continues-join a (join ys b) in let w' = continues-join ys b in omega arith;
+        out = let i = k.out in let p' = breaks-join a (join ys b) in let q' = breaks-join ys b in let v' = continues-join a (join ys b) in let w' =
+            continues-join
+            ys b in omega arith;
         inside = both a (join ys b) (front a (join xs b) h) (both ys b k.inside (back xs b e));
       }
-  changed_exits (in_then t b c) o h = let k = changed_exits c (omega arith) h.0.1 in record { out = let i = k.out in omega arith; inside = ((tt, k.inside, h.0.2), tt) }
-  changed_exits (in_else t a c) o h = let k = changed_exits c (omega arith) h.0.2 in record { out = let i = k.out in omega arith; inside = ((tt, h.0.1, k.inside), tt) }
+  changed_exits (in_then t b c) o h = let k = changed_exits c (omega arith) h.0.1 in
+      record { out = let i = k.out in omega arith; inside = ((tt, k.inside, h.0.2), tt) }
+  changed_exits (in_else t a c) o h = let k = changed_exits c (omega arith) h.0.2 in
+      record { out = let i = k.out in omega arith; inside = ((tt, h.0.1, k.inside), tt) }
   changed_exits (in_while t c) o h = let k = changed_exits c (h.0.0 (changed_jumps c)) h.0.1 in record { out = refl; inside = (((λ z. k.out), k.inside), tt) }
   changed_exits (in_do t c) o h = let k = changed_exits c (h.0.0 (changed_jumps c)) h.0.1 in record { out = refl; inside = (((λ z. k.out), k.inside), tt) }
   changed_exits (in_for f t u c) o h =

@@ -23,7 +23,8 @@ use Rattle.c_tree.specs.TestTrees.{TestTree, SelectorTree, test_layer, selector_
 
 pub expression-parts : (e : Expression) → let o = out-Expression e in expression_tree e ≡ Typed o.kind (node_tree o.node)
 unfolding expression_tree node_tree
-expression-parts e = ap (fold-Expression NodeTree PlaceTree ExpressionTree node_layer place_layer expression_layer) (sym (roll-out-Expression e)) ∙ fold-roll-Expression NodeTree PlaceTree ExpressionTree node_layer place_layer expression_layer (out-Expression e)
+expression-parts e = ap (fold-Expression NodeTree PlaceTree ExpressionTree node_layer place_layer expression_layer) (sym (roll-out-Expression e)) ∙
+    fold-roll-Expression NodeTree PlaceTree ExpressionTree node_layer place_layer expression_layer (out-Expression e)
 
 pub place-Var : (h : Home) → place_tree (Var h) ≡ Plain.Var h
 unfolding place_tree
@@ -31,7 +32,8 @@ place-Var h = ap place_tree (sym (rolls-Var h)) ∙ fold-roll-Place NodeTree Pla
 
 pub place-Cell : (h : Home) (a : Expression) → place_tree (Cell h a) ≡ Plain.Cell h (expression_tree a)
 unfolding place_tree expression_tree
-place-Cell h a = ap place_tree (sym (rolls-Cell h a)) ∙ fold-roll-Place NodeTree PlaceTree ExpressionTree node_layer place_layer expression_layer (Open.Cell h a)
+place-Cell h a = ap place_tree (sym (rolls-Cell h a)) ∙ fold-roll-Place NodeTree PlaceTree ExpressionTree node_layer place_layer expression_layer
+    (Open.Cell h a)
 
 pub node-Number : (n : ℤ) → node_tree (Number n) ≡ Plain.Number n
 unfolding node_tree
@@ -39,11 +41,13 @@ node-Number n = ap node_tree (sym (rolls-Number n)) ∙ fold-roll-Node NodeTree 
 
 pub node-Character : (b : ℕ) → node_tree (Character b) ≡ Plain.Character b
 unfolding node_tree
-node-Character b = ap node_tree (sym (rolls-Character b)) ∙ fold-roll-Node NodeTree PlaceTree ExpressionTree node_layer place_layer expression_layer (Open.Character b)
+node-Character b = ap node_tree (sym (rolls-Character b)) ∙ fold-roll-Node NodeTree PlaceTree ExpressionTree node_layer place_layer expression_layer
+    (Open.Character b)
 
 pub node-EnumName : (m : List ℕ) (n : ℤ) → node_tree (EnumName m n) ≡ Plain.EnumName m n
 unfolding node_tree
-node-EnumName m n = ap node_tree (sym (rolls-EnumName m n)) ∙ fold-roll-Node NodeTree PlaceTree ExpressionTree node_layer place_layer expression_layer (Open.EnumName m n)
+node-EnumName m n = ap node_tree (sym (rolls-EnumName m n)) ∙ fold-roll-Node NodeTree PlaceTree ExpressionTree node_layer place_layer expression_layer
+    (Open.EnumName m n)
 
 pub node-Text : (bs : List ℕ) → node_tree (Text bs) ≡ Plain.Text bs
 unfolding node_tree
@@ -59,7 +63,8 @@ node-Read p = ap node_tree (sym (rolls-Read p)) ∙ fold-roll-Node NodeTree Plac
 
 pub node-Unary : (op : UnaryOp) (a : Expression) → node_tree (Unary op a) ≡ Plain.Unary op (expression_tree a)
 unfolding node_tree expression_tree
-node-Unary op a = ap node_tree (sym (rolls-Unary op a)) ∙ fold-roll-Node NodeTree PlaceTree ExpressionTree node_layer place_layer expression_layer (Open.Unary op a)
+node-Unary op a = ap node_tree (sym (rolls-Unary op a)) ∙ fold-roll-Node NodeTree PlaceTree ExpressionTree node_layer place_layer expression_layer
+    (Open.Unary op a)
 
 pub node-Cast : (a : Expression) → node_tree (Cast a) ≡ Plain.Cast (expression_tree a)
 unfolding node_tree expression_tree
@@ -67,31 +72,39 @@ node-Cast a = ap node_tree (sym (rolls-Cast a)) ∙ fold-roll-Node NodeTree Plac
 
 pub node-Binary : (op : BinaryOp) (a : Expression) (b : Expression) → node_tree (Binary op a b) ≡ Plain.Binary op (expression_tree a) (expression_tree b)
 unfolding node_tree expression_tree
-node-Binary op a b = ap node_tree (sym (rolls-Binary op a b)) ∙ fold-roll-Node NodeTree PlaceTree ExpressionTree node_layer place_layer expression_layer (Open.Binary op a b)
+node-Binary op a b = ap node_tree (sym (rolls-Binary op a b)) ∙ fold-roll-Node NodeTree PlaceTree ExpressionTree node_layer place_layer
+    expression_layer (Open.Binary op a b)
 
-pub node-Conditional : (a : Expression) (b : Expression) (c : Expression) → node_tree (Conditional a b c) ≡ Plain.Conditional (expression_tree a) (expression_tree b) (expression_tree c)
+pub node-Conditional : (a : Expression) (b : Expression) (c : Expression) →
+    node_tree (Conditional a b c) ≡ Plain.Conditional (expression_tree a) (expression_tree b) (expression_tree c)
 unfolding node_tree expression_tree
-node-Conditional a b c = ap node_tree (sym (rolls-Conditional a b c)) ∙ fold-roll-Node NodeTree PlaceTree ExpressionTree node_layer place_layer expression_layer (Open.Conditional a b c)
+node-Conditional a b c = ap node_tree (sym (rolls-Conditional a b c)) ∙
+    fold-roll-Node NodeTree PlaceTree ExpressionTree node_layer place_layer expression_layer (Open.Conditional a b c)
 
 pub node-Assign : (p : Place) (a : Expression) → node_tree (Assign p a) ≡ Plain.Assign (place_tree p) (expression_tree a)
 unfolding node_tree place_tree expression_tree
-node-Assign p a = ap node_tree (sym (rolls-Assign p a)) ∙ fold-roll-Node NodeTree PlaceTree ExpressionTree node_layer place_layer expression_layer (Open.Assign p a)
+node-Assign p a = ap node_tree (sym (rolls-Assign p a)) ∙ fold-roll-Node NodeTree PlaceTree ExpressionTree node_layer place_layer expression_layer
+    (Open.Assign p a)
 
 pub node-Update : (op : ArithOp) (p : Place) (a : Expression) → node_tree (Update op p a) ≡ Plain.Update op (place_tree p) (expression_tree a)
 unfolding node_tree place_tree expression_tree
-node-Update op p a = ap node_tree (sym (rolls-Update op p a)) ∙ fold-roll-Node NodeTree PlaceTree ExpressionTree node_layer place_layer expression_layer (Open.Update op p a)
+node-Update op p a = ap node_tree (sym (rolls-Update op p a)) ∙ fold-roll-Node NodeTree PlaceTree ExpressionTree node_layer place_layer
+    expression_layer (Open.Update op p a)
 
 pub node-Count : (p : Place) (up : Bool) (after : Bool) → node_tree (Count p up after) ≡ Plain.Count (place_tree p) up after
 unfolding node_tree place_tree
-node-Count p up after = ap node_tree (sym (rolls-Count p up after)) ∙ fold-roll-Node NodeTree PlaceTree ExpressionTree node_layer place_layer expression_layer (Open.Count p up after)
+node-Count p up after = ap node_tree (sym (rolls-Count p up after)) ∙ fold-roll-Node NodeTree PlaceTree ExpressionTree node_layer place_layer
+    expression_layer (Open.Count p up after)
 
 pub node-Comma : (a : Expression) (b : Expression) → node_tree (Comma a b) ≡ Plain.Comma (expression_tree a) (expression_tree b)
 unfolding node_tree expression_tree
-node-Comma a b = ap node_tree (sym (rolls-Comma a b)) ∙ fold-roll-Node NodeTree PlaceTree ExpressionTree node_layer place_layer expression_layer (Open.Comma a b)
+node-Comma a b = ap node_tree (sym (rolls-Comma a b)) ∙ fold-roll-Node NodeTree PlaceTree ExpressionTree node_layer place_layer expression_layer
+    (Open.Comma a b)
 
 pub node-Call : (f : List ℕ) (xs : List Expression) → node_tree (Call f xs) ≡ Plain.Call f (arguments (map expression_tree xs))
 unfolding node_tree expression_tree
-node-Call f xs = ap node_tree (sym (rolls-Call f xs)) ∙ fold-roll-Node NodeTree PlaceTree ExpressionTree node_layer place_layer expression_layer (Open.Call f xs)
+node-Call f xs = ap node_tree (sym (rolls-Call f xs)) ∙ fold-roll-Node NodeTree PlaceTree ExpressionTree node_layer place_layer expression_layer
+    (Open.Call f xs)
 
 -- tests
 

@@ -49,8 +49,14 @@ pub record SameEntries (c d : Sections) : Type 0 where
 pub same_entries : (c : Sections) → SameEntries c c
 same_entries c = record { cases = refl; default = refl; entered = λ h. h }
 
-same_next : (cases : List ExpressionTree) (default ends : Bool) (a b : Forest) (c d : Sections) → SameEntries c d → SameEntries (Section cases default a ends c) (Section cases default b ends d)
-same_next cases default ends a b c d h = record { cases = ap (λ l. cases ++ l) h.cases; default = ap (λ n. cond default 1 0 + n) h.default; entered = λ e. (e.0, h.entered e.1) }
+same_next : (cases : List ExpressionTree) (default ends : Bool) (a b : Forest) (c d : Sections) → SameEntries c d →
+    SameEntries (Section cases default a ends c) (Section cases default b ends d)
+same_next cases default ends a b c d h = record {
+  cases = ap (λ l. cases ++ l) h.cases;
+  default = ap (λ n. cond default 1 0 + n) h.default;
+  entered =
+      λ e. (e.0, h.entered e.1);
+}
 
 later_same : (l : ℕ) (c : Sections) → SameEntries c (later_guarded l c)
 later_same l NoSection = same_entries NoSection
@@ -126,7 +132,8 @@ pub record IsKept (P : Tree → Type 0) : Type 0 where
   pub or_while : (m : ℕ) (t : TestTree) (a : Forest) → P (Leap m) → P (While t a) → P (While (OrOn m t) a)
   pub and_while : (m : ℕ) (t : TestTree) (a : Forest) → P (Leap m) → P (While t a) → P (While (AndOff m t) a)
   pub and_do : (m : ℕ) (t : TestTree) (a : Forest) → P (Leap m) → P (Do a t) → P (Do a (AndOff m t))
-  pub picks : (m k : ℕ) (n : ℤ) (s : SelectorTree) (c : Sections) → P (Leap m) → SelectsBranch (B.Section k) n (Switch s c) → P (Switch s c) → P (Switch (Pick m n s) c)
+  pub picks : (m k : ℕ) (n : ℤ) (s : SelectorTree) (c : Sections) → P (Leap m) → SelectsBranch (B.Section k) n (Switch s c) → P (Switch s c) →
+      P (Switch (Pick m n s) c)
 
 module _ (P : Tree → Type 0) where
   pub everywhere_front : (a b : Forest) → Everywhere P (join a b) → Everywhere P a
@@ -178,7 +185,8 @@ module _ (P : Tree → Type 0) (kept : IsKept P) where
   sections_entered_kept l _ (entered_here cases default ends a c z) p h = ((p, h.0), h.1)
   sections_entered_kept l _ (entered_later cases default ends a r) p h = (h.0, sections_entered_kept l _ r p h.1)
 
-  entering : (l : ℕ) (t : Forest) (x y : Tree) → (P (Leap l) → EverywhereOf P x → EverywhereOf P y) → Everywhere P (Then (Leap l) (join t (one x))) → Everywhere P (join (guarded l t) (one y))
+  entering : (l : ℕ) (t : Forest) (x y : Tree) → (P (Leap l) → EverywhereOf P x → EverywhereOf P y) → Everywhere P (Then (Leap l) (join t (one x))) →
+      Everywhere P (join (guarded l t) (one y))
   entering l t x y go h = both (guarded l t) (one y) (guarded_kept l t h.0 (front t (one x) h.1)) (go h.0 (back t (one x) h.1).0, tt)
 
   moved_kept : {xs ys : Forest} → Moved xs ys → Everywhere P xs → Everywhere P ys
@@ -206,12 +214,14 @@ module _ (P : Tree → Type 0) (kept : IsKept P) where
       let q = sections_left_kept l r e.1 in
       ((kept.switches s _ _ (left_same l r) e.0, q.0), (q.1, tt))
   moved_kept (M.in_then l t u a b z) h =
-      entering l t (If u a b) (If (OrOn l u) (Then (Leap l) a) b) (λ p e. (kept.or_if l u (Then (Leap l) a) b p (kept.then u a b (Then (Leap l) a) e.0), (p, e.1), e.2)) h
+      entering l t (If u a b) (If (OrOn l u) (Then (Leap l) a) b)
+      (λ p e. (kept.or_if l u (Then (Leap l) a) b p (kept.then u a b (Then (Leap l) a) e.0), (p, e.1), e.2)) h
   moved_kept (M.in_else l t u a b z) h =
       entering l t (If u a b) (If (AndOff l u) a (Then (Leap l) b))
       (λ p e. (kept.and_if l u a (Then (Leap l) b) p (kept.else u a b (Then (Leap l) b) (let q = lands-jumps l b in omega arith) e.0), e.1, (p, e.2))) h
   moved_kept (M.in_while l t u a z) h =
-      entering l t (While u a) (While (OrOn l u) (Then (Leap l) a)) (λ p e. (kept.or_while l u (Then (Leap l) a) p (kept.whiles u a (Then (Leap l) a) e.0), (p, e.1))) h
+      entering l t (While u a) (While (OrOn l u) (Then (Leap l) a))
+      (λ p e. (kept.or_while l u (Then (Leap l) a) p (kept.whiles u a (Then (Leap l) a) e.0), (p, e.1))) h
   moved_kept (M.in_do l t u a z) h = entering l t (Do a u) (Do (Then (Leap l) a) u) (λ p e. (kept.dos u a (Then (Leap l) a) e.0, (p, e.1))) h
   moved_kept (M.in_switch l t s k n {c = c} {d = d} r q) h =
       entering l t (Switch s c) (Switch (Pick l n s) d)

@@ -49,7 +49,8 @@ unfolding trees_of
 trees-guarded l [] = refl
 trees-guarded l (x ∷ xs) = ap one (tree-If (Off l) (x ∷ xs) [] ∙ ap (λ t. T.If t (trees_of (x ∷ xs)) Nil) (test-Off l))
 
-pub placed : (xs ys : List Item) (a b : Forest) {u v : Forest} → trees_of xs ≡ join a (join u b) → trees_of ys ≡ join a (join v b) → Moved u v → Changed Moved (trees_of xs) (trees_of ys)
+pub placed : (xs ys : List Item) (a b : Forest) {u v : Forest} → trees_of xs ≡ join a (join u b) → trees_of ys ≡ join a (join v b) → Moved u v →
+    Changed Moved (trees_of xs) (trees_of ys)
 placed xs ys a b {u} {v} e f m =
     subst (λ z. Changed Moved z (trees_of ys)) (sym e) (subst (λ z. Changed Moved (join a (join u b)) z) (sym f) (within a b (here m)))
 
@@ -77,7 +78,8 @@ range_from xs j i x h e =
 
 -- rule J
 
-join_after_changed : (l i j : ℕ) (xs : List Item) → i < j → slice_get xs i ≡ Some (Leap l) → slice_get xs j ≡ Some (Land l) → Changed Moved (trees_of xs) (trees_of (J.joined_after l i j xs))
+join_after_changed : (l i j : ℕ) (xs : List Item) → i < j → slice_get xs i ≡ Some (Leap l) → slice_get xs j ≡ Some (Land l) →
+    Changed Moved (trees_of xs) (trees_of (J.joined_after l i j xs))
 join_after_changed l i j xs h e f =
     let mid = slice_range xs (i + 1) j in
     let back = drop (j + 1) xs in
@@ -92,7 +94,8 @@ join_after_changed l i j xs h e f =
     ∙ ap (λ t. join (trees_of (take i xs)) (join (join (M.guarded l (trees_of mid)) (one t)) (trees_of back))) (tree-Land l))
     (M.join_after l (trees_of mid))
 
-join_before_changed : (l i j : ℕ) (xs : List Item) → j < i → slice_get xs i ≡ Some (Leap l) → slice_get xs j ≡ Some (Land l) → Changed Moved (trees_of xs) (trees_of (J.joined_before l i j xs))
+join_before_changed : (l i j : ℕ) (xs : List Item) → j < i → slice_get xs i ≡ Some (Leap l) → slice_get xs j ≡ Some (Land l) →
+    Changed Moved (trees_of xs) (trees_of (J.joined_before l i j xs))
 join_before_changed l i j xs h e f =
     let mid = slice_range xs (j + 1) i in
     let back = drop (i + 1) xs in
@@ -118,7 +121,8 @@ joined_split l i j xs e f false c = join_before_changed l i j xs (before (ltb-fa
   before : j ≤ i → j < i
   before h = lt_unless i j h (λ g. leap_no_land l l (some_same (sym e ∙ ap (slice_get xs) g ∙ f)))
 
-pub joined_changed : (l i j : ℕ) (xs : List Item) → slice_get xs i ≡ Some (Leap l) → slice_get xs j ≡ Some (Land l) → Changed Moved (trees_of xs) (trees_of (J.joined l i j xs))
+pub joined_changed : (l i j : ℕ) (xs : List Item) → slice_get xs i ≡ Some (Leap l) → slice_get xs j ≡ Some (Land l) →
+    Changed Moved (trees_of xs) (trees_of (J.joined l i j xs))
 joined_changed l i j xs e f = joined_split l i j xs e f (nat_lt i j) refl
 
 -- rule L

@@ -52,14 +52,16 @@ map_some f (Some x) b e = let h : f x ≡ b = cc in (x, refl, h)
 pub with_there : (k : ℕ) (w : List Item) (cs : List Section) (c : Section) → slice_get cs k ≡ Some c → with_section_list k w cs ≡ slice_set cs k (with_list w c)
 with_there k w cs c e = ap (λ o. option_map_or (λ c. slice_set cs k (with_list w c)) o cs) e
 
-section_child : (k : ℕ) (cs : List Section) (w a : List Item) → option_map list_of (slice_get cs k) ≡ Some a → option_map list_of (slice_get (with_section_list k w cs) k) ≡ Some w
+section_child : (k : ℕ) (cs : List Section) (w a : List Item) → option_map list_of (slice_get cs k) ≡ Some a →
+    option_map list_of (slice_get (with_section_list k w cs) k) ≡ Some w
 section_child k cs w a e =
     let t = map_some list_of (slice_get cs k) a e in
     ap (λ l. option_map list_of (slice_get l k)) (with_there k w cs t.0 t.1)
     ∙ ap (option_map list_of) (get_set cs k t.0 (with_list w t.0) t.1)
     ∙ ap Some (list_with w t.0)
 
-section_put : (k : ℕ) (cs : List Section) (u w a : List Item) → option_map list_of (slice_get cs k) ≡ Some a → with_section_list k w (with_section_list k u cs) ≡ with_section_list k w cs
+section_put : (k : ℕ) (cs : List Section) (u w a : List Item) → option_map list_of (slice_get cs k) ≡ Some a →
+    with_section_list k w (with_section_list k u cs) ≡ with_section_list k w cs
 section_put k cs u w a e =
     let t = map_some list_of (slice_get cs k) a e in
     ap (with_section_list k w) (with_there k u cs t.0 t.1)
@@ -132,11 +134,13 @@ stepped xs s ss a e =
     let q = and_then_some (λ a. list_at a ss) (child s.branch p.0) a p.2 in
     record { item = p.0; inner = q.0; item_is = p.1; inner_is = q.1; rest = q.2 }
 
-pub list_step : (xs : List Item) (s : Step) (ss : List Step) (x : Item) (a : List Item) → slice_get xs s.item ≡ Some x → child s.branch x ≡ Some a → list_at xs (s ∷ ss) ≡ list_at a ss
+pub list_step : (xs : List Item) (s : Step) (ss : List Step) (x : Item) (a : List Item) → slice_get xs s.item ≡ Some x → child s.branch x ≡ Some a →
+    list_at xs (s ∷ ss) ≡ list_at a ss
 list_step xs s ss x a e f =
     ap (option_and_then (λ x. option_and_then (λ a. list_at a ss) (child s.branch x))) e ∙ ap (option_and_then (λ a. list_at a ss)) f
 
-pub put_step : (xs : List Item) (s : Step) (ss : List Step) (w : List Item) (x : Item) (a : List Item) → slice_get xs s.item ≡ Some x → child s.branch x ≡ Some a
+pub put_step : (xs : List Item) (s : Step) (ss : List Step) (w : List Item) (x : Item) (a : List Item) → slice_get xs s.item ≡ Some x →
+    child s.branch x ≡ Some a
     → put_at xs (s ∷ ss) w ≡ slice_set xs s.item (with_child s.branch (put_at a ss w) x)
 put_step xs s ss w x a e f =
     ap (λ o. option_map_or (λ x. option_map_or (λ a. slice_set xs s.item (with_child s.branch (put_at a ss w) x)) (child s.branch x) xs) o xs) e
@@ -150,7 +154,8 @@ list_put xs (s ∷ ss) u a e =
     let t = stepped xs s ss a e in
     let made = with_child s.branch (put_at t.inner ss u) t.item in
     ap (λ l. list_at l (s ∷ ss)) (put_step xs s ss u t.item t.inner t.item_is t.inner_is)
-    ∙ list_step (slice_set xs s.item made) s ss made (put_at t.inner ss u) (get_set xs s.item t.item made t.item_is) (child_with s.branch t.item (put_at t.inner ss u) t.inner t.inner_is)
+    ∙ list_step (slice_set xs s.item made) s ss made (put_at t.inner ss u) (get_set xs s.item t.item made t.item_is)
+    (child_with s.branch t.item (put_at t.inner ss u) t.inner t.inner_is)
     ∙ list_put t.inner ss u a t.rest
 
 pub put_put : (xs : List Item) (ss : List Step) (u w a : List Item) → list_at xs ss ≡ Some a → put_at (put_at xs ss u) ss w ≡ put_at xs ss w
@@ -159,7 +164,8 @@ put_put xs (s ∷ ss) u w a e =
     let t = stepped xs s ss a e in
     let made = with_child s.branch (put_at t.inner ss u) t.item in
     ap (λ l. put_at l (s ∷ ss) w) (put_step xs s ss u t.item t.inner t.item_is t.inner_is)
-    ∙ put_step (slice_set xs s.item made) s ss w made (put_at t.inner ss u) (get_set xs s.item t.item made t.item_is) (child_with s.branch t.item (put_at t.inner ss u) t.inner t.inner_is)
+    ∙ put_step (slice_set xs s.item made) s ss w made (put_at t.inner ss u) (get_set xs s.item t.item made t.item_is)
+    (child_with s.branch t.item (put_at t.inner ss u) t.inner t.inner_is)
     ∙ set_set xs s.item made (with_child s.branch (put_at (put_at t.inner ss u) ss w) made)
     ∙ ap (slice_set xs s.item) (with_with s.branch t.item (put_at t.inner ss u) (put_at (put_at t.inner ss u) ss w) t.inner t.inner_is)
     ∙ ap (λ l. slice_set xs s.item (with_child s.branch l t.item)) (put_put t.inner ss u w a t.rest)

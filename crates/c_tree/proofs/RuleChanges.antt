@@ -36,10 +36,12 @@ there_is : (xs : List Item) (steps : List Step) (a : List Item) → list_at xs s
 there_is xs steps a e = ap (λ o. unwrap_or o []) e
 
 -- a body with the list at the steps changed by a function
-changed_by : (f : List Item → List Item) (old new : List Item) (steps : List Step) (a : List Item) → list_at old steps ≡ Some a → new ≡ put_at old steps (f (list_there old steps))
+changed_by : (f : List Item → List Item) (old new : List Item) (steps : List Step) (a : List Item) → list_at old steps ≡ Some a →
+    new ≡ put_at old steps (f (list_there old steps))
     → Changed Moved (trees_of a) (trees_of (f a)) → Changed Moved (trees_of old) (trees_of new)
 changed_by f old new steps a e h m =
-    subst (λ z. Changed Moved (trees_of old) (trees_of z)) (sym (h ∙ ap (λ l. put_at old steps (f l)) (there_is old steps a e))) (changed_at Moved old steps a (f a) e m)
+    subst (λ z. Changed Moved (trees_of old) (trees_of z)) (sym (h ∙ ap (λ l. put_at old steps (f l)) (there_is old steps a e)))
+    (changed_at Moved old steps a (f a) e m)
 
 -- two items of one list
 same_list : (old : List Item) (steps : List Step) (a b : List Item) → list_at old steps ≡ Some a → list_at old steps ≡ Some b → b ≡ a
@@ -52,7 +54,8 @@ joins_changed l i j steps old new h =
     let land = subst (λ z. slice_get z j ≡ Some (Land l)) (same_list old steps p.list q.list p.list_is q.list_is) q.item_is in
     changed_by (joined l i j) old new steps p.list p.list_is h.body (joined_changed l i j p.list p.item_is land)
 
-pub lifts_changed : (l i j : ℕ) (steps : List Step) (old new : List Item) (to : Path) → Lifts l i j steps old new to → Changed Moved (trees_of old) (trees_of new)
+pub lifts_changed : (l i j : ℕ) (steps : List Step) (old new : List Item) (to : Path) → Lifts l i j steps old new to →
+    Changed Moved (trees_of old) (trees_of new)
 lifts_changed l i j steps old new to h =
     let p = stands old steps i (Leap l) h.applies.leap in
     let s = held_some _ (item_at old steps j) h.applies.held in
@@ -75,24 +78,34 @@ ends xs [] last a e =
 ends xs (s ∷ steps) last a e =
     let t = stepped xs s (steps ++ last ∷ []) a e in
     let r = ends t.inner steps last a t.rest in
-    record { list = r.list; item = r.item; list_is = list_step xs s steps t.item t.inner t.item_is t.inner_is ∙ r.list_is; item_is = r.item_is; child_is = r.child_is }
+    record {
+      list = r.list;
+      item = r.item;
+      list_is = list_step xs s steps t.item t.inner t.item_is t.inner_is ∙ r.list_is;
+      item_is = r.item_is;
+      child_is = r.child_is;
+    }
 
-item_there : (xs : List Item) (steps : List Step) (i : ℕ) (a : List Item) (x : Item) → list_at xs steps ≡ Some a → slice_get a i ≡ Some x → item_at xs steps i ≡ Some x
+item_there : (xs : List Item) (steps : List Step) (i : ℕ) (a : List Item) (x : Item) → list_at xs steps ≡ Some a → slice_get a i ≡ Some x →
+    item_at xs steps i ≡ Some x
 item_there xs steps i a x e f = ap (option_and_then (λ a. slice_get a i)) e ∙ f
 
 -- what holds of the item at a path
 holds_of : (P : Item → Type 0) (xs : List Item) (steps : List Step) (i : ℕ) (x : Item) → item_at xs steps i ≡ Some x → Holds P (item_at xs steps i) → P x
 holds_of P xs steps i x e h = subst (Holds P) e h
 
-pub moves_out_changed : (l : ℕ) (outer : List Step) (last : Step) (i : ℕ) (old new : List Item) (to : Path) → MovesOut l outer last i old new to → Changed Moved (trees_of old) (trees_of new)
+pub moves_out_changed : (l : ℕ) (outer : List Step) (last : Step) (i : ℕ) (old new : List Item) (to : Path) → MovesOut l outer last i old new to →
+    Changed Moved (trees_of old) (trees_of new)
 moves_out_changed l outer last i old new to h =
     let p = stands old (outer ++ last ∷ []) i (Leap l) h.applies.leap in
     let r = ends old outer last p.list p.list_is in
-    let branch = holds_of (HasBranch last.branch) old outer last.item r.item (item_there old outer last.item r.list r.item r.list_is r.item_is) h.applies.construct in
+    let branch = holds_of (HasBranch last.branch) old outer last.item r.item (item_there old outer last.item r.list r.item r.list_is r.item_is)
+    h.applies.construct in
     changed_by (moved_out l last.item last.branch i) old new outer r.list r.list_is h.body
     (moved_out_changed l last.item i last.branch r.list r.item p.list r.item_is r.child_is p.item_is branch)
 
-pub moves_in_changed : (l : ℕ) (n : ℤ) (i j : ℕ) (b : Branch) (steps : List Step) (old new : List Item) (to : Path) → MovesIn l n i j b steps old new to → Changed Moved (trees_of old) (trees_of new)
+pub moves_in_changed : (l : ℕ) (n : ℤ) (i j : ℕ) (b : Branch) (steps : List Step) (old new : List Item) (to : Path) →
+    MovesIn l n i j b steps old new to → Changed Moved (trees_of old) (trees_of new)
 moves_in_changed l n i j b steps old new to h =
     let p = stands old steps i (Leap l) h.applies.leap in
     let step : Step = record { item = j; branch = b } in

@@ -32,7 +32,8 @@ pub tree-Do : (a : List Item) (t : Test) → tree_of (Do a t) ≡ Plain.Do (tree
 unfolding tree_of trees_of
 tree-Do a t = ap tree_of (sym (rolls-Do a t)) ∙ fold-roll-Item Tree SectionTree layer section_layer (Open.Do a t)
 
-pub tree-For : (f : List Item) (t u : Option Expression) (a : List Item) → tree_of (For f t u a) ≡ Plain.For (trees_of f) (option_map expression_tree t) (option_map expression_tree u) (trees_of a)
+pub tree-For : (f : List Item) (t u : Option Expression) (a : List Item) →
+    tree_of (For f t u a) ≡ Plain.For (trees_of f) (option_map expression_tree t) (option_map expression_tree u) (trees_of a)
 unfolding tree_of trees_of
 tree-For f t u a = ap tree_of (sym (rolls-For f t u a)) ∙ fold-roll-Item Tree SectionTree layer section_layer (Open.For f t u a)
 
@@ -107,7 +108,8 @@ sections-more c cs = refl
 pub section-parts : (c : Real.Section) →
     let o = Real.out-Section c in section_tree c ≡ record { cases = expression_trees o.cases; default = o.default; list = trees_of o.list; ends = o.ends }
 unfolding section_tree trees_of tree_of
-section-parts c = ap (Real.fold-Section Tree SectionTree layer section_layer) (sym (Real.roll-out-Section c)) ∙ Real.fold-roll-Section Tree SectionTree layer section_layer (Real.out-Section c)
+section-parts c = ap (Real.fold-Section Tree SectionTree layer section_layer) (sym (Real.roll-out-Section c)) ∙
+    Real.fold-roll-Section Tree SectionTree layer section_layer (Real.out-Section c)
 
 pub trees-append : (xs ys : List Item) → trees_of (xs ++ ys) ≡ join (trees_of xs) (trees_of ys)
 unfolding trees_of

@@ -76,7 +76,8 @@ less_value = refl
 abbrev exits : Forest
 exits =
     Then (While (Source (number 1)) (Then Break Nil))
-    (Then (Switch (Selects (number 1)) (Section (number 3 ∷ []) false (Then Break (Then Continue Nil)) false (Section (number 4 ∷ []) false Nil true NoSection)))
+    (Then (Switch (Selects (number 1)) (Section (number 3 ∷ []) false (Then Break (Then Continue Nil)) false
+    (Section (number 4 ∷ []) false Nil true NoSection)))
     (Then (If (Source (number 1)) (Then Break Nil) (Then Break Nil)) Nil))
 
 breaks_out : breaks exits ≡ 2
@@ -85,7 +86,8 @@ breaks_out = refl
 continues_out : continues exits ≡ 1
 continues_out = refl
 
-numbers_of_cases : case_numbers Int (Section (number 3 ∷ []) false Nil false (Section (number 4 ∷ number 5 ∷ []) true Nil true NoSection)) ≡ Some (pos 3) ∷ Some (pos 4) ∷ Some (pos 5) ∷ []
+numbers_of_cases : case_numbers Int (Section (number 3 ∷ []) false Nil false (Section (number 4 ∷ number 5 ∷ []) true Nil true NoSection)) ≡ Some
+    (pos 3) ∷ Some (pos 4) ∷ Some (pos 5) ∷ []
 unfolding converted
 numbers_of_cases = refl
 
@@ -94,7 +96,8 @@ abbrev call : ExpressionTree
 call = int (Call [] NoArgument)
 
 abbrev loop : Forest
-loop = Then (Land 0) (Then (Arm 1 (Some call)) (Then (Leap 1) (Then (Evaluate call) (Then (Arm 0 None) (Then (Leap 0) (Then (Land 1) (Then (Return (Some (number 0))) Nil)))))))
+loop = Then (Land 0) (Then (Arm 1 (Some call))
+    (Then (Leap 1) (Then (Evaluate call) (Then (Arm 0 None) (Then (Leap 0) (Then (Land 1) (Then (Return (Some (number 0))) Nil)))))))
 
 jumps_there : jumps loop ≡ 4
 jumps_there = refl

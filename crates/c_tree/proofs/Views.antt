@@ -29,7 +29,8 @@ pub trees-first : (x : Item) (xs : List Item) → trees_of (x ∷ xs) ≡ Then (
 trees-first x xs = trees-more x xs ∙ ap (λ t. Then t (trees_of xs)) (at-tree x)
 
 pub trees-at : (xs : List Item) (i : ℕ) (x : Item) → i < length xs → x ≡ get_or xs i x → trees_of (drop i xs) ≡ Then (tree_at x) (trees_of (drop (i + 1) xs))
-trees-at xs i x h e = at_drop_more trees_of xs i x h ∙ trees-first (get_or xs i x) (drop (i + 1) xs) ∙ ap (λ z. Then (tree_at z) (trees_of (drop (i + 1) xs))) (sym e)
+trees-at xs i x h e = at_drop_more trees_of xs i x h ∙ trees-first (get_or xs i x) (drop (i + 1) xs) ∙
+    ap (λ z. Then (tree_at z) (trees_of (drop (i + 1) xs))) (sym e)
 
 pub trees-end : (xs : List Item) (i : ℕ) → length xs ≤ i → trees_of (drop i xs) ≡ Nil
 trees-end xs i h = at_drop_all trees_of xs i h ∙ trees-none
@@ -41,8 +42,10 @@ trees-push xs x = trees-append xs (x ∷ []) ∙ ap (join (trees_of xs)) (trees-
 pub section-first : (c : Real.Section) (cs : List Real.Section) → sections_of (c ∷ cs) ≡ before c (sections_of cs)
 section-first c cs = sections-more c cs ∙ ap (λ (z : SectionTree). Section z.cases z.default z.list z.ends (sections_of cs)) (section-parts c)
 
-pub sections-at : (cs : List Real.Section) (i : ℕ) (c : Real.Section) → i < length cs → c ≡ get_or cs i c → sections_of (drop i cs) ≡ before c (sections_of (drop (i + 1) cs))
-sections-at cs i c h e = at_drop_more sections_of cs i c h ∙ section-first (get_or cs i c) (drop (i + 1) cs) ∙ ap (λ z. before z (sections_of (drop (i + 1) cs))) (sym e)
+pub sections-at : (cs : List Real.Section) (i : ℕ) (c : Real.Section) → i < length cs → c ≡ get_or cs i c →
+    sections_of (drop i cs) ≡ before c (sections_of (drop (i + 1) cs))
+sections-at cs i c h e = at_drop_more sections_of cs i c h ∙ section-first (get_or cs i c) (drop (i + 1) cs) ∙
+    ap (λ z. before z (sections_of (drop (i + 1) cs))) (sym e)
 
 pub sections-end : (cs : List Real.Section) (i : ℕ) → length cs ≤ i → sections_of (drop i cs) ≡ NoSection
 sections-end cs i h = at_drop_all sections_of cs i h ∙ sections-none
@@ -67,7 +70,8 @@ at-While t a = ap tree_at (sym (rolls-While t a)) ∙ ap layer_at (out-roll-Item
 pub at-Do : (a : List Item) (t : Test) → tree_at (Do a t) ≡ Plain.Do (trees_of a) (test_tree t)
 at-Do a t = ap tree_at (sym (rolls-Do a t)) ∙ ap layer_at (out-roll-Item (O.Do a t))
 
-pub at-For : (f : List Item) (t u : Option Expression) (a : List Item) → tree_at (For f t u a) ≡ Plain.For (trees_of f) (option_map expression_tree t) (option_map expression_tree u) (trees_of a)
+pub at-For : (f : List Item) (t u : Option Expression) (a : List Item) →
+    tree_at (For f t u a) ≡ Plain.For (trees_of f) (option_map expression_tree t) (option_map expression_tree u) (trees_of a)
 at-For f t u a = ap tree_at (sym (rolls-For f t u a)) ∙ ap layer_at (out-roll-Item (O.For f t u a))
 
 pub at-Switch : (s : Selector) (cs : List Real.Section) → tree_at (Switch s cs) ≡ Plain.Switch (selector_tree s) (sections_of cs)

@@ -40,7 +40,9 @@ lands-chosen l m true c = refl
 lands-chosen l m false c = lands-later l m c
 
 lands-left : (l m : ℕ) (a b : Forest) → lands l (join a (guarded m b)) ≡ lands l (join a (Then (Leap m) b))
-lands-left l m a b = let p = total-join (land_of l) a (guarded m b) in let q = total-join (land_of l) a (Then (Leap m) b) in let r = lands-guarded l m b in omega arith
+lands-left l m a b = let p = total-join (land_of l) a (guarded m b) in let q = total-join (land_of l) a (Then (Leap m) b) in let r =
+    lands-guarded l m
+    b in omega arith
 
 lands-sections_left : (l m : ℕ) {c d : Sections} → SectionsLeft m c d → total_in (land_of l) d ≡ total_in (land_of l) c
 lands-sections_left l m (left_here cases default ends a b c) = let p = lands-left l m a b in let q = lands-chosen l m ends c in omega arith
@@ -50,8 +52,11 @@ lands-entered : (l m k : ℕ) {c d : Sections} → SectionsEntered m k c d → t
 lands-entered l m _ (entered_here cases default ends a c z) = omega arith
 lands-entered l m _ (entered_later cases default ends a r) = let p = lands-entered l m _ r in omega arith
 
-entering : (l m : ℕ) (t : Forest) (x y : Tree) → total_of (land_of l) y ≡ total_of (land_of l) x → lands l (join (guarded m t) (one y)) ≡ lands l (Then (Leap m) (join t (one x)))
-entering l m t x y e = let p = total-join (land_of l) t (one x) in let q = total-join (land_of l) (guarded m t) (one y) in let r = lands-guarded l m t in omega arith
+entering : (l m : ℕ) (t : Forest) (x y : Tree) → total_of (land_of l) y ≡ total_of (land_of l) x →
+    lands l (join (guarded m t) (one y)) ≡ lands l (Then (Leap m) (join t (one x)))
+entering l m t x y e = let p = total-join (land_of l) t (one x) in let q = total-join (land_of l) (guarded m t) (one y) in let r =
+    lands-guarded l m
+    t in omega arith
 
 moved_lands : (l : ℕ) {xs ys : Forest} → Moved xs ys → lands l ys ≡ lands l xs
 moved_lands l (M.join_after m t) = entering l m t (Land m) (Land m) refl
@@ -73,7 +78,9 @@ mutual
   changed_lands l (here r) = moved_lands l r
   changed_lands l (within a b {xs = xs} {ys = ys} c) =
       let h = changed_lands l c in
-      let p = total-join (land_of l) a (join xs b) in let q = total-join (land_of l) xs b in let p' = total-join (land_of l) a (join ys b) in let q' = total-join (land_of l) ys b in omega arith
+      let p = total-join (land_of l) a (join xs b) in let q = total-join (land_of l) xs b in let p' = total-join (land_of l) a (join ys b) in let q' =
+      total-join
+      (land_of l) ys b in omega arith
   changed_lands l (in_then t b c) = let h = changed_lands l c in omega arith
   changed_lands l (in_else t a c) = let h = changed_lands l c in omega arith
   changed_lands l (in_while t c) = let h = changed_lands l c in omega arith
@@ -223,7 +230,8 @@ converted_in : (k : IntKind) (o : Option ℤ) (n : ℤ) → option_map (converte
 converted_in k None n e = cc
 converted_in k (Some v) n e = let f : converted k v ≡ n = cc in subst (Numbers.IsInRange k) f (converted-in_range k v)
 
-number_in : (j : IntKind) (c : Sections) (cases : List ExpressionTree) (n : ℤ) → AreCases (promoted j) c → IsNumberFor (promoted j) c cases n → Numbers.IsInRange (promoted j) n
+number_in : (j : IntKind) (c : Sections) (cases : List ExpressionTree) (n : ℤ) → AreCases (promoted j) c → IsNumberFor (promoted j) c cases n →
+    Numbers.IsInRange (promoted j) n
 number_in j c [] n h f =
     let b = free_below (promoted j) c n f in
     let l = h.few in
@@ -234,7 +242,8 @@ pub some_map : {A : Type 0} (o : Option A) (P Q : A → Type 0) → ((x : A) →
 some_map None P Q f h = h
 some_map (Some x) P Q f h = f x h
 
-pick_in : (o : Option IntKind) (k : ℕ) (n : ℤ) (s : SelectorTree) (c : Sections) → IfSome (option_map promoted o) (λ j. AreCases j c) → IfSome (option_map promoted o) (λ j. ArePicks j s)
+pick_in : (o : Option IntKind) (k : ℕ) (n : ℤ) (s : SelectorTree) (c : Sections) → IfSome (option_map promoted o) (λ j. AreCases j c) →
+    IfSome (option_map promoted o) (λ j. ArePicks j s)
     → IsSomeAnd (option_map promoted o) (λ j. IsNumberFor j c (cases_at k c) n) → IfSome (option_map promoted o) (λ j. Numbers.IsInRange j n × ArePicks j s)
 pick_in None k n s c h p q = tt
 pick_in (Some j) k n s c h p q = (number_in j c (cases_at k c) n h q, p)
@@ -354,7 +363,8 @@ well_moved xs ys c w =
     record {
       converted = changed_kept IsConverted converted_kept c w.converted;
       landed =
-          everywhere_map (GuardLabels (λ l. lands l xs ≡ 1)) (GuardLabels (λ l. lands l ys ≡ 1)) (item_labels (λ l. lands l xs ≡ 1) (λ l. lands l ys ≡ 1) (λ l h. changed_lands l c ∙ h)) ys
+          everywhere_map (GuardLabels (λ l. lands l xs ≡ 1)) (GuardLabels (λ l. lands l ys ≡ 1))
+          (item_labels (λ l. lands l xs ≡ 1) (λ l. lands l ys ≡ 1) (λ l h. changed_lands l c ∙ h)) ys
           (changed_kept (GuardLabels (λ l. lands l xs ≡ 1)) (labels_kept (λ l. lands l xs ≡ 1)) c w.landed);
       selectors = changed_kept HasSelectorKind selectors_kept c w.selectors;
       entries = changed_kept HasEntries entries_kept c w.entries;

@@ -21,7 +21,8 @@ later_guarded l (Section cases default a ends c) = Section cases default (guarde
 -- the sections of a switch before and after a Leap goes out of one
 pub data SectionsLeft (l : ℕ) : Sections → Sections → Type 0 where
   left_here : (cases : List ExpressionTree) (default ends : Bool) (a b : Forest) (c : Sections)
-      → SectionsLeft l (Section cases default (join a (Then (Leap l) b)) ends c) (Section cases default (join a (guarded l b)) ends (cond ends c (later_guarded l c)))
+      → SectionsLeft l (Section cases default (join a (Then (Leap l) b)) ends c)
+      (Section cases default (join a (guarded l b)) ends (cond ends c (later_guarded l c)))
   left_later : (cases : List ExpressionTree) (default ends : Bool) (a : Forest) {c d : Sections} → SectionsLeft l c d
       → SectionsLeft l (Section cases default a ends c) (Section cases default a ends d)
 
@@ -38,12 +39,17 @@ pub data Moved : Forest → Forest → Type 0 where
   lifted : (l : ℕ) (x : Tree) (t : Forest) → 0 < lands_inside l x → Moved (Then x (join t (one (Leap l)))) (one (Do (Then (Leap l) (Then x t)) (On l)))
   out_then : (l : ℕ) (t : TestTree) (a b c : Forest) → Moved (one (If t (join a (Then (Leap l) b)) c)) (Then (If t (join a (guarded l b)) c) (one (Leap l)))
   out_else : (l : ℕ) (t : TestTree) (a b c : Forest) → Moved (one (If t c (join a (Then (Leap l) b)))) (Then (If t c (join a (guarded l b))) (one (Leap l)))
-  out_while : (l : ℕ) (t : TestTree) (a b : Forest) → Moved (one (While t (join a (Then (Leap l) b)))) (Then (While (AndOff l t) (join a (guarded l b))) (one (Leap l)))
+  out_while : (l : ℕ) (t : TestTree) (a b : Forest) → Moved (one (While t (join a (Then (Leap l) b))))
+      (Then (While (AndOff l t) (join a (guarded l b))) (one (Leap l)))
   out_do : (l : ℕ) (t : TestTree) (a b : Forest) → Moved (one (Do (join a (Then (Leap l) b)) t)) (Then (Do (join a (guarded l b)) (AndOff l t)) (one (Leap l)))
   out_switch : (l : ℕ) (s : SelectorTree) {c d : Sections} → SectionsLeft l c d → Moved (one (Switch s c)) (Then (Switch s d) (one (Leap l)))
-  in_then : (l : ℕ) (t : Forest) (u : TestTree) (a b : Forest) → 0 < lands l a → Moved (Then (Leap l) (join t (one (If u a b)))) (join (guarded l t) (one (If (OrOn l u) (Then (Leap l) a) b)))
-  in_else : (l : ℕ) (t : Forest) (u : TestTree) (a b : Forest) → 0 < lands l b → Moved (Then (Leap l) (join t (one (If u a b)))) (join (guarded l t) (one (If (AndOff l u) a (Then (Leap l) b))))
-  in_while : (l : ℕ) (t : Forest) (u : TestTree) (a : Forest) → 0 < lands l a → Moved (Then (Leap l) (join t (one (While u a)))) (join (guarded l t) (one (While (OrOn l u) (Then (Leap l) a))))
-  in_do : (l : ℕ) (t : Forest) (u : TestTree) (a : Forest) → 0 < lands l a → Moved (Then (Leap l) (join t (one (Do a u)))) (join (guarded l t) (one (Do (Then (Leap l) a) u)))
+  in_then : (l : ℕ) (t : Forest) (u : TestTree) (a b : Forest) → 0 < lands l a →
+      Moved (Then (Leap l) (join t (one (If u a b)))) (join (guarded l t) (one (If (OrOn l u) (Then (Leap l) a) b)))
+  in_else : (l : ℕ) (t : Forest) (u : TestTree) (a b : Forest) → 0 < lands l b →
+      Moved (Then (Leap l) (join t (one (If u a b)))) (join (guarded l t) (one (If (AndOff l u) a (Then (Leap l) b))))
+  in_while : (l : ℕ) (t : Forest) (u : TestTree) (a : Forest) → 0 < lands l a →
+      Moved (Then (Leap l) (join t (one (While u a)))) (join (guarded l t) (one (While (OrOn l u) (Then (Leap l) a))))
+  in_do : (l : ℕ) (t : Forest) (u : TestTree) (a : Forest) → 0 < lands l a →
+      Moved (Then (Leap l) (join t (one (Do a u)))) (join (guarded l t) (one (Do (Then (Leap l) a) u)))
   in_switch : (l : ℕ) (t : Forest) (s : SelectorTree) (k : ℕ) (n : ℤ) {c d : Sections} → SectionsEntered l k c d → SelectsBranch (B.Section k) n (Switch s c)
       → Moved (Then (Leap l) (join t (one (Switch s c)))) (join (guarded l t) (one (Switch (Pick l n s) d)))

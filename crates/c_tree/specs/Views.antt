@@ -41,4 +41,5 @@ pub record ViewLaws : Type 0 where
   pub same : (x : Item) → tree_of x ≡ tree_at x
   -- a list and a list of sections from one place on
   pub items : (xs : List Item) (i : ℕ) (x : Item) → i < length xs → x ≡ get_or xs i x → trees_of (drop i xs) ≡ Then (tree_at x) (trees_of (drop (i + 1) xs))
-  pub sections : (cs : List Real.Section) (i : ℕ) (c : Real.Section) → i < length cs → c ≡ get_or cs i c → sections_of (drop i cs) ≡ before c (sections_of (drop (i + 1) cs))
+  pub sections : (cs : List Real.Section) (i : ℕ) (c : Real.Section) → i < length cs → c ≡ get_or cs i c →
+      sections_of (drop i cs) ≡ before c (sections_of (drop (i + 1) cs))

@@ -97,10 +97,14 @@ number_of_differs k n = elim (cases_Bool (int_le (pos n) (greatest k))) [
 regroup : (z n t r p m : ℤ) → z ≡ r +ℤ p → n ≡ r -ℤ m → t ≡ p +ℤ m → z ≡ n +ℤ t
 regroup z n t r p m e h g = omega (arith, ints)
 
-number_differs : (k : IntKind) (z : ℤ) (n : ℕ) → (q : ℤ) × (z ≡ pos n +ℤ q *ℤ pos (2 ^ width k)) → (number_of k n ≡ pos n) ⊎ (number_of k n ≡ pos n -ℤ pos (2 ^ width k)) → (q : ℤ) × (z ≡ number_of k n +ℤ q *ℤ pos (2 ^ width k))
+number_differs : (k : IntKind) (z : ℤ) (n : ℕ) → (q : ℤ) × (z ≡ pos n +ℤ q *ℤ pos (2 ^ width k)) →
+    (number_of k n ≡ pos n) ⊎ (number_of k n ≡ pos n -ℤ pos (2 ^ width k)) → (q : ℤ) × (z ≡ number_of k n +ℤ q *ℤ pos (2 ^ width k))
 number_differs k z n (q, e) (inl h) = (q, e ∙ ap (λ x. x +ℤ q *ℤ pos (2 ^ width k)) (sym h))
-number_differs k z n (q, e) (inr h) =
-    (suc_ℤ q, regroup z (number_of k n) (suc_ℤ q *ℤ pos (2 ^ width k)) (pos n) (q *ℤ pos (2 ^ width k)) (pos (2 ^ width k)) e h (suc_ℤ-*ℤ q (pos (2 ^ width k))))
+number_differs k z n (q, e) (inr h) = (
+  suc_ℤ q,
+  regroup z (number_of k n) (suc_ℤ q *ℤ pos (2 ^ width k)) (pos n) (q *ℤ pos (2 ^ width k)) (pos (2 ^ width k)) e h
+      (suc_ℤ-*ℤ q (pos (2 ^ width k))),
+)
 
 -- so do z and the number that it is converted to
 pub converted_differs : (k : IntKind) (z : ℤ) → (q : ℤ) × (z ≡ converted k z +ℤ q *ℤ pos (2 ^ width k))

@@ -121,10 +121,13 @@ module _ (k : IntKind) (a b : ℤ) (fa : FitsSigned w128 a) (fb : FitsSigned w12
   rest : cast_signed w128 (cast_unsigned w128 (int_rem (cast_signed w128 (cast_unsigned w128 a)) (cast_signed w128 (cast_unsigned w128 b)))) ≡ int_rem a b
   rest = rem_is w128 a b fa fb
 
-  pub quotient_value : (cast_unsigned w128 b ≡ 0 → ⊥) → number_or Overflow k (cast_signed w128 (cast_unsigned w128 (int_div (cast_signed w128 (cast_unsigned w128 a)) (cast_signed w128 (cast_unsigned w128 b))))) ≡ quotient k a b
+  pub quotient_value : (cast_unsigned w128 b ≡ 0 → ⊥) → number_or Overflow k
+      (cast_signed w128 (cast_unsigned w128 (int_div (cast_signed w128 (cast_unsigned w128 a)) (cast_signed w128 (cast_unsigned w128 b))))) ≡ quotient k a b
   quotient_value nz = ap (number_or Overflow k) quot ∙ sym (cond-false (unsigned_abs b == 0) _ _ (not_zero b nz))
 
-  module _ (nz : cast_unsigned w128 b ≡ 0 → ⊥) (held : Bool) (e : held ≡ is_in_range k (cast_signed w128 (cast_unsigned w128 (int_div (cast_signed w128 (cast_unsigned w128 a)) (cast_signed w128 (cast_unsigned w128 b)))))) where
+  module _ (nz : cast_unsigned w128 b ≡ 0 → ⊥) (held : Bool)
+      (e : held ≡ is_in_range k (cast_signed w128
+      (cast_unsigned w128 (int_div (cast_signed w128 (cast_unsigned w128 a)) (cast_signed w128 (cast_unsigned w128 b)))))) where
     held_is : held ≡ is_in_range k (int_div a b)
     held_is = e ∙ ap (is_in_range k) quot
 
@@ -133,19 +136,23 @@ module _ (k : IntKind) (a b : ℤ) (fa : FitsSigned w128 a) (fb : FitsSigned w12
         sym (cond-false (is_in_range k (int_div a b)) (Ok (int_rem a b)) (Err Overflow) (sym held_is ∙ f))
         ∙ sym (cond-false (unsigned_abs b == 0) _ _ (not_zero b nz))
 
-    pub remainder_value : held ≡ true → ◌≡◌ {A = Result ℤ Trap} (Ok (cast_signed w128 (cast_unsigned w128 (int_rem (cast_signed w128 (cast_unsigned w128 a)) (cast_signed w128 (cast_unsigned w128 b)))))) (remainder k a b)
+    pub remainder_value : held ≡ true → ◌≡◌ {A = Result ℤ Trap}
+        (Ok (cast_signed w128 (cast_unsigned w128 (int_rem (cast_signed w128 (cast_unsigned w128 a)) (cast_signed w128 (cast_unsigned w128 b))))))
+        (remainder k a b)
     remainder_value t =
         ap Ok rest
         ∙ sym (cond-true (is_in_range k (int_div a b)) (Ok (int_rem a b)) (Err Overflow) (sym held_is ∙ t))
         ∙ sym (cond-false (unsigned_abs b == 0) _ _ (not_zero b nz))
 
-  pub remainder_in_range : IsInRange k (cast_signed w128 (cast_unsigned w128 (int_rem (cast_signed w128 (cast_unsigned w128 a)) (cast_signed w128 (cast_unsigned w128 b)))))
+  pub remainder_in_range : IsInRange k (cast_signed w128
+      (cast_unsigned w128 (int_rem (cast_signed w128 (cast_unsigned w128 a)) (cast_signed w128 (cast_unsigned w128 b)))))
   remainder_in_range = subst (IsInRange k) (sym rest) (rem_in_range k a b h)
 
 -- ---- products
 
 module _ (k : IntKind) (a b : ℤ) (fa : FitsSigned w128 a) (fb : FitsSigned w128 b) (p : IsInRange k a) (q : IsInRange k b) where
-  pub product_value : is_signed k ≡ true → number_or Overflow k (cast_signed w128 (cast_unsigned w128 (cast_signed w128 (cast_unsigned w128 a) *ℤ cast_signed w128 (cast_unsigned w128 b)))) ≡ arith_result Mul k a b
+  pub product_value : is_signed k ≡ true → number_or Overflow k
+      (cast_signed w128 (cast_unsigned w128 (cast_signed w128 (cast_unsigned w128 a) *ℤ cast_signed w128 (cast_unsigned w128 b)))) ≡ arith_result Mul k a b
   unfolding arith_result
   product_value s = ap (number_or Overflow k) (rw (to_z-of_z w128 a fa, to_z-of_z w128 b fb) (to_z-of_z w128 (a *ℤ b) (mul_fits k a b s p q)))
 
@@ -166,7 +173,8 @@ converted-wrapped k n =
 unsigned_result : (trap : Trap) (k : IntKind) (z : ℤ) → is_signed k ≡ false → number_or trap k z ≡ Ok (converted k z)
 unsigned_result trap k z s = grind (arith, s)
 
-pub wrapped_product : (k : IntKind) (a b : ℤ) → is_signed k ≡ false → IsUnsigned a → IsUnsigned b → ◌≡◌ {A = Result ℤ Trap} (Ok (converted k (cast_signed w128 ((cast_unsigned w128 a * cast_unsigned w128 b) % 2 ^ 128)))) (arith_result Mul k a b)
+pub wrapped_product : (k : IntKind) (a b : ℤ) → is_signed k ≡ false → IsUnsigned a → IsUnsigned b →
+    ◌≡◌ {A = Result ℤ Trap} (Ok (converted k (cast_signed w128 ((cast_unsigned w128 a * cast_unsigned w128 b) % 2 ^ 128)))) (arith_result Mul k a b)
 unfolding arith_result
 wrapped_product k _ _ s (unsigned x p) (unsigned y q) =
     ap Ok (converted-wrapped k (x * y)) ∙ sym (unsigned_result Overflow k (pos (x * y)) s)
@@ -186,10 +194,12 @@ width_at_most UInt = omega arith
 width_at_most Long = omega arith
 width_at_most ULong = omega arith
 
-wrapped : (k : IntKind) (a : ℤ) (n : ℕ) → is_signed k ≡ false → IsUnsigned a → ◌≡◌ {A = Result ℤ Trap} (Ok (converted k (cast_signed w128 ((cast_unsigned w128 a * 2 ^ n) % 2 ^ 128)))) (number_or Shift k (a *ℤ pos (2 ^ n)))
+wrapped : (k : IntKind) (a : ℤ) (n : ℕ) → is_signed k ≡ false → IsUnsigned a →
+    ◌≡◌ {A = Result ℤ Trap} (Ok (converted k (cast_signed w128 ((cast_unsigned w128 a * 2 ^ n) % 2 ^ 128)))) (number_or Shift k (a *ℤ pos (2 ^ n)))
 wrapped k _ n s (unsigned x p) = ap Ok (converted-wrapped k (x * 2 ^ n)) ∙ sym (unsigned_result Shift k (pos (x * 2 ^ n)) s)
 
-whole : (k : IntKind) (a : ℤ) (n : ℕ) → IsInRange k a → is_negative a ≡ false → n < 64 → number_or Shift k (cast_signed w128 ((cast_unsigned w128 a * 2 ^ n) % 2 ^ 128)) ≡ number_or Shift k (a *ℤ pos (2 ^ n))
+whole : (k : IntKind) (a : ℤ) (n : ℕ) → IsInRange k a → is_negative a ≡ false → n < 64 →
+    number_or Shift k (cast_signed w128 ((cast_unsigned w128 a * 2 ^ n) % 2 ^ 128)) ≡ number_or Shift k (a *ℤ pos (2 ^ n))
 whole k (pos x) n h t l =
     let small : x < 2 ^ 64 = abs_below k (pos x) h in
     let fits : x * 2 ^ n < 2 ^ 127 = rw (← shl_whole x 64 n 127 small (omega arith)) (mod_below (x * 2 ^ n) (2 ^ 127) (pow_pos 127)) in
@@ -206,14 +216,16 @@ module _ (k : IntKind) (a b : ℤ) (n : ℕ) (fb : FitsSigned w128 b) (e : Some 
   by_count = ap (λ o. option_map_or (shifted_left k a) o (Err Shift)) the_count
 
   -- an unsigned kind keeps what is left of the bits
-  pub wrapped_shift : is_signed k ≡ false → IsUnsigned a → ◌≡◌ {A = Result ℤ Trap} (Ok (converted k (cast_signed w128 ((cast_unsigned w128 a * 2 ^ n) % 2 ^ 128)))) (arith_result Shl k a b)
+  pub wrapped_shift : is_signed k ≡ false → IsUnsigned a → ◌≡◌ {A = Result ℤ Trap}
+      (Ok (converted k (cast_signed w128 ((cast_unsigned w128 a * 2 ^ n) % 2 ^ 128)))) (arith_result Shl k a b)
   wrapped_shift s u =
       wrapped k a n s u
       ∙ sym (cond-false (is_signed k && is_negative a) _ _ (and_left (is_signed k) (is_negative a) s))
       ∙ by_count
 
   -- a number that is not negative is shifted whole
-  pub shift_value : IsInRange k a → int_lt (cast_signed w128 (cast_unsigned w128 a)) (pos 0) ≡ false → FitsSigned w128 a → number_or Shift k (cast_signed w128 ((cast_unsigned w128 a * 2 ^ n) % 2 ^ 128)) ≡ arith_result Shl k a b
+  pub shift_value : IsInRange k a → int_lt (cast_signed w128 (cast_unsigned w128 a)) (pos 0) ≡ false → FitsSigned w128 a →
+      number_or Shift k (cast_signed w128 ((cast_unsigned w128 a * 2 ^ n) % 2 ^ 128)) ≡ arith_result Shl k a b
   shift_value h t fa =
       whole k a n h negative (lt_of_lt_of_le (count_below k b n the_count) (width_at_most k))
       ∙ sym (cond-false (is_signed k && is_negative a) _ _ (and_right (is_signed k) (is_negative a) negative))
@@ -250,7 +262,8 @@ and_below : (k x y : ℕ) → x < 2 ^ k → y < 2 ^ k → bit_and x y < 2 ^ k
 and_below k x y p q = lt_of_le_of_lt (and_le_l x y) p
 
 module _ (k : IntKind) (a b : ℤ) (fa : FitsSigned w128 a) (fb : FitsSigned w128 b) where
-  of_op : (op : ℕ → ℕ → ℕ) → ((j x y : ℕ) → x < 2 ^ j → y < 2 ^ j → op x y < 2 ^ j) → ((x y j : ℕ) → op x y % 2 ^ j ≡ op (x % 2 ^ j) (y % 2 ^ j)) → converted k (cast_signed w128 (op (cast_unsigned w128 a) (cast_unsigned w128 b))) ≡ number_of k (op (residue k a) (residue k b))
+  of_op : (op : ℕ → ℕ → ℕ) → ((j x y : ℕ) → x < 2 ^ j → y < 2 ^ j → op x y < 2 ^ j) → ((x y j : ℕ) → op x y % 2 ^ j ≡ op (x % 2 ^ j) (y % 2 ^ j)) →
+      converted k (cast_signed w128 (op (cast_unsigned w128 a) (cast_unsigned w128 b))) ≡ number_of k (op (residue k a) (residue k b))
   unfolding converted
   of_op op below apart =
       ap (number_of k) (

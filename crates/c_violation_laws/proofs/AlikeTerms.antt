@@ -34,7 +34,8 @@ module _ (word : ℕ → List ℕ) (ms ss : List Scope) (m : AreMaps ms ss) wher
     form_alike (Constant at) = refl
     form_alike (Variable at) = λ i. named at (word at) (same (word at) i)
     form_alike (Cell at x) = λ i. reading (cell_target (variable_of (word at) (same (word at) i)) (value_of (typed_alike x i)))
-    form_alike (Prefix k a) = λ i. elim (step_of (mark_of (word k))) [ Some up ↦ counting up false (writable (target_alike a i)) | None ↦ unary (unary_op (mark_of (word k))) (value_of (typed_alike a i)) ]
+    form_alike (Prefix k a) = λ i. elim (step_of (mark_of (word k)))
+        [ Some up ↦ counting up false (writable (target_alike a i)) | None ↦ unary (unary_op (mark_of (word k))) (value_of (typed_alike a i)) ]
     form_alike (Suffix k a) = λ i. counting (counts_up (mark_of (word k))) true (writable (target_alike a i))
     form_alike (CastTo words a) = λ i. cast (kind_of word words) (value_of (typed_alike a i))
     form_alike (CastVoid a) = λ i. cast_void (dropped (typed_alike a i))
@@ -48,7 +49,8 @@ module _ (word : ℕ → List ℕ) (ms ss : List Scope) (m : AreMaps ms ss) wher
 
     commas_alike : (x y : Typed) → x ≡ y → (bs : Terms) → commas the_maps x bs ≡ commas the_texts y bs
     commas_alike x y e NoTerm = e
-    commas_alike x y e (Then b bs) = commas_alike (comma (dropped x) (typed the_maps b)) (comma (dropped y) (typed the_texts b)) (λ i. comma (dropped (e i)) (typed_alike b i)) bs
+    commas_alike x y e (Then b bs) = commas_alike (comma (dropped x) (typed the_maps b)) (comma (dropped y) (typed the_texts b))
+        (λ i. comma (dropped (e i)) (typed_alike b i)) bs
 
     pub target_alike : (t : Term) → target_of the_maps t ≡ target_of the_texts t
     target_alike (At first form) = form_target_alike form

@@ -20,14 +20,17 @@ to : {A : Type 0} (P : List A → A → Type 0) (before xs : List A) → Behind 
 to P before [] h = h
 to P before (x ∷ xs) (inl p) = inl (subst (λ l. P l x) (sym (append-nil before)) p)
 to P before (x ∷ xs) (inr h) =
-    inr (some_as (λ front. P ((before ++ x ∷ []) ++ front)) (λ front. P (before ++ x ∷ front)) (λ front y. subst (λ l. P l y) (append_assoc before (x ∷ []) front)) xs (to P (before ++ x ∷ []) xs h))
+    inr (some_as (λ front. P ((before ++ x ∷ []) ++ front)) (λ front. P (before ++ x ∷ front))
+    (λ front y. subst (λ l. P l y) (append_assoc before (x ∷ []) front)) xs (to P (before ++ x ∷ []) xs h))
 
 fro : {A : Type 0} (P : List A → A → Type 0) (before xs : List A) → SomeBehind (λ front. P (before ++ front)) xs → Behind P before xs
 fro P before [] s = s
 fro P before (x ∷ xs) (inl p) = inl (subst (λ l. P l x) (append-nil before) p)
 fro P before (x ∷ xs) (inr s) =
     inr (fro P (before ++ x ∷ []) xs
-    (some_as (λ front. P (before ++ x ∷ front)) (λ front. P ((before ++ x ∷ []) ++ front)) (λ front y. subst (λ l. P l y) (sym (append_assoc before (x ∷ []) front))) xs s))
+    (some_as (λ front. P (before ++ x ∷ front)) (λ front. P ((before ++ x ∷ []) ++ front))
+    (λ front y. subst (λ l. P l y) (sym (append_assoc before (x ∷ []) front))) xs s))
 
-pub finds_behind : {A : Type 0} (f : Faults → Faults) (P : Fault → List A → A → Type 0) (xs : List A) → Finds f (λ v. Behind (P v) [] xs) → Finds f (λ v. SomeBehind (P v) xs)
+pub finds_behind : {A : Type 0} (f : Faults → Faults) (P : Fault → List A → A → Type 0) (xs : List A) → Finds f (λ v. Behind (P v) [] xs) →
+    Finds f (λ v. SomeBehind (P v) xs)
 finds_behind f P xs h = finds_same f (λ v. Behind (P v) [] xs) (λ v. SomeBehind (P v) xs) h (λ v. to (P v) [] xs) (λ v. fro (P v) [] xs)

@@ -12,7 +12,8 @@ pub not_there : (name : List ℕ) (s : Scope) → found name s ≡ None → Decl
 not_there name [] e = tt
 not_there name (d ∷ ds) e = by (bytes_eq name d.0) refl (λ g. not_there name ds g) e
   where
-    by : (b : Bool) → bytes_eq name d.0 ≡ b → (found name ds ≡ None → DeclaresNot name ds) → cond b (Some d.1) (found name ds) ≡ None → DeclaresNot name (d ∷ ds)
+    by : (b : Bool) → bytes_eq name d.0 ≡ b → (found name ds ≡ None → DeclaresNot name ds) → cond b (Some d.1) (found name ds) ≡ None →
+        DeclaresNot name (d ∷ ds)
     by true i f e = cc
     by false i f e = (other name d.0 i, f e)
 
@@ -28,7 +29,8 @@ pub there : (name : List ℕ) (b : Binding) (s : Scope) → found name s ≡ Som
 there name b [] e = cc
 there name b (d ∷ ds) e = by (bytes_eq name d.0) refl (λ g. there name b ds g) e
   where
-    by : (t : Bool) → bytes_eq name d.0 ≡ t → (found name ds ≡ Some b → DeclaresAs name b ds) → cond t (Some d.1) (found name ds) ≡ Some b → DeclaresAs name b (d ∷ ds)
+    by : (t : Bool) → bytes_eq name d.0 ≡ t → (found name ds ≡ Some b → DeclaresAs name b ds) → cond t (Some d.1) (found name ds) ≡ Some b →
+        DeclaresAs name b (d ∷ ds)
     by true i f e = let same : d.1 ≡ b = cc in inl (sym (same_names name d.0 i), same)
     by false i f e = inr (other name d.0 i, f e)
 
@@ -36,7 +38,8 @@ pub there_back : (name : List ℕ) (b : Binding) (s : Scope) → DeclaresAs name
 there_back name b [] h = absurd h
 there_back name b (d ∷ ds) h = by (bytes_eq name d.0) refl (λ g. there_back name b ds g) h
   where
-    by : (t : Bool) → bytes_eq name d.0 ≡ t → (DeclaresAs name b ds → found name ds ≡ Some b) → DeclaresAs name b (d ∷ ds) → cond t (Some d.1) (found name ds) ≡ Some b
+    by : (t : Bool) → bytes_eq name d.0 ≡ t → (DeclaresAs name b ds → found name ds ≡ Some b) → DeclaresAs name b (d ∷ ds) →
+        cond t (Some d.1) (found name ds) ≡ Some b
     by true i f (inl p) = ap Some p.1
     by true i f (inr p) = absurd (p.0 (sym (same_names name d.0 i)))
     by false i f (inl p) = absurd (true≢false (sym (names_same name d.0 (sym p.0)) ∙ i))
@@ -60,7 +63,8 @@ pub bound_of : (name : List ℕ) (b : Binding) (ss : List Scope) → look_up ss 
 bound_of name b [] e = cc
 bound_of name b (s ∷ ss) e = by (found name s) refl (λ g. bound_of name b ss g) e
   where
-    by : (o : Option Binding) → found name s ≡ o → (look_up ss name ≡ Some b → IsBoundTo name b ss) → or_else o (look_up ss name) ≡ Some b → IsBoundTo name b (s ∷ ss)
+    by : (o : Option Binding) → found name s ≡ o → (look_up ss name ≡ Some b → IsBoundTo name b ss) → or_else o (look_up ss name) ≡ Some b →
+        IsBoundTo name b (s ∷ ss)
     by (Some x) i f e = inl (there name b s (i ∙ e))
     by None i f e = inr (not_there name s i, f e)
 

@@ -97,7 +97,8 @@ number_rule first _ v = ⊥
 
 abbrev array_rule : IntKind → Bool → Bool → ℕ → Typed → Rule
 array_rule kind constant external first (Array a) v =
-    (((not (same_kind kind a.kind) ≡ true) × (v ≡ broken first 22)) ⊎ (((a.constant && not constant) ≡ true) × (v ≡ broken a.token 26))) ⊎ ((external ≡ true) × (v ≡ broken first 38))
+    (((not (same_kind kind a.kind) ≡ true) × (v ≡ broken first 22)) ⊎ (((a.constant && not constant) ≡ true) × (v ≡ broken a.token 26))) ⊎
+    ((external ≡ true) × (v ≡ broken first 38))
 array_rule kind constant external first (Value x) v = v ≡ broken first 22
 array_rule kind constant external first (Void n) v = v ≡ broken first 24
 array_rule kind constant external first (Text bytes) v = v ≡ broken first 40
@@ -122,7 +123,8 @@ number_finds first Wrong = finds_none
 argument_finds : (w : Want) (first : ℕ) (x : Typed) → Finds (argument_fault w first x) (argument_rule w first x)
 argument_finds (want.Number kind constant) first x = number_finds first x
 argument_finds (want.Array kind constant external) first (Array a) =
-    finds_both _ _ _ _ (finds_both _ _ _ _ (finds_if (not (same_kind kind a.kind)) first 22) (finds_if (a.constant && not constant) a.token 26)) (finds_if external first 38)
+    finds_both _ _ _ _ (finds_both _ _ _ _ (finds_if (not (same_kind kind a.kind)) first 22) (finds_if (a.constant && not constant) a.token 26))
+    (finds_if external first 38)
 argument_finds (want.Array kind constant external) first (Value x) = finds_fault first 22
 argument_finds (want.Array kind constant external) first (Void n) = finds_fault first 24
 argument_finds (want.Array kind constant external) first (Text bytes) = finds_fault first 40
@@ -165,11 +167,13 @@ module _ (env : Env) (x : Term) where
   is_array : (w : Want) (a : ArrayName) (v : Fault) → WantsNumber w → typed env x ≡ Array a → v ≡ broken (first_of x) 22 → Breaks w v
   is_array w a v i e g = inl (subst (ArgumentBreaks env x w) (sym g) (ArgumentBreaks.array_for_number a i (of_array a e)))
 
-  is_const : (kind : IntKind) (constant external : Bool) (a : ArrayName) → typed env x ≡ Array a → (a.constant && not constant) ≡ true → ArgumentBreaks env x (want.Array kind constant external) (broken a.token 26)
+  is_const : (kind : IntKind) (constant external : Bool) (a : ArrayName) → typed env x ≡ Array a → (a.constant && not constant) ≡ true →
+      ArgumentBreaks env x (want.Array kind constant external) (broken a.token 26)
   is_const kind true external a e g = absurd (true≢false (sym (and_right a.constant false g)))
   is_const kind false external a e g = ArgumentBreaks.const_handed a (of_array a e) (and_left a.constant true g)
 
-  is_given : (kind : IntKind) (constant external : Bool) (a : ArrayName) → typed env x ≡ Array a → external ≡ true → ArgumentBreaks env x (want.Array kind constant external) (broken (first_of x) 38)
+  is_given : (kind : IntKind) (constant external : Bool) (a : ArrayName) → typed env x ≡ Array a → external ≡ true →
+      ArgumentBreaks env x (want.Array kind constant external) (broken (first_of x) 38)
   is_given kind constant true a e g = ArgumentBreaks.array_given_away a (of_array a e)
   is_given kind constant false a e g = absurd (true≢false (sym g))
 
@@ -179,14 +183,19 @@ module _ (env : Env) (x : Term) where
   to (want.Number kind constant) (Array a) e v g = is_array (want.Number kind constant) a v tt e g
   to (want.Number kind constant) (Value y) e v g = absurd g
   to (want.Number kind constant) Wrong e v g = absurd g
-  to (want.Array kind constant external) (Value y) e v g = inl (subst (ArgumentBreaks env x (want.Array kind constant external)) (sym g) (ArgumentBreaks.number_for_array y (of_value y e)))
+  to (want.Array kind constant external) (Value y) e v g = inl
+      (subst (ArgumentBreaks env x (want.Array kind constant external)) (sym g) (ArgumentBreaks.number_for_array y (of_value y e)))
   to (want.Array kind constant external) (Void n) e v g = is_void (want.Array kind constant external) n v e g
   to (want.Array kind constant external) (Text bytes) e v g = is_text (want.Array kind constant external) bytes v e g
-  to (want.Array kind constant external) (Array a) e v (inl (inl p)) = inl (subst (ArgumentBreaks env x (want.Array kind constant external)) (sym p.1) (ArgumentBreaks.other_kind a (of_array a e) (differ kind a.kind p.0)))
-  to (want.Array kind constant external) (Array a) e v (inl (inr p)) = inl (subst (ArgumentBreaks env x (want.Array kind constant external)) (sym p.1) (is_const kind constant external a e p.0))
-  to (want.Array kind constant external) (Array a) e v (inr p) = inl (subst (ArgumentBreaks env x (want.Array kind constant external)) (sym p.1) (is_given kind constant external a e p.0))
+  to (want.Array kind constant external) (Array a) e v (inl (inl p)) =
+      inl (subst (ArgumentBreaks env x (want.Array kind constant external)) (sym p.1) (ArgumentBreaks.other_kind a (of_array a e) (differ kind a.kind p.0)))
+  to (want.Array kind constant external) (Array a) e v (inl (inr p)) =
+      inl (subst (ArgumentBreaks env x (want.Array kind constant external)) (sym p.1) (is_const kind constant external a e p.0))
+  to (want.Array kind constant external) (Array a) e v (inr p) = inl
+      (subst (ArgumentBreaks env x (want.Array kind constant external)) (sym p.1) (is_given kind constant external a e p.0))
   to (want.Array kind constant external) Wrong e v g = absurd g
-  to (want.Sized wide) (Value y) e v g = inl (subst (ArgumentBreaks env x (want.Sized wide)) (sym g.1) (ArgumentBreaks.other_size y (of_value y e) (truths wide (is_wide y.kind) g.0)))
+  to (want.Sized wide) (Value y) e v g = inl (subst (ArgumentBreaks env x (want.Sized wide)) (sym g.1)
+      (ArgumentBreaks.other_size y (of_value y e) (truths wide (is_wide y.kind) g.0)))
   to (want.Sized wide) (Void n) e v g = is_void (want.Sized wide) n v e g
   to (want.Sized wide) (Text bytes) e v g = is_text (want.Sized wide) bytes v e g
   to (want.Sized wide) (Array a) e v g = is_array (want.Sized wide) a v tt e g
@@ -229,10 +238,12 @@ module _ (env : Env) (x : Term) where
   fro w v (inr t) = known w (Text t.0) v t.1 (subst (argument_rule w (first_of x) (Text t.0)) (sym t.2) (text_rule w t.0))
 
   one_argument : (w : Want) → Finds (argument_fault w (first_of x) (typed env x)) (Breaks w)
-  one_argument w = finds_same _ (argument_rule w (first_of x) (typed env x)) (Breaks w) (argument_finds w (first_of x) (typed env x)) (to w (typed env x) refl) (fro w)
+  one_argument w = finds_same _ (argument_rule w (first_of x) (typed env x)) (Breaks w) (argument_finds w (first_of x) (typed env x))
+      (to w (typed env x) refl) (fro w)
 
   text_finds : (y : Typed) → typed env x ≡ y → Finds (text_fault (first_of x) y) IsText
-  text_finds (Text bytes) e = finds_same (fault (first_of x) 40) (λ v. v ≡ broken (first_of x) 40) IsText (finds_fault (first_of x) 40) (λ v g. (bytes, of_text bytes e, g)) (λ v t. t.2)
+  text_finds (Text bytes) e = finds_same (fault (first_of x) 40) (λ v. v ≡ broken (first_of x) 40) IsText (finds_fault (first_of x) 40)
+      (λ v g. (bytes, of_text bytes e, g)) (λ v t. t.2)
   text_finds (Value y) e = finds_nothing IsText (λ v t. let q : ◌≡◌ {A = Typed} (Value y) (Text t.0) = same (Value y) (Text t.0) e t.1 in cc)
   text_finds (Void n) e = finds_nothing IsText (λ v t. let q : ◌≡◌ {A = Typed} (Void n) (Text t.0) = same (Void n) (Text t.0) e t.1 in cc)
   text_finds (Array a) e = finds_nothing IsText (λ v t. let q : ◌≡◌ {A = Typed} (Array a) (Text t.0) = same (Array a) (Text t.0) e t.1 in cc)
@@ -243,7 +254,8 @@ module _ (env : Env) (x : Term) where
 module _ (env : Env) where
   texts : (xs : Terms) → Finds (text_faults (given env xs)) (λ v. HasText env xs v)
   texts NoTerm = finds_none
-  texts (Then x xs) = finds_both (text_fault (first_of x) (typed env x)) (text_faults (given env xs)) (λ v. IsText env x v) (λ v. HasText env xs v) (text_finds env x (typed env x) refl) (texts xs)
+  texts (Then x xs) = finds_both (text_fault (first_of x) (typed env x)) (text_faults (given env xs)) (λ v. IsText env x v) (λ v. HasText env xs v)
+      (text_finds env x (typed env x) refl) (texts xs)
 
   crossed : (P Q R S : Rule) (v : Fault) → (P v ⊎ Q v) ⊎ (R v ⊎ S v) → (P v ⊎ R v) ⊎ (Q v ⊎ S v)
   crossed P Q R S v (inl (inl p)) = inl (inl p)
@@ -254,7 +266,8 @@ module _ (env : Env) where
   less : (n m : ℕ) → suc n ≡ suc m → n ≡ m
   less n m e = cc
 
-  arguments : (ws : List Want) (xs : Terms) → length ws ≡ count xs → Finds (argument_faults ws (given env xs)) (λ v. SomeArgumentBreaks env ws xs v ⊎ HasText env xs v)
+  arguments : (ws : List Want) (xs : Terms) → length ws ≡ count xs → Finds (argument_faults ws (given env xs))
+      (λ v. SomeArgumentBreaks env ws xs v ⊎ HasText env xs v)
   arguments [] NoTerm e = finds_nothing _ (λ v h. elim h [ inl p ↦ p | inr q ↦ q ])
   arguments [] (Then x xs) e = absurd (zero_suc (count xs) e)
     where
@@ -266,7 +279,8 @@ module _ (env : Env) where
       suc_zero n e = cc
   arguments (w ∷ ws) (Then x xs) e =
       finds_same (argument_faults (w ∷ ws) (given env (Then x xs))) _ (λ v. SomeArgumentBreaks env (w ∷ ws) (Then x xs) v ⊎ HasText env (Then x xs) v)
-      (finds_both (argument_fault w (first_of x) (typed env x)) (argument_faults ws (given env xs)) (λ v. Breaks env x w v) (λ v. SomeArgumentBreaks env ws xs v ⊎ HasText env xs v)
+      (finds_both (argument_fault w (first_of x) (typed env x)) (argument_faults ws (given env xs)) (λ v. Breaks env x w v)
+      (λ v. SomeArgumentBreaks env ws xs v ⊎ HasText env xs v)
       (one_argument env x w) (arguments ws xs (less (length ws) (count xs) e)))
       (crossed (λ v. ArgumentBreaks env x w v) (λ v. IsText env x v) (λ v. SomeArgumentBreaks env ws xs v) (λ v. HasText env xs v))
       (crossed (λ v. ArgumentBreaks env x w v) (λ v. SomeArgumentBreaks env ws xs v) (λ v. IsText env x v) (λ v. HasText env xs v))
@@ -277,15 +291,18 @@ module _ (env : Env) where
 
   -- as many arguments as are wanted, or not
   abbrev WantedRule : ℕ → ℕ → List Want → Terms → Rule
-  WantedRule at reason ws xs v = (HasText env xs v ⊎ ((length ws ≢ count xs) × (v ≡ broken at reason))) ⊎ ((length ws ≡ count xs) × SomeArgumentBreaks env ws xs v)
+  WantedRule at reason ws xs v = (HasText env xs v ⊎ ((length ws ≢ count xs) × (v ≡ broken at reason))) ⊎
+      ((length ws ≡ count xs) × SomeArgumentBreaks env ws xs v)
 
   wanted_finds : (at reason : ℕ) (ws : List Want) (xs : Terms) → Finds (wanted_faults at reason ws (given env xs)) (WantedRule at reason ws xs)
   wanted_finds at reason ws xs = by (length ws == length (given env xs)) refl
     where
-      by : (b : Bool) → (length ws == length (given env xs)) ≡ b → Finds (λ vs. cond b (argument_faults ws (given env xs) vs) (fault at reason (text_faults (given env xs) vs))) (WantedRule at reason ws xs)
+      by : (b : Bool) → (length ws == length (given env xs)) ≡ b → Finds
+          (λ vs. cond b (argument_faults ws (given env xs) vs) (fault at reason (text_faults (given env xs) vs))) (WantedRule at reason ws xs)
       by true e =
           let same : length ws ≡ count xs = eqb-true (length ws) (length (given env xs)) e ∙ counted xs in
-          finds_same (argument_faults ws (given env xs)) (λ v. SomeArgumentBreaks env ws xs v ⊎ HasText env xs v) (WantedRule at reason ws xs) (arguments ws xs same)
+          finds_same (argument_faults ws (given env xs)) (λ v. SomeArgumentBreaks env ws xs v ⊎ HasText env xs v) (WantedRule at reason ws xs)
+          (arguments ws xs same)
           (λ v h. elim h [ inl p ↦ inr (same, p) | inr q ↦ inl (inl q) ])
           (λ v h. elim h [ inl p ↦ elim p [ inl q ↦ inr q | inr r ↦ absurd (r.0 same) ] | inr r ↦ inl r.1 ])
       by false e =
@@ -304,7 +321,8 @@ module _ (env : Env) where
 
     no_function : (b : Binding) → IsNoFunction b → b ≢ Printf → (xs : Terms) → Finds (λ vs. fault at 22 (text_faults (given env xs) vs)) (λ v. Handed b xs v)
     no_function b i p xs =
-        finds_same (λ vs. fault at 22 (text_faults (given env xs) vs)) _ (λ v. Handed b xs v) (finds_both (text_faults (given env xs)) (fault at 22) _ _ (texts xs) (finds_fault at 22))
+        finds_same (λ vs. fault at 22 (text_faults (given env xs) vs)) _ (λ v. Handed b xs v)
+        (finds_both (text_faults (given env xs)) (fault at 22) _ _ (texts xs) (finds_fault at 22))
         (λ v h. elim h [ inl q ↦ inr (p, q) | inr e ↦ inl (subst (CalledBreaks env at b xs) (sym e) (CalledBreaks.no_function i)) ])
         (λ v h. elim h [ inl c ↦ only b i xs v c | inr q ↦ inl q.1 ])
       where
@@ -319,7 +337,8 @@ module _ (env : Env) where
         only b i xs v (CalledBreaks.text_printed h) = absurd i
 
     function_called : (s : Signature) (xs : Terms) → Finds (wanted_faults at 23 s.wants (given env xs)) (λ v. Handed (Function s) xs v)
-    function_called s xs = finds_same (wanted_faults at 23 s.wants (given env xs)) _ (λ v. Handed (Function s) xs v) (wanted_finds at 23 s.wants xs) to_call from_call
+    function_called s xs = finds_same (wanted_faults at 23 s.wants (given env xs)) _ (λ v. Handed (Function s) xs v) (wanted_finds at 23 s.wants xs)
+        to_call from_call
       where
         no_printf : ◌≡◌ {A = Binding} (Function s) Printf → ⊥
         no_printf e = cc
@@ -351,9 +370,11 @@ module _ (env : Env) where
       text_of_none Wrong i = refl
 
       -- at the format, and texts behind it
-      one_place : (Printed (broken at 40)) → ((v : Fault) → Printed v → HasText env xs v ⊎ (v ≡ broken at 40)) → Finds (λ vs. fault at 40 (text_faults (given env xs) vs)) Printed
+      one_place : (Printed (broken at 40)) → ((v : Fault) → Printed v → HasText env xs v ⊎ (v ≡ broken at 40)) →
+          Finds (λ vs. fault at 40 (text_faults (given env xs) vs)) Printed
       one_place there only =
-          finds_same (λ vs. fault at 40 (text_faults (given env xs) vs)) _ Printed (finds_both (text_faults (given env xs)) (fault at 40) _ _ (texts xs) (finds_fault at 40))
+          finds_same (λ vs. fault at 40 (text_faults (given env xs) vs)) _ Printed
+          (finds_both (text_faults (given env xs)) (fault at 40) _ _ (texts xs) (finds_fault at 40))
           (λ v h. elim h [ inl q ↦ CalledBreaks.text_printed q | inr e ↦ subst Printed (sym e) there ]) only
 
       no_text : ((bytes : List ℕ) → Means env f (Text bytes) → ⊥) → Finds (λ vs. fault at 40 (text_faults (given env xs) vs)) Printed
@@ -407,7 +428,8 @@ module _ (env : Env) where
           from_call v (CalledBreaks.no_format i) = absurd (i bytes e)
           from_call v (CalledBreaks.other_conversion a k h) = absurd (h ws (wants a k))
           from_call v (CalledBreaks.other_count a us k h n) = inl (inr (subst (λ z. length z ≢ count xs) (same_wants a us k h) n, refl))
-          from_call v (CalledBreaks.printed a us k h n j) = inr (subst (λ z. (length z ≡ count xs) × SomeArgumentBreaks env z xs v) (same_wants a us k h) (n, j))
+          from_call v (CalledBreaks.printed a us k h n j) = inr
+              (subst (λ z. (length z ≡ count xs) × SomeArgumentBreaks env z xs v) (same_wants a us k h) (n, j))
           from_call v (CalledBreaks.text_printed h) = inl (inl h)
 
       by_wants : (bytes : List ℕ) (o : Option (List Want)) → Means env f (Text bytes) → wanted bytes ≡ o → Finds (printing_faults at o (given env xs)) Printed
@@ -422,7 +444,8 @@ module _ (env : Env) where
       by_format Wrong e = no_text (λ bytes h. let q : ◌≡◌ {A = Typed} Wrong (Text bytes) = same env f Wrong (Text bytes) e h in cc)
 
     printf_called : (xs : Terms) → Finds (printf_faults at (given env xs)) (λ v. CalledBreaks env at Printf xs v)
-    printf_called NoTerm = finds_same (fault at 40) (λ v. v ≡ broken at 40) _ (finds_fault at 40) (λ v e. subst (CalledBreaks env at Printf NoTerm) (sym e) (CalledBreaks.no_format tt)) only
+    printf_called NoTerm = finds_same (fault at 40) (λ v. v ≡ broken at 40) _ (finds_fault at 40)
+        (λ v e. subst (CalledBreaks env at Printf NoTerm) (sym e) (CalledBreaks.no_format tt)) only
       where
         only : (v : Fault) → CalledBreaks env at Printf NoTerm v → v ≡ broken at 40
         only v (CalledBreaks.no_function j) = absurd j
@@ -440,8 +463,13 @@ module _ (env : Env) where
 
     by_meaning : (m : Option Binding) → meaning env at ≡ m → (xs : Terms) → Finds (call_faults at m (given env xs)) (λ v. CallBreaks env at xs v)
     by_meaning None e xs =
-        finds_same (λ vs. fault at 20 (text_faults (given env xs) vs)) _ (λ v. CallBreaks env at xs v) (finds_both (text_faults (given env xs)) (fault at 20) _ _ (texts xs) (finds_fault at 20))
-        (λ v h. elim h [ inl q ↦ CallBreaks.text_handed (λ h. not_bound env at Printf h e) q | inr g ↦ subst (CallBreaks env at xs) (sym g) (CallBreaks.undeclared u) ]) only
+        finds_same (λ vs. fault at 20 (text_faults (given env xs) vs)) _ (λ v. CallBreaks env at xs v)
+        (finds_both (text_faults (given env xs)) (fault at 20) _ _ (texts xs) (finds_fault at 20))
+        (λ v h. elim h [
+          | inl q ↦ CallBreaks.text_handed (λ h. not_bound env at Printf h e) q
+          | inr g ↦ subst (CallBreaks env at xs) (sym g)
+              (CallBreaks.undeclared u)
+        ]) only
       where
         u : IsUnbound (env.word at) env.scopes
         u = unbound_of (env.word at) env.scopes e

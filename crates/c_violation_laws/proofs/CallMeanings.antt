@@ -99,10 +99,12 @@ one_array k c false a {ws} {xs} {es} e h =
     subst (λ j. AreHanded (want.Array j c false ∷ ws) (Array a ∷ xs) (expression_of (Some a.kind) (node.Array a.home) ∷ es)) (sym (same_kind_is k a.kind p.0))
     (array (const_is a.constant c p.1) h)
 
-one_handed : (w : Want) (x : Typed) {ws : List Want} {xs : List Typed} {es : List Expression} → fits w x ≡ true → AreHanded ws xs es → AreHanded (w ∷ ws) (x ∷ xs) (handed x ++ es)
+one_handed : (w : Want) (x : Typed) {ws : List Want} {xs : List Typed} {es : List Expression} → fits w x ≡ true → AreHanded ws xs es →
+    AreHanded (w ∷ ws) (x ∷ xs) (handed x ++ es)
 one_handed (want.Number k c) (Value v) e h = number h
 one_handed (want.Array k c x) (Array a) e h = one_array k c x a e h
-one_handed (want.Sized w) (Value v) {ws} {xs} {es} e h = subst (λ b. AreHanded (want.Sized b ∷ ws) (Value v ∷ xs) (expression v ∷ es)) (sym (same_truth_is w (is_wide v.kind) e)) (sized h)
+one_handed (want.Sized w) (Value v) {ws} {xs} {es} e h = subst (λ b. AreHanded (want.Sized b ∷ ws) (Value v ∷ xs) (expression v ∷ es))
+    (sym (same_truth_is w (is_wide v.kind) e)) (sized h)
 one_handed _ _ e h = cc
 
 pub handed_of : (ws : List Want) (gs : List Given) → all_fit ws gs ≡ true → AreHanded ws (types gs) (all_handed gs)
@@ -117,7 +119,8 @@ pub record Fit (ws : List Want) (gs : List Given) (es : List Expression) : Type 
   pub fit : all_fit ws gs ≡ true
   pub handed_is : all_handed gs ≡ es
 
-one_fit : (w : Want) (ws : List Want) (g : Given) (gs : List Given) (es : List Expression) (x : Typed) → g.typed ≡ x → fits w x ≡ true → Fit ws gs es → Fit (w ∷ ws) (g ∷ gs) (handed x ++ es)
+one_fit : (w : Want) (ws : List Want) (g : Given) (gs : List Given) (es : List Expression) (x : Typed) → g.typed ≡ x → fits w x ≡ true →
+    Fit ws gs es → Fit (w ∷ ws) (g ∷ gs) (handed x ++ es)
 one_fit w ws g gs es x e f r = record {
   fit = fit_more w ws g gs ∙ ap (λ y. fits w y && all_fit ws gs) e ∙ ap (λ b. b && all_fit ws gs) f ∙ r.fit;
   handed_is = ap (λ y. handed y ++ all_handed gs) e ∙ ap (λ l. handed x ++ l) r.handed_is;
@@ -134,10 +137,12 @@ fit_of (g ∷ gs) (number {v} {k} {c} {ws} {xs} {es} h) e =
 fit_of (g ∷ gs) (array {a} {constant} {ws} {xs} {es} i h) e =
     let d : g.typed ≡ Array a = cc in
     let f : types gs ≡ xs = cc in
-    let s : array_fits a.kind constant false a ≡ true = ap (λ b. (b && (constant || not a.constant)) && true) (is_same_kind a.kind) ∙ ap (λ b. b && true) (is_const a.constant constant i) in
+    let s : array_fits a.kind constant false a ≡ true = ap (λ b. (b && (constant || not a.constant)) && true) (is_same_kind a.kind) ∙
+    ap (λ b. b && true) (is_const a.constant constant i) in
     one_fit (want.Array a.kind constant false) ws g gs es (Array a) d s (fit_of gs h f)
 fit_of (g ∷ gs) (sized {v} {ws} {xs} {es} h) e =
-    let d : g.typed ≡ Value v = cc in let f : types gs ≡ xs = cc in one_fit (want.Sized (is_wide v.kind)) ws g gs es (Value v) d (is_same_truth (is_wide v.kind)) (fit_of gs h f)
+    let d : g.typed ≡ Value v = cc in let f : types gs ≡ xs = cc in one_fit (want.Sized (is_wide v.kind)) ws g gs es (Value v) d
+    (is_same_truth (is_wide v.kind)) (fit_of gs h f)
 
 -- ---- each argument means something
 
@@ -177,12 +182,15 @@ call_is : (name : List ℕ) (result : Option IntKind) (front : List Expression) 
 call_is name result front ws gs x true f e n = record { fits_all = handed_of ws gs f; is = sym e }
 call_is name result front ws gs x false f e n = absurd (n (sym e))
 
-printed_is : (name bytes : List ℕ) (gs : List Given) (x : Typed) (o : Option (List Want)) → wanted bytes ≡ o → printing name bytes o gs ≡ x → x ≢ Wrong → IsCall name binding.Printf (Text bytes ∷ types gs) x
+printed_is : (name bytes : List ℕ) (gs : List Given) (x : Typed) (o : Option (List Want)) → wanted bytes ≡ o → printing name bytes o gs ≡ x →
+    x ≢ Wrong → IsCall name binding.Printf (Text bytes ∷ types gs) x
 printed_is name bytes gs x (Some ws) w e n =
-    let r = call_is name (Some K.Int) (expression_of None (node.Text bytes) ∷ []) ws gs x (all_fit ws gs) refl e n in (ws, all_handed gs, format_is bytes ws w, r.fits_all, r.is)
+    let r = call_is name (Some K.Int) (expression_of None (node.Text bytes) ∷ []) ws gs x (all_fit ws gs) refl e n in
+    (ws, all_handed gs, format_is bytes ws w, r.fits_all, r.is)
 printed_is name bytes gs x None w e n = absurd (n (sym e))
 
-printf_is : (name : List ℕ) (y : Typed) (gs : List Given) (x : Typed) → formatted name (text_of y) gs ≡ x → x ≢ Wrong → IsCall name binding.Printf (y ∷ types gs) x
+printf_is : (name : List ℕ) (y : Typed) (gs : List Given) (x : Typed) → formatted name (text_of y) gs ≡ x → x ≢ Wrong →
+    IsCall name binding.Printf (y ∷ types gs) x
 printf_is name (Text bytes) gs x e n = printed_is name bytes gs x (wanted bytes) refl e n
 printf_is name (Value v) gs x e n = absurd (n (sym e))
 printf_is name (Void v) gs x e n = absurd (n (sym e))
@@ -200,7 +208,8 @@ called_is name (binding.Local m v) gs x e n = absurd (n (sym e))
 is_call : (name : List ℕ) (result : Option IntKind) (front es : List Expression) (ws : List Want) (gs : List Given) → Fit ws gs es
     → call result name front ws gs ≡ of_result result (node.Call name (front ++ es))
 is_call name result front es ws gs r =
-    ap (λ t. cond t (of_result result (node.Call name (front ++ all_handed gs))) Wrong) r.fit ∙ ap (λ l. of_result result (node.Call name (front ++ l))) r.handed_is
+    ap (λ t. cond t (of_result result (node.Call name (front ++ all_handed gs))) Wrong) r.fit ∙
+    ap (λ l. of_result result (node.Call name (front ++ l))) r.handed_is
 
 pub is_called : (name : List ℕ) (b : Binding) (gs : List Given) (ys : List Typed) (x : Typed) → types gs ≡ ys → IsCall name b ys x → called name (Some b) gs ≡ x
 is_called name (binding.Function s) gs ys x e h = is_call name s.result [] h.0 s.wants gs (fit_of gs h.1 e) ∙ sym h.2

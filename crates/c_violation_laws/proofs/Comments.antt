@@ -24,7 +24,8 @@ if_element x place = cond (is_element x) (Some place) None
 abbrev in_outside : ℕ → Items → ℕ → Option Anchor
 in_outside first NoItem t = None
 in_outside first (Then x xs) t =
-    cond (nat_lt t (item_after x)) (if_element x (item_place true x t)) (cond (begins x) (Some (or_behind (in_items true xs t) (AtEnd first))) (in_outside first xs t))
+    cond (nat_lt t (item_after x)) (if_element x (item_place true x t))
+    (cond (begins x) (Some (or_behind (in_items true xs t) (AtEnd first))) (in_outside first xs t))
 
 labelled_element : (ls : List Label) (p : Plain) → has_case ls ≡ true → is_null ls p ≡ false
 labelled_element [] p e = absurd (true≢false (sym e))
@@ -57,11 +58,13 @@ null_by : (x : Item) (xs : Items) (t : ℕ) (begun : Bool)
 null_by x xs t true = refl
 null_by x xs t false = refl
 
-outside_is : (first t : ℕ) (xs : Items) → cond (stands_in_null (outside xs) t) None (option_or (in_items true xs t) (section_end first xs)) ≡ in_outside first xs t
+outside_is : (first t : ℕ) (xs : Items) → cond (stands_in_null (outside xs) t) None
+    (option_or (in_items true xs t) (section_end first xs)) ≡ in_outside first xs t
 outside_is first t NoItem = refl
 outside_is first t (Then x xs) =
     ap (λ b. cond b None (option_or (in_items true (Then x xs) t) (section_end first (Then x xs)))) (null_by x (outside xs) t (begins x))
-    ∙ outside_by (nat_lt t (item_after x)) (begins x) (is_element x) (stands_in_null (outside xs) t) (has_sections xs) (item_place true x t) (AtEnd first) (in_items true xs t) (in_outside first xs t)
+    ∙ outside_by (nat_lt t (item_after x)) (begins x) (is_element x) (stands_in_null (outside xs) t) (has_sections xs) (item_place true x t)
+    (AtEnd first) (in_items true xs t) (in_outside first xs t)
     (begun_element x) (outside_is first t xs)
 
 -- ---- tests
@@ -76,7 +79,8 @@ either true x y d o p e g = e
 either false x y d o p e g = g
 
 -- in front of a list, in it or behind it
-in_list : (b c : Bool) (before end x y : Anchor) → x ≡ y → elim b [ true ↦ before | false ↦ elim c [ true ↦ x | false ↦ end ] ] ≡ or_behind (cond b None (Some (cond c y end))) before
+in_list : (b c : Bool) (before end x y : Anchor) → x ≡ y → elim b [ true ↦ before | false ↦ elim c [ true ↦ x | false ↦ end ] ] ≡ or_behind
+    (cond b None (Some (cond c y end))) before
 in_list true c before end x y e = refl
 in_list false true before end x y e = e
 in_list false false before end x y e = refl
@@ -98,7 +102,8 @@ first_or false x y o p e g = g
 module _ (t : ℕ) where
   labels_same : (all ls : List Label) → labels_place ls t ≡ in_labels (label_place false all) ls t
   labels_same all [] = refl
-  labels_same all (l ∷ ls) = first_or (nat_lt t (label_after l)) (Before (label_first l)) (Before (label_first l)) (labels_place ls t) (in_labels (label_place false all) ls t) refl (labels_same all ls)
+  labels_same all (l ∷ ls) = first_or (nat_lt t (label_after l)) (Before (label_first l)) (Before (label_first l)) (labels_place ls t)
+      (in_labels (label_place false all) ls t) refl (labels_same all ls)
 
   section_label : (all : List Label) (l : Label) → walked.section_label_place all l ≡ label_place true all l
   section_label all (Named at after) = refl
@@ -108,11 +113,13 @@ module _ (t : ℕ) where
   section_same : (all ls : List Label) → section_place all ls t ≡ in_labels (label_place true all) ls t
   section_same all [] = refl
   section_same all (l ∷ ls) =
-      first_or (nat_lt t (label_after l)) (walked.section_label_place all l) (label_place true all l) (section_place all ls t) (in_labels (label_place true all) ls t) (section_label all l) (section_same all ls)
+      first_or (nat_lt t (label_after l)) (walked.section_label_place all l) (label_place true all l) (section_place all ls t)
+      (in_labels (label_place true all) ls t) (section_label all l) (section_same all ls)
 
   named_same : (all ls : List Label) → has_case ls ≡ false → labels_place ls t ≡ in_labels (label_place true all) ls t
   named_same all [] e = refl
-  named_same all (Named at after ∷ ls) e = first_or (nat_lt t after) (Before at) (Before at) (labels_place ls t) (in_labels (label_place true all) ls t) refl (named_same all ls e)
+  named_same all (Named at after ∷ ls) e = first_or (nat_lt t after) (Before at) (Before at) (labels_place ls t)
+      (in_labels (label_place true all) ls t) refl (named_same all ls e)
   named_same all (Case at after x ∷ ls) e = absurd (true≢false e)
   named_same all (Default at after ∷ ls) e = absurd (true≢false e)
 
@@ -143,7 +150,8 @@ module _ (t : ℕ) where
 
   behind_same : (switch first : ℕ) (xs : Items) (b : Bool) → walked.members_place false switch first xs t ≡ or_behind (in_outside first xs t) (Before switch)
       → walked.members_place true switch first xs t ≡ or_behind (in_items true xs t) (AtEnd first)
-      → walked.members_place b switch first xs t ≡ or_behind (cond b (Some (or_behind (in_items true xs t) (AtEnd first))) (in_outside first xs t)) (Before switch)
+      → walked.members_place b switch first xs t ≡ or_behind (cond b (Some (or_behind (in_items true xs t) (AtEnd first))) (in_outside first xs t))
+      (Before switch)
   behind_same switch first xs true e g = g
   behind_same switch first xs false e g = e
 
@@ -154,14 +162,16 @@ module _ (t : ℕ) where
 
     plain_same : (p : Plain) → walked.plain_place p t ≡ plain_place p t
     plain_same (From first after s) =
-        chosen (nat_le t first) (Before first) (walked.statement_place first s t) (Before first) (or_behind (in_statement s t) (Before first)) refl (statement_same first s)
+        chosen (nat_le t first) (Before first) (walked.statement_place first s t) (Before first) (or_behind (in_statement s t) (Before first)) refl
+        (statement_same first s)
 
     statement_same : (first : ℕ) (s : Statement) → walked.statement_place first s t ≡ or_behind (in_statement s t) (Before first)
     statement_same first Null = refl
     statement_same first (Evaluate e) = refl
     statement_same first (If e b) = body_same (Before first) b
     statement_same first (IfElse e b c) =
-        body_same (walked.body_place (Before first) b t) c ∙ ap (or_behind (in_body c t)) (body_same (Before first) b) ∙ or_twice (in_body c t) (in_body b t) (Before first)
+        body_same (walked.body_place (Before first) b t) c ∙ ap (or_behind (in_body c t)) (body_same (Before first) b) ∙
+        or_twice (in_body c t) (in_body b t) (Before first)
     statement_same first (While e b) = body_same (Before first) b
     statement_same first (DoWhile b e) = body_same (Before first) b
     statement_same first (For start e u b) = body_same (Before first) b
@@ -175,38 +185,49 @@ module _ (t : ℕ) where
 
     body_same : (before : Anchor) (b : Body) → walked.body_place before b t ≡ or_behind (in_body b t) before
     body_same before (Braces first after xs) =
-        in_list (nat_le t first) (nat_lt t after) before (AtEnd first) (walked.list_place (AtEnd first) xs t) (or_behind (in_items false xs t) (AtEnd first)) (list_same (AtEnd first) xs)
-    body_same before (Lone first after x) = in_list (nat_lt t first) (nat_lt t after) before (AtEnd first) (walked.item_place x t) (item_place false x t) (item_same x)
+        in_list (nat_le t first) (nat_lt t after) before (AtEnd first) (walked.list_place (AtEnd first) xs t)
+        (or_behind (in_items false xs t) (AtEnd first)) (list_same (AtEnd first) xs)
+    body_same before (Lone first after x) = in_list (nat_lt t first) (nat_lt t after) before (AtEnd first) (walked.item_place x t)
+        (item_place false x t) (item_same x)
 
     list_same : (end : Anchor) (xs : Items) → walked.list_place end xs t ≡ or_behind (in_items false xs t) end
     list_same end NoItem = refl
     list_same end (Then x xs) =
-        either (nat_lt t (item_after x)) (walked.item_place x t) (walked.list_place end xs t) end (Some (item_place false x t)) (in_items false xs t) (item_same x) (list_same end xs)
+        either (nat_lt t (item_after x)) (walked.item_place x t) (walked.list_place end xs t) end (Some (item_place false x t)) (in_items false xs t)
+        (item_same x) (list_same end xs)
 
     switch_same : (switch : ℕ) (b : Body) → walked.switch_place switch b t ≡ or_behind (in_switch_body b t) (Before switch)
     switch_same switch (Braces first after xs) =
-        either (nat_le t first) (Before switch) (walked.members_place false switch first xs t) (Before switch) None (in_outside first xs t) refl (outside_same switch first xs)
-        ∙ ap (λ o. or_behind o (Before switch)) (ap (cond (nat_le t first) None) (sym (outside_is first t xs)) ∙ none_or (nat_le t first) (stands_in_null (outside xs) t) (option_or (in_items true xs t) (section_end first xs)))
+        either (nat_le t first) (Before switch) (walked.members_place false switch first xs t) (Before switch) None (in_outside first xs t) refl
+        (outside_same switch first xs)
+        ∙ ap (λ o. or_behind o (Before switch)) (ap (cond (nat_le t first) None) (sym (outside_is first t xs)) ∙
+        none_or (nat_le t first) (stands_in_null (outside xs) t) (option_or (in_items true xs t) (section_end first xs)))
     switch_same switch (Lone first after x) =
-        either (nat_lt t first) (Before switch) (walked.member_place false switch x t) (Before switch) None (if_element x (item_place true x t)) refl (element_same switch x)
-        ∙ ap (λ o. or_behind o (Before switch)) (ap (cond (nat_lt t first) None) (sym (element_or (is_element x) (item_place true x t))) ∙ none_or (nat_lt t first) (not (is_element x)) (Some (item_place true x t)))
+        either (nat_lt t first) (Before switch) (walked.member_place false switch x t) (Before switch) None (if_element x (item_place true x t)) refl
+        (element_same switch x)
+        ∙ ap (λ o. or_behind o (Before switch)) (ap (cond (nat_lt t first) None) (sym (element_or (is_element x) (item_place true x t))) ∙
+        none_or (nat_lt t first) (not (is_element x)) (Some (item_place true x t)))
 
     outside_same : (switch first : ℕ) (xs : Items) → walked.members_place false switch first xs t ≡ or_behind (in_outside first xs t) (Before switch)
     outside_same switch first NoItem = refl
     outside_same switch first (Then x xs) =
-        either (nat_lt t (item_after x)) (walked.member_place false switch x t) (walked.members_place (walked.begins_section x) switch first xs t) (Before switch) (if_element x (item_place true x t))
+        either (nat_lt t (item_after x)) (walked.member_place false switch x t) (walked.members_place (walked.begins_section x) switch first xs t)
+        (Before switch) (if_element x (item_place true x t))
         (cond (begins x) (Some (or_behind (in_items true xs t) (AtEnd first))) (in_outside first xs t)) (element_same switch x)
-        (ap (λ b. walked.members_place b switch first xs t) (begins_same x) ∙ behind_same switch first xs (begins x) (outside_same switch first xs) (sections_same switch first xs))
+        (ap (λ b. walked.members_place b switch first xs t) (begins_same x) ∙
+        behind_same switch first xs (begins x) (outside_same switch first xs) (sections_same switch first xs))
 
     sections_same : (switch first : ℕ) (xs : Items) → walked.members_place true switch first xs t ≡ or_behind (in_items true xs t) (AtEnd first)
     sections_same switch first NoItem = refl
     sections_same switch first (Then x xs) =
-        either (nat_lt t (item_after x)) (walked.member_place true switch x t) (walked.members_place true switch first xs t) (AtEnd first) (Some (item_place true x t)) (in_items true xs t) (member_same switch x)
+        either (nat_lt t (item_after x)) (walked.member_place true switch x t) (walked.members_place true switch first xs t) (AtEnd first)
+        (Some (item_place true x t)) (in_items true xs t) (member_same switch x)
         (sections_same switch first xs)
 
     element_same : (switch : ℕ) (x : Item) → walked.member_place false switch x t ≡ or_behind (if_element x (item_place true x t)) (Before switch)
     element_same switch (Declares first after d) = refl
-    element_same switch (States ls p) = by_element ls p (has_case ls) (is_null ls p) (walked.plain_place p t) (plain_place p t) (Before switch) refl refl (plain_same p)
+    element_same switch (States ls p) = by_element ls p (has_case ls) (is_null ls p) (walked.plain_place p t) (plain_place p t) (Before switch) refl
+        refl (plain_same p)
 
     member_same : (switch : ℕ) (x : Item) → walked.member_place true switch x t ≡ item_place true x t
     member_same switch (Declares first after d) = refl
@@ -227,11 +248,15 @@ module _ (t : ℕ) where
 
   top_same : (x : Top) → walked.top_place x t ≡ top_place x t
   top_same (tops.From first after form) =
-      chosen (nat_le t first) (Before first) (walked.form_place first form t) (Before first) (or_behind (in_form form t) (Before first)) refl (form_same first form)
+      chosen (nat_le t first) (Before first) (walked.form_place first form t) (Before first) (or_behind (in_form form t) (Before first)) refl
+      (form_same first form)
 
   place_same : (xs : List Top) → walked.place_in xs t ≡ place_in xs t
   place_same [] = refl
-  place_same (x ∷ xs) = chosen (nat_lt t (top_after x)) (walked.top_place x t) (walked.place_in xs t) (top_place x t) (place_in xs t) (top_same x) (place_same xs)
+  place_same (x ∷ xs) = chosen (nat_lt t (top_after x)) (walked.top_place x t) (walked.place_in xs t) (top_place x t) (place_in xs t) (top_same x)
+      (place_same xs)
 
-pub notes_same : (text : List ℕ) (tokens : List Token) (comments : List Span) (xs : List Top) → walked.notes_of text tokens comments xs ≡ notes_of text tokens comments xs
-notes_same text tokens comments xs = λ i anchor. map (comment_bytes text) (filter (λ c. same_place (place_same (next_token tokens c.start) xs i) anchor) comments)
+pub notes_same : (text : List ℕ) (tokens : List Token) (comments : List Span) (xs : List Top) →
+    walked.notes_of text tokens comments xs ≡ notes_of text tokens comments xs
+notes_same text tokens comments xs = λ i anchor. map (comment_bytes text)
+    (filter (λ c. same_place (place_same (next_token tokens c.start) xs i) anchor) comments)

@@ -47,13 +47,16 @@ module _ (word : ℕ → List ℕ) (ms ss : List Scope) (m : AreMaps ms ss) wher
   theirs = record { word = word; scopes = ss }
 
   pub value_at : (t : Term) → Finds (value_faults ours t) (λ v. ExpressionBreaks theirs NeedsValue t v)
-  value_at t = finds_as (value_faults ours t) (value_faults theirs t) _ (λ vs i. use_fault (first_of t) (typed_alike word ms ss m t i) (faults_alike word ms ss m t vs i)) (value theirs t)
+  value_at t = finds_as (value_faults ours t) (value_faults theirs t)
+      _ (λ vs i. use_fault (first_of t) (typed_alike word ms ss m t i) (faults_alike word ms ss m t vs i)) (value theirs t)
 
   pub dropped_at : (t : Term) → Finds (dropped_faults ours t) (λ v. ExpressionBreaks theirs MayBeVoid t v)
-  dropped_at t = finds_as (dropped_faults ours t) (dropped_faults theirs t) _ (λ vs i. drop_fault (first_of t) (typed_alike word ms ss m t i) (faults_alike word ms ss m t vs i)) (dropped theirs t)
+  dropped_at t = finds_as (dropped_faults ours t) (dropped_faults theirs t)
+      _ (λ vs i. drop_fault (first_of t) (typed_alike word ms ss m t i) (faults_alike word ms ss m t vs i)) (dropped theirs t)
 
   pub constant_at : (t : Term) → Finds (constant_faults ours t) (λ v. ExpressionBreaks theirs NeedsConstant t v)
-  constant_at t = finds_as (constant_faults ours t) (constant_faults theirs t) _ (λ vs i. constant_fault (first_of t) (typed_alike word ms ss m t i) (faults_alike word ms ss m t vs i)) (constant theirs t)
+  constant_at t = finds_as (constant_faults ours t) (constant_faults theirs t)
+      _ (λ vs i. constant_fault (first_of t) (typed_alike word ms ss m t i) (faults_alike word ms ss m t vs i)) (constant theirs t)
 
   pub any_at : (t : Term) → Finds (faults ours t) (λ v. ExpressionBreaks theirs IsJudgedElsewhere t v)
   any_at t = finds_as (faults ours t) (faults theirs t) _ (λ vs. faults_alike word ms ss m t vs) (argument theirs t)
@@ -84,12 +87,14 @@ module _ (word : ℕ → List ℕ) (ms ss : List Scope) (m : AreMaps ms ss) wher
       (λ v p. (bound_alike name ms ss m ∙ declared_is name ss p.0, p.1))
 
 -- an initialiser, of which the values begin from one token to another
-module _ (lo hi : ℕ) (env : Term → Env) (k : Term → Faults → Faults) (role : Role) (h : (t : Term) → lo ≤ first_of t → first_of t ≤ hi → Finds (k t) (λ v. ExpressionBreaks (env t) role t v)) where
+module _ (lo hi : ℕ) (env : Term → Env) (k : Term → Faults → Faults) (role : Role)
+    (h : (t : Term) → lo ≤ first_of t → first_of t ≤ hi → Finds (k t) (λ v. ExpressionBreaks (env t) role t v)) where
   values : (from : ℕ) (ts : List Term) → lo ≤ from → Rising from (each_marks term_marks ts) hi → Finds (each_faults k ts) (λ v. ValuesBreak env role ts v)
   values from [] l r = finds_none
   values from (t ∷ ts) l r =
       let first = r.0 in
-      finds_both (k t) (each_faults k ts) _ _ (h t (omega (arith, l, first)) (rising_ends (first_of t) (each_marks term_marks ts) hi r.1)) (values (first_of t) ts (omega (arith, l, first)) r.1)
+      finds_both (k t) (each_faults k ts) _ _ (h t (omega (arith, l, first)) (rising_ends (first_of t) (each_marks term_marks ts) hi r.1))
+      (values (first_of t) ts (omega (arith, l, first)) r.1)
 
   pub initialiser : (x : Initialiser) → Rising lo (value_marks x) hi → Finds (initial_faults k x) (λ v. InitialiserBreaks env role x v)
   initialiser NoValue r = finds_none
@@ -99,19 +104,23 @@ module _ (lo hi : ℕ) (env : Term → Env) (k : Term → Faults → Faults) (ro
 module _ (f : InFunction) (apart : Apart f.variables) (k : Kinded) where
   -- of the name
   names : (w : Walk) (p : Place) (d : Declarator) → AreMaps w.scopes (scopes_at p.scopes d.name)
-      → Finds (λ vs. bind_fault d.name (f.word d.name) w.scopes (fault_if (is_bad_array true (env_in f.word w) d) d.name 35 vs)) (λ v. LocalBreaks typed f p d v)
+      → Finds (λ vs. bind_fault d.name (f.word d.name) w.scopes (fault_if (is_bad_array true (env_in f.word w) d) d.name 35 vs))
+      (λ v. LocalBreaks typed f p d v)
   names w p d s =
       let ss = scopes_at p.scopes d.name in
-      finds_same (λ vs. bind_fault d.name (f.word d.name) w.scopes (fault_if (is_bad_array true (env_in f.word w) d) d.name 35 vs)) _ (λ v. LocalBreaks typed f p d v)
+      finds_same (λ vs. bind_fault d.name (f.word d.name) w.scopes (fault_if (is_bad_array true (env_in f.word w) d) d.name 35 vs))
+      _ (λ v. LocalBreaks typed f p d v)
       (finds_both (fault_if (is_bad_array true (env_in f.word w) d) d.name 35) (bind_fault d.name (f.word d.name) w.scopes) _ _
       (finds_if (is_bad_array true (env_in f.word w) d) d.name 35) (twice f.word w.scopes ss s (f.word d.name) d.name))
       to fro
     where
-      to : (v : Fault) → ((is_bad_array true (env_in f.word w) d ≡ true) × (v ≡ broken d.name 35)) ⊎ (IsDeclared (f.word d.name) (scopes_at p.scopes d.name) × (v ≡ broken d.name 21)) → LocalBreaks typed f p d v
+      to : (v : Fault) → ((is_bad_array true (env_in f.word w) d ≡ true) × (v ≡ broken d.name 35)) ⊎
+          (IsDeclared (f.word d.name) (scopes_at p.scopes d.name) × (v ≡ broken d.name 21)) → LocalBreaks typed f p d v
       to v (inl q) = subst (LocalBreaks typed f p d) (sym q.1) (LocalBreaks.bad_array (bad_breaks f.word w.scopes (scopes_at p.scopes d.name) s true d q.0))
       to v (inr q) = subst (LocalBreaks typed f p d) (sym q.1) (LocalBreaks.declared_twice q.0)
 
-      fro : (v : Fault) → LocalBreaks typed f p d v → ((is_bad_array true (env_in f.word w) d ≡ true) × (v ≡ broken d.name 35)) ⊎ (IsDeclared (f.word d.name) (scopes_at p.scopes d.name) × (v ≡ broken d.name 21))
+      fro : (v : Fault) → LocalBreaks typed f p d v → ((is_bad_array true (env_in f.word w) d ≡ true) × (v ≡ broken d.name 35)) ⊎
+          (IsDeclared (f.word d.name) (scopes_at p.scopes d.name) × (v ≡ broken d.name 21))
       fro v (LocalBreaks.declared_twice h) = inr (h, refl)
       fro v (LocalBreaks.bad_array e) = inl (breaks_are_bad f.word w.scopes (scopes_at p.scopes d.name) s true d e, refl)
 
@@ -119,19 +128,23 @@ module _ (f : InFunction) (apart : Apart f.variables) (k : Kinded) where
   abbrev DeclareIn : Walk → Place → List Declarator → List ℕ → Type 0
   DeclareIn w p ds rest = StandsIn f.variables w p (map (variable f k) ds) (each_marks declarator_marks ds) (name_tokens ds ++ rest)
 
-  declarator : (d : Declarator) (ds : List Declarator) (w : Walk) (p : Place) (rest : List ℕ) → DeclareIn w p (d ∷ ds) rest → Finds (local_faults f.word k d w) (λ v. DeclaratorBreaks typed f p d v)
+  declarator : (d : Declarator) (ds : List Declarator) (w : Walk) (p : Place) (rest : List ℕ) → DeclareIn w p (d ∷ ds) rest →
+      Finds (local_faults f.word k d w) (λ v. DeclaratorBreaks typed f p d v)
   declarator d ds w p rest s =
       let here = stands_name_here f apart k d ds w p rest s in
       let inner = declared f.word k d w in
       let given = stands_values f apart k d ds w p rest s in
-      finds_both (size_faults (env_in f.word w) d.size) (λ vs. initial_faults (value_faults (env_in f.word inner)) d.value (bind_fault d.name (f.word d.name) w.scopes (fault_if (is_bad_array true (env_in f.word w) d) d.name 35 vs))) _ _
+      finds_both (size_faults (env_in f.word w) d.size) (λ vs. initial_faults (value_faults (env_in f.word inner)) d.value
+      (bind_fault d.name (f.word d.name) w.scopes (fault_if (is_bad_array true (env_in f.word w) d) d.name 35 vs))) _ _
       (sizes f.word w.scopes (scopes_at p.scopes d.name) here d.size)
-      (finds_both (λ vs. bind_fault d.name (f.word d.name) w.scopes (fault_if (is_bad_array true (env_in f.word w) d) d.name 35 vs)) (initial_faults (value_faults (env_in f.word inner)) d.value) _ _
+      (finds_both (λ vs. bind_fault d.name (f.word d.name) w.scopes (fault_if (is_bad_array true (env_in f.word w) d) d.name 35 vs))
+      (initial_faults (value_faults (env_in f.word inner)) d.value) _ _
       (names w p d here)
       (initialiser given.lo given.hi (places.names f p) (value_faults (env_in f.word inner)) NeedsValue
       (λ t l m. value_at f.word inner.scopes (scopes_at p.scopes (first_of t)) (given.sees (first_of t) l m) t) d.value given.order))
 
-  pub declarators : (ds : List Declarator) (w : Walk) (p : Place) (rest : List ℕ) → DeclareIn w p ds rest → Finds (locals_faults f.word k ds w) (λ v. SomeOf (λ d. DeclaratorBreaks typed f p d v) ds)
+  pub declarators : (ds : List Declarator) (w : Walk) (p : Place) (rest : List ℕ) → DeclareIn w p ds rest →
+      Finds (locals_faults f.word k ds w) (λ v. SomeOf (λ d. DeclaratorBreaks typed f p d v) ds)
   declarators [] w p rest s = finds_none
   declarators (d ∷ ds) w p rest s =
       finds_both (local_faults f.word k d w) (locals_faults f.word k ds (declared f.word k d w)) _ _ (declarator d ds w p rest s)

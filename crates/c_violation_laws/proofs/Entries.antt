@@ -47,12 +47,15 @@ module _ (ctx : Context) (names : List (List ℕ)) (vs : List ℕ) (apart : Apar
   abbrev f : InFunction
   f = in_function ctx names vs
 
-  labelled : (w : Walk) (p : Place) (ls : List Label) → LabelsSee w p ls → (found : List Entry) → walked.label_entries (env_at ctx w) ls found ≡ found ++ label_entries typed (places.names f p) ls
+  labelled : (w : Walk) (p : Place) (ls : List Label) → LabelsSee w p ls → (found : List Entry) →
+      walked.label_entries (env_at ctx w) ls found ≡ found ++ label_entries typed (places.names f p) ls
   labelled w p [] s found = append_none found
   labelled w p (Named at after ∷ ls) s found = labelled w p ls s.1 found
-  labelled w p (Default at after ∷ ls) s found = labelled w p ls s.1 (found ++ Other at ∷ []) ∙ append_assoc found (Other at ∷ []) (label_entries typed (places.names f p) ls)
+  labelled w p (Default at after ∷ ls) s found = labelled w p ls s.1 (found ++ Other at ∷ []) ∙ append_assoc found (Other at ∷ [])
+      (label_entries typed (places.names f p) ls)
   labelled w p (Case at after t ∷ ls) s found =
-      ap (λ x. walked.label_entries (env_at ctx w) ls (walked.case_entry at (constant_of x) found)) (typed_alike ctx.word w.scopes (scopes_at p.scopes (first_of t)) s.0 t)
+      ap (λ x. walked.label_entries (env_at ctx w) ls (walked.case_entry at (constant_of x) found))
+      (typed_alike ctx.word w.scopes (scopes_at p.scopes (first_of t)) s.0 t)
       ∙ by (constant_of (typed (places.names f p t) t)) (λ l. labelled w p ls s.1 l)
     where
       by : (o : Option (Expression × ℤ)) → ((l : List Entry) → walked.label_entries (env_at ctx w) ls l ≡ l ++ label_entries typed (places.names f p) ls)
@@ -61,7 +64,8 @@ module _ (ctx : Context) (names : List (List ℕ)) (vs : List ℕ) (apart : Apar
       by None k = k found
 
   mutual
-    item : (x : Item) (w : Walk) (p : Place) (rest : List ℕ) → StandsIn vs w p (item_identifiers f x) (item_marks x) (item_variables x ++ rest) → (found : List Entry) → walked.item_entries ctx x w found ≡ found ++ item_entries typed f p x
+    item : (x : Item) (w : Walk) (p : Place) (rest : List ℕ) → StandsIn vs w p (item_identifiers f x) (item_marks x) (item_variables x ++ rest) →
+        (found : List Entry) → walked.item_entries ctx x w found ≡ found ++ item_entries typed f p x
     item (Declares first after d) w p rest s found = append_none found
     item (States ls x) w p rest s found =
         let more = plain_variables x ++ rest in
@@ -70,16 +74,19 @@ module _ (ctx : Context) (names : List (List ℕ)) (vs : List ℕ) (apart : Apar
         ∙ ap (λ l. l ++ plain_entries typed f p x) (labelled w p ls (labels_see vs w p ls (plain_marks x) more g) found)
         ∙ append_assoc found (label_entries typed (places.names f p) ls) (plain_entries typed f p x)
 
-    plain : (x : Plain) (w : Walk) (p : Place) (rest : List ℕ) → Stands vs w p (plain_marks x) (plain_variables x ++ rest) → (found : List Entry) → walked.plain_entries ctx x w found ≡ found ++ plain_entries typed f p x
+    plain : (x : Plain) (w : Walk) (p : Place) (rest : List ℕ) → Stands vs w p (plain_marks x) (plain_variables x ++ rest) → (found : List Entry) →
+        walked.plain_entries ctx x w found ≡ found ++ plain_entries typed f p x
     plain (From first after x) w p rest s found = statement x w p rest s found
 
-    statement : (x : Statement) (w : Walk) (p : Place) (rest : List ℕ) → Stands vs w p (statement_marks x) (statement_variables x ++ rest) → (found : List Entry) → walked.statement_entries ctx x w found ≡ found ++ statement_entries typed f p x
+    statement : (x : Statement) (w : Walk) (p : Place) (rest : List ℕ) → Stands vs w p (statement_marks x) (statement_variables x ++ rest) →
+        (found : List Entry) → walked.statement_entries ctx x w found ≡ found ++ statement_entries typed f p x
     statement (If t b) w p rest s found = body b w p rest (stands_behind vs w p (term_marks t) (body_marks b) (body_variables b ++ rest) s) found
     statement (IfElse t b c) w p rest s found =
         let all = (body_variables b ++ body_variables c) ++ rest in
         let more = body_variables c ++ rest in
         let g = stands_behind vs w p (term_marks t) (body_marks b ++ body_marks c) all s in
-        let first = stands_first vs w p (body_marks b) (body_marks c) (body_variables b ++ more) all g (numbered_grouped vs w (body_variables b) (body_variables c) rest g.numbered) in
+        let first = stands_first vs w p (body_marks b) (body_marks c) (body_variables b ++ more) all g
+        (numbered_grouped vs w (body_variables b) (body_variables c) rest g.numbered) in
         let second = stands_body ctx names vs apart b w p (body_marks c) (body_variables c) rest g in
         body c (behind_body ctx b w) p rest second (walked.body_entries ctx b w found)
         ∙ ap (λ l. l ++ body_entries typed f p c) (body b w p more first found)
@@ -92,7 +99,8 @@ module _ (ctx : Context) (names : List (List ℕ)) (vs : List ℕ) (apart : Apar
         let more = body_variables b ++ rest in
         let ms = option_marks t ++ (option_marks u ++ body_marks b) in
         let g = stands_start ctx names vs apart start w p ms (body_variables b) rest s in
-        body b v q rest (stands_behind vs v q (option_marks u) (body_marks b) more (stands_behind vs v q (option_marks t) (option_marks u ++ body_marks b) more g)) found
+        body b v q rest (stands_behind vs v q (option_marks u) (body_marks b) more
+        (stands_behind vs v q (option_marks t) (option_marks u ++ body_marks b) more g)) found
     statement (Block b) w p rest s found = body b w p rest s found
     statement Null w p rest s found = append_none found
     statement (Evaluate t) w p rest s found = append_none found
@@ -103,11 +111,15 @@ module _ (ctx : Context) (names : List (List ℕ)) (vs : List ℕ) (apart : Apar
     statement (Return t) w p rest s found = append_none found
     statement Unread w p rest s found = append_none found
 
-    pub body : (b : Body) (w : Walk) (p : Place) (rest : List ℕ) → Stands vs w p (body_marks b) (body_variables b ++ rest) → (found : List Entry) → walked.body_entries ctx b w found ≡ found ++ body_entries typed f p b
-    body (Braces first after xs) w p rest s found = list xs (enter w) (within f (Braces first after xs) p) rest (stands_braces f vs w p first after xs (list_variables xs ++ rest) s) found
-    body (Lone first after x) w p rest s found = item x (enter w) (within f (Lone first after x) p) rest (stands_lone f vs w p first after x (item_variables x ++ rest) s) found
+    pub body : (b : Body) (w : Walk) (p : Place) (rest : List ℕ) → Stands vs w p (body_marks b) (body_variables b ++ rest) → (found : List Entry) →
+        walked.body_entries ctx b w found ≡ found ++ body_entries typed f p b
+    body (Braces first after xs) w p rest s found = list xs (enter w) (within f (Braces first after xs) p) rest
+        (stands_braces f vs w p first after xs (list_variables xs ++ rest) s) found
+    body (Lone first after x) w p rest s found = item x (enter w) (within f (Lone first after x) p) rest
+        (stands_lone f vs w p first after x (item_variables x ++ rest) s) found
 
-    list : (xs : Items) (w : Walk) (p : Place) (rest : List ℕ) → StandsIn vs w p (list_identifiers f xs) (list_marks xs) (list_variables xs ++ rest) → (found : List Entry) → walked.list_entries ctx xs w found ≡ found ++ list_entries typed f p xs
+    list : (xs : Items) (w : Walk) (p : Place) (rest : List ℕ) → StandsIn vs w p (list_identifiers f xs) (list_marks xs) (list_variables xs ++ rest) →
+        (found : List Entry) → walked.list_entries ctx xs w found ≡ found ++ list_entries typed f p xs
     list NoItem w p rest s found = append_none found
     list (Then x xs) w p rest s found =
         list xs (behind_item ctx x w) p rest (stands_rest ctx names vs apart x xs w p rest s) (walked.item_entries ctx x w found)
@@ -150,7 +162,8 @@ among_more : (q v : ℤ) (seen : List ℤ) → is_among q (with_value v seen) �
 among_more q v [] = refl
 among_more q v (x ∷ xs) = by (int_cmp v x) refl (among_more q v xs)
   where
-    by : (o : Ordering) → int_cmp v x ≡ o → is_among q (with_value v xs) ≡ (is_eq (int_cmp q v) || is_among q xs) → is_among q (match_ordering o (v ∷ x ∷ xs) (x ∷ xs) (x ∷ with_value v xs)) ≡ (is_eq (int_cmp q v) || is_among q (x ∷ xs))
+    by : (o : Ordering) → int_cmp v x ≡ o → is_among q (with_value v xs) ≡ (is_eq (int_cmp q v) || is_among q xs) →
+        is_among q (match_ordering o (v ∷ x ∷ xs) (x ∷ xs) (x ∷ with_value v xs)) ≡ (is_eq (int_cmp q v) || is_among q (x ∷ xs))
     by Less i r = refl
     by Equal i r =
         let same : v ≡ x = is_equal v x (ap is_eq i) in
@@ -170,13 +183,15 @@ module _ (kind : IntKind) where
     other : default ≡ true → HasDefault before
     other_back : HasDefault before → default ≡ true
 
-  case_more : (n : ℤ) (before : List Entry) (e : Entry) → HasCase (promoted kind) n (before ++ e ∷ []) → HasCase (promoted kind) n before ⊎ HasCase (promoted kind) n (e ∷ [])
+  case_more : (n : ℤ) (before : List Entry) (e : Entry) → HasCase (promoted kind) n (before ++ e ∷ []) →
+      HasCase (promoted kind) n before ⊎ HasCase (promoted kind) n (e ∷ [])
   case_more n [] e h = inr h
   case_more n (Value at m ∷ es) e (inl p) = inl (inl p)
   case_more n (Value at m ∷ es) e (inr h) = elim (case_more n es e h) [ inl a ↦ inl (inr a) | inr b ↦ inr b ]
   case_more n (Other at ∷ es) e h = case_more n es e h
 
-  more_case : (n : ℤ) (before : List Entry) (e : Entry) → HasCase (promoted kind) n before ⊎ HasCase (promoted kind) n (e ∷ []) → HasCase (promoted kind) n (before ++ e ∷ [])
+  more_case : (n : ℤ) (before : List Entry) (e : Entry) → HasCase (promoted kind) n before ⊎ HasCase (promoted kind) n (e ∷ []) →
+      HasCase (promoted kind) n (before ++ e ∷ [])
   more_case n [] e (inl h) = absurd h
   more_case n [] e (inr h) = h
   more_case n (Value at m ∷ es) e (inl (inl p)) = inl p
@@ -196,15 +211,18 @@ more_default (Value at m ∷ es) e h = more_default es e h
 more_default (Other at ∷ es) e h = tt
 
 module _ (kind : IntKind) where
-  seen_value : (before : List Entry) (seen : List ℤ) (default : Bool) (at : ℕ) (m : ℤ) → Seen kind before seen default → Seen kind (before ++ Value at m ∷ []) (with_value (K kind m) seen) default
+  seen_value : (before : List Entry) (seen : List ℤ) (default : Bool) (at : ℕ) (m : ℤ) → Seen kind before seen default →
+      Seen kind (before ++ Value at m ∷ []) (with_value (K kind m) seen) default
   seen_value before seen default at m s = record {
-    cases = λ n e. more_case kind n before (Value at m) (elim (or_cases (is_eq (int_cmp (K kind n) (K kind m))) (is_among (K kind n) seen) (sym (among_more (K kind n) (K kind m) seen) ∙ e)) [
-      | inl g ↦ inr (inl (is_equal (K kind n) (K kind m) g))
-      | inr g ↦ inl (s.cases n g)
-    ]);
+    cases = λ n e. more_case kind n before (Value at m)
+        (elim (or_cases (is_eq (int_cmp (K kind n) (K kind m))) (is_among (K kind n) seen) (sym (among_more (K kind n) (K kind m) seen) ∙ e)) [
+          | inl g ↦ inr (inl (is_equal (K kind n) (K kind m) g))
+          | inr g ↦ inl (s.cases n g)
+        ]);
     back = λ n h. among_more (K kind n) (K kind m) seen ∙ elim (case_more kind n before (Value at m) h) [
       | inl a ↦ or_right (is_eq (int_cmp (K kind n) (K kind m))) (is_among (K kind n) seen) (s.back n a)
-      | inr b ↦ or_left (is_eq (int_cmp (K kind n) (K kind m))) (is_among (K kind n) seen) (elim b [ inl g ↦ equal_same (K kind n) (K kind m) g | inr g ↦ absurd g ])
+      | inr b ↦ or_left (is_eq (int_cmp (K kind n) (K kind m))) (is_among (K kind n) seen)
+          (elim b [ inl g ↦ equal_same (K kind n) (K kind m) g | inr g ↦ absurd g ])
     ];
     other = λ e. more_default before (Value at m) (inl (s.other e));
     other_back = λ h. elim (default_more before (Value at m) h) [ inl a ↦ s.other_back a | inr b ↦ absurd b ];
@@ -249,8 +267,10 @@ defaults : (es before : List Entry) (default : Bool) → (default ≡ true → H
     → Finds (default_faults default es) (λ v. Behind (λ b e. EntryBreaks None b e v) before es)
 defaults [] before default f g = finds_none
 defaults (Value at n ∷ es) before default f g =
-    finds_both (λ vs. vs) (default_faults default es) _ _ (finds_same (λ vs. vs) (λ v. ⊥) (λ v. EntryBreaks None before (Value at n) v) finds_none (λ v h. absurd h) fro)
-    (defaults es (before ++ Value at n ∷ []) default (λ e. more_default before (Value at n) (inl (f e))) (λ h. elim (default_more before (Value at n) h) [ inl a ↦ g a | inr b ↦ absurd b ]))
+    finds_both (λ vs. vs) (default_faults default es) _ _ (finds_same (λ vs. vs) (λ v. ⊥) (λ v. EntryBreaks None before (Value at n) v) finds_none
+    (λ v h. absurd h) fro)
+    (defaults es (before ++ Value at n ∷ []) default (λ e. more_default before (Value at n) (inl (f e)))
+    (λ h. elim (default_more before (Value at n) h) [ inl a ↦ g a | inr b ↦ absurd b ]))
   where
     no_kind : (j : IntKind) → None ≡ Some j → ⊥
     no_kind j e = cc
@@ -267,5 +287,7 @@ defaults (Other at ∷ es) before default f g =
     fro v (EntryBreaks.second_default h) = (g h, refl)
 
 pub switch_entries : (selector : Option IntKind) (es : List Entry) → Finds (switch_faults selector es) (λ v. EntriesBreak selector es v)
-switch_entries (Some kind) es = finds_behind (switch_faults (Some kind) es) (λ v b e. EntryBreaks (Some kind) b e v) es (entries kind es [] [] false (seen_none kind))
-switch_entries None es = finds_behind (switch_faults None es) (λ v b e. EntryBreaks None b e v) es (defaults es [] false (λ e. absurd (true≢false (sym e))) (λ h. absurd h))
+switch_entries (Some kind) es = finds_behind (switch_faults (Some kind) es) (λ v b e. EntryBreaks (Some kind) b e v) es
+    (entries kind es [] [] false (seen_none kind))
+switch_entries None es = finds_behind (switch_faults None es) (λ v b e. EntryBreaks None b e v) es
+    (defaults es [] false (λ e. absurd (true≢false (sym e))) (λ h. absurd h))

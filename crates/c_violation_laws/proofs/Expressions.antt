@@ -13,8 +13,10 @@ use Rattle.c_violation_laws.proofs.CallFaults.{call}
 
 module _ (env : Env) where
   -- `++` and `--` write to what stands behind them
-  prefixed : (o : Option Bool) (a : Term) → Finds (target_faults env a) (λ v. TargetBreaks env a v) → Finds (λ vs. used env a (faults env a vs)) (λ v. ExpressionBreaks env NeedsValue a v)
-      → Finds (λ vs. elim o [ Some up ↦ target_faults env a vs | None ↦ used env a (faults env a vs) ]) (λ v. elim o [ Some up ↦ TargetBreaks env a v | None ↦ ExpressionBreaks env NeedsValue a v ])
+  prefixed : (o : Option Bool) (a : Term) → Finds (target_faults env a) (λ v. TargetBreaks env a v) →
+      Finds (λ vs. used env a (faults env a vs)) (λ v. ExpressionBreaks env NeedsValue a v)
+      → Finds (λ vs. elim o [ Some up ↦ target_faults env a vs | None ↦ used env a (faults env a vs) ])
+      (λ v. elim o [ Some up ↦ TargetBreaks env a v | None ↦ ExpressionBreaks env NeedsValue a v ])
   prefixed (Some up) a t u = t
   prefixed None a t u = u
 

@@ -41,7 +41,8 @@ module _ (word : ℕ → List ℕ) where
     main = bytes_eq (word at) (codes "main")
 
     abbrev Parts : Rule
-    Parts v = ((is_known (word at) ≡ true) × (v ≡ broken at 21)) ⊎ (((main ≡ true) × (v ≡ broken at 36)) ⊎ (IsDeclared (word at) (scopes_at scopes at) × (v ≡ broken at 21)))
+    Parts v = ((is_known (word at) ≡ true) × (v ≡ broken at 21)) ⊎
+        (((main ≡ true) × (v ≡ broken at 36)) ⊎ (IsDeclared (word at) (scopes_at scopes at) × (v ≡ broken at 21)))
 
     pub name : Finds (file_name_faults at (in_scopes word ms)) (λ v. FileNameBreaks word scopes at v)
     name =
@@ -50,12 +51,15 @@ module _ (word : ℕ → List ℕ) where
         (finds_both (fault_if main at 36) (bind_fault at (word at) ms) _ _ (finds_if main at 36) (twice word ms (scopes_at scopes at) m (word at) at)))
         to fro
       where
-        to : (v : Fault) → ((is_known (word at) ≡ true) × (v ≡ broken at 21)) ⊎ (((bytes_eq (word at) (codes "main") ≡ true) × (v ≡ broken at 36)) ⊎ (IsDeclared (word at) (scopes_at scopes at) × (v ≡ broken at 21))) → FileNameBreaks word scopes at v
+        to : (v : Fault) → ((is_known (word at) ≡ true) × (v ≡ broken at 21)) ⊎
+            (((bytes_eq (word at) (codes "main") ≡ true) × (v ≡ broken at 36)) ⊎ (IsDeclared (word at) (scopes_at scopes at) × (v ≡ broken at 21))) →
+            FileNameBreaks word scopes at v
         to v (inl q) = subst (FileNameBreaks word scopes at) (sym q.1) (FileNameBreaks.known_function q.0)
         to v (inr (inl q)) = subst (FileNameBreaks word scopes at) (sym q.1) (FileNameBreaks.is_main (same_names (word at) (codes "main") q.0))
         to v (inr (inr q)) = subst (FileNameBreaks word scopes at) (sym q.1) (FileNameBreaks.declared_twice q.0)
 
-        fro : (v : Fault) → FileNameBreaks word scopes at v → ((is_known (word at) ≡ true) × (v ≡ broken at 21)) ⊎ (((bytes_eq (word at) (codes "main") ≡ true) × (v ≡ broken at 36)) ⊎ (IsDeclared (word at) (scopes_at scopes at) × (v ≡ broken at 21)))
+        fro : (v : Fault) → FileNameBreaks word scopes at v → ((is_known (word at) ≡ true) × (v ≡ broken at 21)) ⊎
+            (((bytes_eq (word at) (codes "main") ≡ true) × (v ≡ broken at 36)) ⊎ (IsDeclared (word at) (scopes_at scopes at) × (v ≡ broken at 21)))
         fro v (FileNameBreaks.declared_twice h) = inr (inr (h, refl))
         fro v (FileNameBreaks.known_function e) = inl (e, refl)
         fro v (FileNameBreaks.is_main e) = inr (inl (names_same (word at) (codes "main") e, refl))
@@ -122,23 +126,29 @@ module _ (word : ℕ → List ℕ) where
         let rest = subst (λ z. FileIn inner ss (constants word ss z es ++ zs) (each_marks enumerator_marks es ++ ns)) (sym value)
         (constant_past word ss e es before ms zs ns theirs value h) in
         finds_both (λ vs. file_name_faults e.name env (value_faults env e.name e.value before vs)) (enum_faults es ours (enumerated e ours env)) _ _
-        (finds_both (given_faults env e.value) (λ vs. file_name_faults e.name env (int_fault (number_first e.name e.value) (number_of env e.value before) vs)) _ _ (given ms (scopes_at ss e.name) m e.value)
-        (finds_both (int_fault (number_first e.name e.value) (number_of env e.value before)) (file_name_faults e.name env) _ _ (int ss front e ms m) (name ms ss e.name m)))
+        (finds_both (given_faults env e.value)
+        (λ vs. file_name_faults e.name env (int_fault (number_first e.name e.value) (number_of env e.value before) vs))
+        _ _ (given ms (scopes_at ss e.name) m e.value)
+        (finds_both (int_fault (number_first e.name e.value) (number_of env e.value before)) (file_name_faults e.name env) _ _ (int ss front e ms m)
+        (name ms ss e.name m)))
         (subst (λ z. Finds (enum_faults es z (enumerated e z env)) (λ v. Behind (λ front e. ConstantBreaks typed word ss front e v) more es)) same
         (enumerators es more inner zs ns rest follow))
 
   -- ---- variables
 
   module _ (k : Kinded) where
-    bad : (ms ss : List Scope) → AreMaps ms ss → (d : Declarator) → Finds (fault_if (is_bad_array false (in_scopes word ms) d) d.name 35) (λ v. GlobalBreaks typed (in_scopes word ss) d v)
+    bad : (ms ss : List Scope) → AreMaps ms ss → (d : Declarator) → Finds (fault_if (is_bad_array false (in_scopes word ms) d) d.name 35)
+        (λ v. GlobalBreaks typed (in_scopes word ss) d v)
     bad ms ss m d =
-        finds_same (fault_if (is_bad_array false (in_scopes word ms) d) d.name 35) _ (λ v. GlobalBreaks typed (in_scopes word ss) d v) (finds_if (is_bad_array false (in_scopes word ms) d) d.name 35)
+        finds_same (fault_if (is_bad_array false (in_scopes word ms) d) d.name 35) _ (λ v. GlobalBreaks typed (in_scopes word ss) d v)
+        (finds_if (is_bad_array false (in_scopes word ms) d) d.name 35)
         (λ v q. subst (GlobalBreaks typed (in_scopes word ss) d) (sym q.1) (GlobalBreaks.bad_array (bad_breaks word ms ss m false d q.0))) fro
       where
         fro : (v : Fault) → GlobalBreaks typed (in_scopes word ss) d v → (is_bad_array false (in_scopes word ms) d ≡ true) × (v ≡ broken d.name 35)
         fro v (GlobalBreaks.bad_array e) = (breaks_are_bad word ms ss m false d e, refl)
 
-    pub variables : (ss : List (List Identifier)) (ds : List Declarator) (ms : List Scope) (zs : List Identifier) (ns : List ℕ) → FileIn ms ss (map (global_variable word k) ds ++ zs) (each_marks declarator_marks ds ++ ns) → Follow ns zs
+    pub variables : (ss : List (List Identifier)) (ds : List Declarator) (ms : List Scope) (zs : List Identifier) (ns : List ℕ) →
+        FileIn ms ss (map (global_variable word k) ds ++ zs) (each_marks declarator_marks ds ++ ns) → Follow ns zs
         → Finds (globals_faults k ds (in_scopes word ms)) (λ v. SomeOf (λ d. VariableBreaks typed word ss d v) ds)
     variables ss [] ms zs ns h follow = finds_none
     variables ss (d ∷ ds) ms zs ns h follow =
@@ -148,8 +158,10 @@ module _ (word : ℕ → List ℕ) where
         let m = global_here word ss k d ds ms zs ns h follow in
         let values = global_values word ss k d ds ms zs ns h follow in
         finds_both (global_faults k d env) (globals_faults k ds inner) _ _
-        (finds_both (size_faults env d.size) (λ vs. initial_faults (constant_faults inner) d.value (file_name_faults d.name env (fault_if (is_bad_array false env d) d.name 35 vs))) _ _ (sizes word ms known m d.size)
-        (finds_both (fault_if (is_bad_array false env d) d.name 35) (λ vs. initial_faults (constant_faults inner) d.value (file_name_faults d.name env vs)) _ _ (bad ms known m d)
+        (finds_both (size_faults env d.size) (λ vs. initial_faults (constant_faults inner) d.value
+        (file_name_faults d.name env (fault_if (is_bad_array false env d) d.name 35 vs))) _ _ (sizes word ms known m d.size)
+        (finds_both (fault_if (is_bad_array false env d) d.name 35)
+        (λ vs. initial_faults (constant_faults inner) d.value (file_name_faults d.name env vs)) _ _ (bad ms known m d)
         (finds_both (file_name_faults d.name env) (initial_faults (constant_faults inner) d.value) _ _ (name ms ss d.name m)
         (initialiser values.lo values.hi (names_for word ss) (constant_faults inner) NeedsConstant
         (λ t l g. constant_at word inner.scopes (scopes_at ss (first_of t)) (values.sees (first_of t) l g) t) d.value values.order))))

@@ -51,17 +51,22 @@ Follow ms xs = (mid hi : ℕ) → Rising mid ms hi → FromOn mid xs
 
 module _ (ms : List Scope) (ss : List (List Identifier)) where
   -- at a name
-  pub file_here : (x : Identifier) (xs : List Identifier) (ns : List ℕ) → FileIn ms ss (x ∷ xs) (x.at ∷ (x.at + 1) ∷ ns) → Follow ns xs → AreMaps ms (scopes_at ss x.at)
+  pub file_here : (x : Identifier) (xs : List Identifier) (ns : List ℕ) → FileIn ms ss (x ∷ xs) (x.at ∷ (x.at + 1) ∷ ns) → Follow ns xs →
+      AreMaps ms (scopes_at ss x.at)
   file_here x xs ns h follow =
       let first = h.order.0 in
       let last = rising_ends (x.at + 1) ns h.end h.order.1.1 in
       let room = h.room in
-      scope_sees ms ss h.lo h.hi x.at (x ∷ (xs ++ h.later)) h.inner (omega (arith, last, room))
-      (omega arith, from_both x.at xs h.later (from_earlier x.at (x.at + 1) xs (omega arith) (follow (x.at + 1) h.end h.order.1.1)) (from_earlier x.at h.end h.later (omega (arith, last)) h.beyond))
+      scope_sees ms ss h.lo h.hi x.at (x ∷ (xs ++ h.later)) h.inner (omega (arith, last, room)) (
+        omega arith,
+        from_both x.at xs h.later (from_earlier x.at (x.at + 1) xs (omega arith) (follow (x.at + 1) h.end h.order.1.1))
+            (from_earlier x.at h.end h.later (omega (arith, last)) h.beyond),
+      )
       x.at first (omega arith)
 
   -- behind it
-  pub file_past : (b : Binding) (x : Identifier) (xs : List Identifier) (ns : List ℕ) → FileIn ms ss (x ∷ xs) (x.at ∷ (x.at + 1) ∷ ns) → b ≡ x.binding → FileIn (bind x.name b ms) ss xs ns
+  pub file_past : (b : Binding) (x : Identifier) (xs : List Identifier) (ns : List ℕ) → FileIn ms ss (x ∷ xs) (x.at ∷ (x.at + 1) ∷ ns) →
+      b ≡ x.binding → FileIn (bind x.name b ms) ss xs ns
   file_past b x xs ns h e = record {
     lo = x.at + 1;
     end = h.end;
@@ -76,7 +81,8 @@ module _ (ms : List Scope) (ss : List (List Identifier)) where
 
   -- at values that follow, and behind them
   pub file_values : (xs : List Identifier) (vs ns : List ℕ) → FileIn ms ss xs (vs ++ ns) → Follow ns xs → Stands [] (file_walk ms) (file_place ss) vs []
-  file_values xs vs ns h follow = stands_stated [] (file_walk ms) (file_place ss) vs [] (stands_begin [] (file_walk ms) (file_place ss) [] xs vs ns [] [] [] h follow)
+  file_values xs vs ns h follow = stands_stated [] (file_walk ms) (file_place ss) vs []
+      (stands_begin [] (file_walk ms) (file_place ss) [] xs vs ns [] [] [] h follow)
 
   pub file_behind : (xs : List Identifier) (vs ns : List ℕ) → FileIn ms ss xs (vs ++ ns) → FileIn ms ss xs ns
   file_behind xs vs ns h =
@@ -94,7 +100,8 @@ module _ (ms : List Scope) (ss : List (List Identifier)) where
       }
 
 -- where nothing else is declared behind it
-pub file_last : (ms : List Scope) (ss : List (List Identifier)) (xs : List Identifier) (marks : List ℕ) → FileIn ms ss xs marks → FileIn ms ss (xs ++ []) (marks ++ [])
+pub file_last : (ms : List Scope) (ss : List (List Identifier)) (xs : List Identifier) (marks : List ℕ) → FileIn ms ss xs marks →
+    FileIn ms ss (xs ++ []) (marks ++ [])
 file_last ms ss xs marks h = subst (λ l. FileIn ms ss l (marks ++ [])) (sym (append-nil xs)) (subst (λ l. FileIn ms ss xs l) (sym (append-nil marks)) h)
 
 -- ---- values of constants
@@ -115,14 +122,16 @@ module _ (word : ℕ → List ℕ) where
 
   -- ---- in front of names
 
-  pub constants_from : (ss : List (List Identifier)) (before : Option ℤ) (lo : ℕ) (es : List Enumerator) (hi : ℕ) → Rising lo (each_marks enumerator_marks es) hi → FromOn lo (constants word ss before es)
+  pub constants_from : (ss : List (List Identifier)) (before : Option ℤ) (lo : ℕ) (es : List Enumerator) (hi : ℕ) →
+      Rising lo (each_marks enumerator_marks es) hi → FromOn lo (constants word ss before es)
   constants_from ss before lo [] hi r = tt
   constants_from ss before lo (e ∷ es) hi r =
       let g = r.0 in
       let v = value_in word ss before e in
       (g, from_earlier lo (e.name + 1) (constants word ss v es) (omega (arith, g)) (constants_from ss v (e.name + 1) es hi r.1.1))
 
-  pub globals_from : (k : Kinded) (lo : ℕ) (ds : List Declarator) (hi : ℕ) → Rising lo (each_marks declarator_marks ds) hi → FromOn lo (map (global_variable word k) ds)
+  pub globals_from : (k : Kinded) (lo : ℕ) (ds : List Declarator) (hi : ℕ) → Rising lo (each_marks declarator_marks ds) hi →
+      FromOn lo (map (global_variable word k) ds)
   globals_from k lo [] hi r = tt
   globals_from k lo (d ∷ ds) hi r =
       let s = parted lo (declarator_marks d) (each_marks declarator_marks ds) hi r in
@@ -145,15 +154,19 @@ module _ (word : ℕ → List ℕ) where
         (follow_both (each_marks enumerator_marks es) ns more zs (λ mid hi r. constants_from ss v mid es hi r) follow)
 
     -- with the value of the walk
-    pub constant_past : (e : Enumerator) (es : List Enumerator) (before : Option ℤ) (ms : List Scope) (zs : List Identifier) (ns : List ℕ) (v : Option ℤ) → v ≡ value_in word ss before e
+    pub constant_past : (e : Enumerator) (es : List Enumerator) (before : Option ℤ) (ms : List Scope) (zs : List Identifier) (ns : List ℕ)
+        (v : Option ℤ) → v ≡ value_in word ss before e
         → FileIn ms ss (constants word ss before (e ∷ es) ++ zs) (each_marks enumerator_marks (e ∷ es) ++ ns)
-        → FileIn (bind (word e.name) (Constant (or_zero v)) ms) ss (constants word ss (value_in word ss before e) es ++ zs) (each_marks enumerator_marks es ++ ns)
+        → FileIn (bind (word e.name) (Constant (or_zero v)) ms) ss (constants word ss (value_in word ss before e) es ++ zs)
+        (each_marks enumerator_marks es ++ ns)
     constant_past e es before ms zs ns v same h =
         let value = value_in word ss before e in
-        file_past ms ss (Constant (or_zero v)) (record { at = e.name; name = word e.name; binding = Constant (or_zero value) }) (constants word ss value es ++ zs) (each_marks enumerator_marks es ++ ns) h
+        file_past ms ss (Constant (or_zero v)) (record { at = e.name; name = word e.name; binding = Constant (or_zero value) })
+        (constants word ss value es ++ zs) (each_marks enumerator_marks es ++ ns) h
         (ap (λ z. Constant (or_zero z)) same)
 
-    enums_past : (es : List Enumerator) (before : Option ℤ) (ms : List Scope) (zs : List Identifier) (ns : List ℕ) → FileIn ms ss (constants word ss before es ++ zs) (each_marks enumerator_marks es ++ ns) → Follow ns zs
+    enums_past : (es : List Enumerator) (before : Option ℤ) (ms : List Scope) (zs : List Identifier) (ns : List ℕ) →
+        FileIn ms ss (constants word ss before es ++ zs) (each_marks enumerator_marks es ++ ns) → Follow ns zs
         → FileIn (behind_enum es before (in_scopes word ms)).scopes ss zs ns
     enums_past [] before ms zs ns h follow = h
     enums_past (e ∷ es) before ms zs ns h follow =
@@ -173,7 +186,8 @@ module _ (word : ℕ → List ℕ) where
       follows = follow_both (each_marks declarator_marks ds) ns more zs (λ mid hi r. globals_from k mid ds hi r) follow
 
       grouped : FileIn ms ss (global_variable word k d ∷ (more ++ zs)) (d.name ∷ (d.name + 1) ∷ (value_marks d.value ++ (each_marks declarator_marks ds ++ ns)))
-      grouped = subst (λ l. FileIn ms ss (global_variable word k d ∷ (more ++ zs)) (d.name ∷ (d.name + 1) ∷ l)) (append_assoc (value_marks d.value) (each_marks declarator_marks ds) ns) h
+      grouped = subst (λ l. FileIn ms ss (global_variable word k d ∷ (more ++ zs)) (d.name ∷ (d.name + 1) ∷ l))
+          (append_assoc (value_marks d.value) (each_marks declarator_marks ds) ns) h
 
       pub global_here : AreMaps ms (scopes_at ss d.name)
       global_here =
@@ -181,31 +195,40 @@ module _ (word : ℕ → List ℕ) where
           (follow_both (value_marks d.value) (each_marks declarator_marks ds ++ ns) [] (more ++ zs) (λ mid hi r. tt) follows)
 
       declared : FileIn (bind (word d.name) (Global (shape_of k d)) ms) ss (more ++ zs) (value_marks d.value ++ (each_marks declarator_marks ds ++ ns))
-      declared = file_past ms ss (Global (shape_of k d)) (global_variable word k d) (more ++ zs) (value_marks d.value ++ (each_marks declarator_marks ds ++ ns)) grouped refl
+      declared = file_past ms ss (Global (shape_of k d)) (global_variable word k d) (more ++ zs)
+          (value_marks d.value ++ (each_marks declarator_marks ds ++ ns)) grouped refl
 
       pub global_values : Stands [] (file_walk (bind (word d.name) (Global (shape_of k d)) ms)) (file_place ss) (value_marks d.value) []
-      global_values = file_values (bind (word d.name) (Global (shape_of k d)) ms) ss (more ++ zs) (value_marks d.value) (each_marks declarator_marks ds ++ ns) declared follows
+      global_values = file_values (bind (word d.name) (Global (shape_of k d)) ms) ss (more ++ zs) (value_marks d.value)
+          (each_marks declarator_marks ds ++ ns) declared follows
 
       pub global_past : FileIn (bind (word d.name) (Global (shape_of k d)) ms) ss (more ++ zs) (each_marks declarator_marks ds ++ ns)
-      global_past = file_behind (bind (word d.name) (Global (shape_of k d)) ms) ss (more ++ zs) (value_marks d.value) (each_marks declarator_marks ds ++ ns) declared
+      global_past = file_behind (bind (word d.name) (Global (shape_of k d)) ms) ss (more ++ zs) (value_marks d.value)
+          (each_marks declarator_marks ds ++ ns) declared
 
-    globals_past : (k : Kinded) (ds : List Declarator) (ms : List Scope) (zs : List Identifier) (ns : List ℕ) → FileIn ms ss (map (global_variable word k) ds ++ zs) (each_marks declarator_marks ds ++ ns) → Follow ns zs
+    globals_past : (k : Kinded) (ds : List Declarator) (ms : List Scope) (zs : List Identifier) (ns : List ℕ) →
+        FileIn ms ss (map (global_variable word k) ds ++ zs) (each_marks declarator_marks ds ++ ns) → Follow ns zs
         → FileIn (behind_globals k ds (in_scopes word ms)).scopes ss zs ns
     globals_past k [] ms zs ns h follow = h
-    globals_past k (d ∷ ds) ms zs ns h follow = globals_past k ds (bind (word d.name) (Global (shape_of k d)) ms) zs ns (global_past k d ds ms zs ns h follow) follow
+    globals_past k (d ∷ ds) ms zs ns h follow = globals_past k ds (bind (word d.name) (Global (shape_of k d)) ms) zs ns
+        (global_past k d ds ms zs ns h follow) follow
 
 -- ---- behind all that stands at file scope
 
 module _ (file : File) (ss : List (List Identifier)) where
-  pub function_here : (f : Function) (s : State) (zs : List Identifier) (ns : List ℕ) → FileIn s.scopes ss (function_identifier file f ∷ zs) (f.name ∷ (f.name + 1) ∷ ns) → Follow ns zs → AreMaps s.scopes (scopes_at ss f.name)
+  pub function_here : (f : Function) (s : State) (zs : List Identifier) (ns : List ℕ) →
+      FileIn s.scopes ss (function_identifier file f ∷ zs) (f.name ∷ (f.name + 1) ∷ ns) → Follow ns zs → AreMaps s.scopes (scopes_at ss f.name)
   function_here f s zs ns h follow = file_here s.scopes ss (function_identifier file f) zs ns h follow
 
-  pub function_past : (f : Function) (s : State) (zs : List Identifier) (ns : List ℕ) → FileIn s.scopes ss (function_identifier file f ∷ zs) (f.name ∷ (f.name + 1) ∷ ns) → FileIn (function_declared file f s).scopes ss zs ns
+  pub function_past : (f : Function) (s : State) (zs : List Identifier) (ns : List ℕ) →
+      FileIn s.scopes ss (function_identifier file f ∷ zs) (f.name ∷ (f.name + 1) ∷ ns) → FileIn (function_declared file f s).scopes ss zs ns
   function_past f s zs ns h = file_past s.scopes ss (binding.Function (signature_in file.bodies file.word f)) (function_identifier file f) zs ns h refl
 
   -- within a function
-  pub function_inside : (f : Function) (s : State) → FileIn s.scopes ss (function_identifier file f ∷ []) (f.name ∷ (f.name + 1) ∷ inner_marks f) → Stands [] (file_walk (function_declared file f s).scopes) (file_place ss) (inner_marks f) []
-  function_inside f s h = stands_stated [] (file_walk (function_declared file f s).scopes) (file_place ss) (inner_marks f) [] (function_past f s [] (inner_marks f) h)
+  pub function_inside : (f : Function) (s : State) → FileIn s.scopes ss (function_identifier file f ∷ []) (f.name ∷ (f.name + 1) ∷ inner_marks f) →
+      Stands [] (file_walk (function_declared file f s).scopes) (file_place ss) (inner_marks f) []
+  function_inside f s h = stands_stated [] (file_walk (function_declared file f s).scopes) (file_place ss) (inner_marks f) []
+      (function_past f s [] (inner_marks f) h)
 
   form_from : (form : Form) → Follow (form_marks form) (form_identifiers typed file ss form)
   form_from Line mid hi r = tt
@@ -217,9 +240,12 @@ module _ (file : File) (ss : List (List Identifier)) where
   pub tops_from : (xs : List Top) → Follow (each_marks top_marks xs) (file_identifiers typed file ss xs)
   tops_from [] mid hi r = tt
   tops_from (From first after form ∷ xs) mid hi r =
-      follow_both file.word (form_marks form) (each_marks top_marks xs) (form_identifiers typed file ss form) (file_identifiers typed file ss xs) (form_from form) (tops_from xs) mid hi r
+      follow_both file.word (form_marks form) (each_marks top_marks xs) (form_identifiers typed file ss form) (file_identifiers typed file ss xs)
+      (form_from form) (tops_from xs) mid hi r
 
-  form_past : (form : Form) (s : State) (zs : List Identifier) (ns : List ℕ) → FileIn s.scopes ss (form_identifiers typed file ss form ++ zs) (form_marks form ++ ns) → Follow ns zs → FileIn (walked.behind_form file form s).scopes ss zs ns
+  form_past : (form : Form) (s : State) (zs : List Identifier) (ns : List ℕ) →
+      FileIn s.scopes ss (form_identifiers typed file ss form ++ zs) (form_marks form ++ ns) → Follow ns zs →
+      FileIn (walked.behind_form file form s).scopes ss zs ns
   form_past Line s zs ns h follow = h
   form_past (Enum es) s zs ns h follow =
       let valued = subst (λ l. FileIn s.scopes ss (l ++ zs) (each_marks enumerator_marks es ++ ns)) (constants_are file.word ss es) h in
@@ -232,15 +258,19 @@ module _ (file : File) (ss : List (List Identifier)) where
   abbrev pub Before : List Top → State → Type 0
   Before xs s = FileIn s.scopes ss (file_identifiers typed file ss xs) (each_marks top_marks xs)
 
-  pub form_first : (first after : ℕ) (form : Form) (xs : List Top) (s : State) → Before (From first after form ∷ xs) s → FileIn s.scopes ss (form_identifiers typed file ss form) (form_marks form)
+  pub form_first : (first after : ℕ) (form : Form) (xs : List Top) (s : State) → Before (From first after form ∷ xs) s →
+      FileIn s.scopes ss (form_identifiers typed file ss form) (form_marks form)
   form_first first after form xs s h =
-      stands_begin [] (file_walk s.scopes) (file_place ss) (form_identifiers typed file ss form) (file_identifiers typed file ss xs) (form_marks form) (each_marks top_marks xs) [] [] [] h (tops_from xs)
+      stands_begin [] (file_walk s.scopes) (file_place ss) (form_identifiers typed file ss form) (file_identifiers typed file ss xs) (form_marks form)
+      (each_marks top_marks xs) [] [] [] h (tops_from xs)
 
-  pub tops_rest : (first after : ℕ) (form : Form) (xs : List Top) (s : State) → Before (From first after form ∷ xs) s → Before xs (walked.behind_form file form s)
+  pub tops_rest : (first after : ℕ) (form : Form) (xs : List Top) (s : State) → Before (From first after form ∷ xs) s →
+      Before xs (walked.behind_form file form s)
   tops_rest first after form xs s h = form_past form s (file_identifiers typed file ss xs) (each_marks top_marks xs) h (tops_from xs)
 
 -- at the beginning
-pub file_begins : (file : File) (xs : List Top) (scope : List Identifier) (hi : ℕ) → scope ≡ file_identifiers typed file (scope ∷ []) xs → Rising 0 (each_marks top_marks xs) hi → Before file (scope ∷ []) xs walked.start
+pub file_begins : (file : File) (xs : List Top) (scope : List Identifier) (hi : ℕ) → scope ≡ file_identifiers typed file (scope ∷ []) xs →
+    Rising 0 (each_marks top_marks xs) hi → Before file (scope ∷ []) xs walked.start
 file_begins file xs scope hi e r = record {
   lo = 0;
   end = hi;

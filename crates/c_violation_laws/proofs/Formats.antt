@@ -77,19 +77,22 @@ from_plain b bs out zs false rest e h =
     not_37 : (c : ℕ) → (c == 37) ≡ false → c ≢ 37
     not_37 c f g = let k : (c == 37) ≡ true = ap (λ i. i == 37) g in cc
 
-after_percent : (b : ℕ) (bs : List ℕ) (out zs : List Want) → Reads bs zs → b ≡ 37 → wanted_from (out ++ ended Percent b) Plain bs ≡ Some zs → Wanted Percent (b ∷ bs) out zs
+after_percent : (b : ℕ) (bs : List ℕ) (out zs : List Want) → Reads bs zs → b ≡ 37 → wanted_from (out ++ ended Percent b) Plain bs ≡ Some zs →
+    Wanted Percent (b ∷ bs) out zs
 after_percent b bs out zs rest e h =
     let g = subst (λ i. wanted_from (out ++ ended Percent i) Plain bs ≡ Some zs) e h in
     let r = rest Plain (out ++ []) g in
     record { wants = r.wants; is = subst (λ i. IsFormat (37 ∷ i ∷ bs) r.wants) (sym e) (percent r.is); all = r.all ∙ ap (λ l. l ++ r.wants) (append-nil out) }
 
-after_short : (b : ℕ) (bs : List ℕ) (out zs : List Want) (t : Bool) → Reads bs zs → is_short b ≡ t → t ≡ true → wanted_from (out ++ cond t (Sized false ∷ []) []) Plain bs ≡ Some zs → Wanted Percent (b ∷ bs) out zs
+after_short : (b : ℕ) (bs : List ℕ) (out zs : List Want) (t : Bool) → Reads bs zs → is_short b ≡ t → t ≡ true →
+    wanted_from (out ++ cond t (Sized false ∷ []) []) Plain bs ≡ Some zs → Wanted Percent (b ∷ bs) out zs
 after_short b bs out zs true rest e f h =
     let r = rest Plain (out ++ Sized false ∷ []) h in
     record { wants = Sized false ∷ r.wants; is = short (short_is b e) r.is; all = r.all ∙ append_assoc out (Sized false ∷ []) r.wants }
 after_short b bs out zs false rest e f h = cc
 
-after_long : (b : ℕ) (bs : List ℕ) (out zs : List Want) → Reads bs zs → b ≡ 108 → wanted_from (out ++ ended Percent b) PercentLong bs ≡ Some zs → Wanted Percent (b ∷ bs) out zs
+after_long : (b : ℕ) (bs : List ℕ) (out zs : List Want) → Reads bs zs → b ≡ 108 → wanted_from (out ++ ended Percent b) PercentLong bs ≡ Some zs →
+    Wanted Percent (b ∷ bs) out zs
 after_long b bs out zs rest e h =
     let g = subst (λ i. wanted_from (out ++ ended Percent i) PercentLong bs ≡ Some zs) e h in
     let r = rest PercentLong (out ++ []) g in
@@ -105,7 +108,8 @@ from_percent b bs out zs false true u rest e f g h = after_short b bs out zs (is
 from_percent b bs out zs false false true rest e f g h = after_long b bs out zs rest (eqb-true b 108 g) h
 from_percent b bs out zs false false false rest e f g h = cc
 
-from_long : (b : ℕ) (bs : List ℕ) (out zs : List Want) (t : Bool) → Reads bs zs → is_long b ≡ t → behind PercentLong b out bs (cond t (Some Plain) None) ≡ Some zs → Wanted PercentLong (b ∷ bs) out zs
+from_long : (b : ℕ) (bs : List ℕ) (out zs : List Want) (t : Bool) → Reads bs zs → is_long b ≡ t →
+    behind PercentLong b out bs (cond t (Some Plain) None) ≡ Some zs → Wanted PercentLong (b ∷ bs) out zs
 from_long b bs out zs true rest e h =
     let g = subst (λ t. wanted_from (out ++ cond t (Sized true ∷ []) []) Plain bs ≡ Some zs) e h in
     let r = rest Plain (out ++ Sized true ∷ []) g in

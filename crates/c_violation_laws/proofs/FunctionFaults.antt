@@ -41,7 +41,8 @@ use Rattle.c_violation_laws.proofs.Statements.{item, list}
 module _ (f : InFunction) (apart : Apart f.variables) where
   -- ---- parameters
 
-  module _ (defines : Bool) (w : Walk) (p : Place) (x : Parameter) (here : AreMaps w.scopes (scopes_at p.scopes x.first)) (there : (at : ℕ) → x.name ≡ Some at → AreMaps w.scopes (scopes_at p.scopes at)) where
+  module _ (defines : Bool) (w : Walk) (p : Place) (x : Parameter) (here : AreMaps w.scopes (scopes_at p.scopes x.first))
+      (there : (at : ℕ) → x.name ≡ Some at → AreMaps w.scopes (scopes_at p.scopes at)) where
     abbrev Breaks : Rule
     Breaks v = SizeBreaks (names_behind f p x.first) x.size v ⊎ ParameterBreaks f p defines x v
 
@@ -52,14 +53,21 @@ module _ (f : InFunction) (apart : Apart f.variables) where
     some_none a e g = cc
 
     by_name : (o : Option ℕ) → x.name ≡ o
-        → Finds (λ vs. elim o [ Some at ↦ bind_fault at (f.word at) w.scopes (size_faults (env_in f.word w) x.size vs) | None ↦ fault_if defines x.first 43 (size_faults (env_in f.word w) x.size vs) ]) Breaks
+        → Finds (λ vs. elim o [
+          | Some at ↦ bind_fault at (f.word at) w.scopes (size_faults (env_in f.word w) x.size vs)
+          | None ↦ fault_if defines
+              x.first 43 (size_faults (env_in f.word w) x.size vs)
+        ]) Breaks
     by_name (Some at) e =
-        finds_both (size_faults (env_in f.word w) x.size) (bind_fault at (f.word at) w.scopes) _ _ (sizes f.word w.scopes (scopes_at p.scopes x.first) here x.size)
-        (finds_same (bind_fault at (f.word at) w.scopes) _ (λ v. ParameterBreaks f p defines x v) (twice f.word w.scopes (scopes_at p.scopes at) (there at e) (f.word at) at)
+        finds_both (size_faults (env_in f.word w) x.size) (bind_fault at (f.word at) w.scopes)
+        _ _ (sizes f.word w.scopes (scopes_at p.scopes x.first) here x.size)
+        (finds_same (bind_fault at (f.word at) w.scopes) _ (λ v. ParameterBreaks f p defines x v)
+        (twice f.word w.scopes (scopes_at p.scopes at) (there at e) (f.word at) at)
         (λ v q. subst (ParameterBreaks f p defines x) (sym q.1) (ParameterBreaks.declared_twice at e q.0)) fro)
       where
         fro : (v : Fault) → ParameterBreaks f p defines x v → IsDeclared (f.word at) (scopes_at p.scopes at) × (v ≡ broken at 21)
-        fro v (ParameterBreaks.declared_twice b g h) = let same = some_same b at g e in (subst (λ z. IsDeclared (f.word z) (scopes_at p.scopes z)) same h, ap (λ z. broken z 21) same)
+        fro v (ParameterBreaks.declared_twice b g h) = let same = some_same b at g e in
+            (subst (λ z. IsDeclared (f.word z) (scopes_at p.scopes z)) same h, ap (λ z. broken z 21) same)
         fro v (ParameterBreaks.no_name d g) = absurd (some_none at e g)
     by_name None e =
         finds_both (size_faults (env_in f.word w) x.size) (fault_if defines x.first 43) _ _ (sizes f.word w.scopes (scopes_at p.scopes x.first) here x.size)
@@ -73,8 +81,10 @@ module _ (f : InFunction) (apart : Apart f.variables) where
     parameter : Finds (parameter_fault f.word defines x w) Breaks
     parameter = by_name x.name refl
 
-  parameters : (defines : Bool) (xs : List Parameter) (w : Walk) (p : Place) (lo end hi : ℕ) (zs : List Identifier) (rest : List ℕ) → InScope w.scopes p.scopes lo hi (flat_map (parameter_identifier f) xs ++ zs)
-      → Rising lo (each_marks parameter_marks xs) end → end ≤ hi → FromOn end zs → Numbered f.variables w (map (λ x. x.first) xs ++ rest) → Finds (parameters_faults f.word defines xs w) (λ v. ParametersBreak f p defines xs v)
+  parameters : (defines : Bool) (xs : List Parameter) (w : Walk) (p : Place) (lo end hi : ℕ) (zs : List Identifier) (rest : List ℕ) →
+      InScope w.scopes p.scopes lo hi (flat_map (parameter_identifier f) xs ++ zs)
+      → Rising lo (each_marks parameter_marks xs) end → end ≤ hi → FromOn end zs → Numbered f.variables w (map (λ x. x.first) xs ++ rest) →
+      Finds (parameters_faults f.word defines xs w) (λ v. ParametersBreak f p defines xs v)
   parameters defines [] w p lo end hi zs rest h r room beyond n = finds_none
   parameters defines (x ∷ xs) w p lo end hi zs rest h r room beyond n =
       let s = parted lo (parameter_marks x) (each_marks parameter_marks xs) end r in
@@ -83,12 +93,14 @@ module _ (f : InFunction) (apart : Apart f.variables) where
       let inner = subst (λ l. InScope w.scopes p.scopes lo hi l) (append_assoc (parameter_identifier f x) more zs) h in
       let after = from_both s.0 more zs (parameters_from f apart s.0 xs end s.2) (from_earlier s.0 end zs last beyond) in
       let here = parameter_here f apart x w p.scopes lo s.0 hi (more ++ zs) inner s.1 (omega (arith, last, room)) after in
-      let there = λ (at : ℕ) (e : x.name ≡ Some at). parameter_named f apart x at x.name e w p.scopes lo s.0 hi (more ++ zs) inner s.1 (omega (arith, last, room)) after in
+      let there = λ (at : ℕ) (e : x.name ≡ Some at). parameter_named f apart x at x.name e w p.scopes lo s.0 hi (more ++ zs) inner s.1
+      (omega (arith, last, room)) after in
       let g = parameter_past f apart x w p.scopes lo s.0 hi (more ++ zs) (map (λ x. x.first) xs ++ rest) inner s.1 n in
       finds_both (parameter_fault f.word defines x w) (parameters_faults f.word defines xs (bind_parameter f.word x w)) _ _ (parameter defines w p x here there)
       (parameters defines xs (bind_parameter f.word x w) p s.0 end hi zs rest g.0 s.2 room beyond g.1)
 
-module _ (word : ℕ → List ℕ) (flat : FlatCounts) (notes : Anchor → List (List ℕ)) (f : Function) (apart : Apart (variables_of f)) (ms : List Scope) (ss : List (List Identifier)) (lo hi : ℕ)
+module _ (word : ℕ → List ℕ) (flat : FlatCounts) (notes : Anchor → List (List ℕ)) (f : Function) (apart : Apart (variables_of f)) (ms : List Scope)
+    (ss : List (List Identifier)) (lo hi : ℕ)
     (sees : Sees ms ss lo hi) (order : Rising lo (inner_marks f) hi) where
   abbrev vs : List ℕ
   vs = variables_of f
@@ -113,9 +125,11 @@ module _ (word : ℕ → List ℕ) (flat : FlatCounts) (notes : Anchor → List 
     none_counts : (n : ℕ × ℕ) → flat theirs ≡ Some n → flat theirs ≡ None → ⊥
     none_counts n e g = cc
 
-    by_counts : (o : Option (ℕ × ℕ)) → flat theirs ≡ o → Finds (λ vs. elim o [ Some n ↦ fault_if (is_tangled (measures word f b n)) f.name 39 vs | None ↦ vs ]) (λ v. Tangled typed flat word notes f b ss v)
+    by_counts : (o : Option (ℕ × ℕ)) → flat theirs ≡ o → Finds
+        (λ vs. elim o [ Some n ↦ fault_if (is_tangled (measures word f b n)) f.name 39 vs | None ↦ vs ]) (λ v. Tangled typed flat word notes f b ss v)
     by_counts (Some n) e =
-        finds_same (fault_if (is_tangled (measures word f b n)) f.name 39) _ (λ v. Tangled typed flat word notes f b ss v) (finds_if (is_tangled (measures word f b n)) f.name 39)
+        finds_same (fault_if (is_tangled (measures word f b n)) f.name 39) _ (λ v. Tangled typed flat word notes f b ss v)
+        (finds_if (is_tangled (measures word f b n)) f.name 39)
         (λ v q. subst (Tangled typed flat word notes f b ss) (sym q.1) (Tangled.tangled n e q.0)) fro
       where
         fro : (v : Fault) → Tangled typed flat word notes f b ss v → (is_tangled (measures word f b n) ≡ true) × (v ≡ broken f.name 39)
@@ -141,25 +155,32 @@ module _ (word : ℕ → List ℕ) (flat : FlatCounts) (notes : Anchor → List 
       (λ v. OutermostBreaks typed (record { word = word; notes = notes; labels = labels; variables = vs; result = result_kind word f }) place b v)
 
   by_walk : (b : Body) → f.body ≡ Some b → OutermostIn here apart (inside word f ms) place b → Outermost b (each_once (map word (walked_labels b [])))
-  by_walk (Braces first after xs) is h = list word notes (map word (walked_labels (Braces first after xs) [])) (result_kind word f) vs apart no_construct xs (inside word f ms) place [] refl h
-  by_walk (Lone first after x) is h = item word notes (map word (walked_labels (Lone first after x) [])) (result_kind word f) vs apart no_construct x (inside word f ms) place [] refl h
+  by_walk (Braces first after xs) is h = list word notes (map word (walked_labels (Braces first after xs) [])) (result_kind word f) vs apart
+      no_construct xs (inside word f ms) place [] refl h
+  by_walk (Lone first after x) is h = item word notes (map word (walked_labels (Lone first after x) [])) (result_kind word f) vs apart no_construct x
+      (inside word f ms) place [] refl h
 
   outermost : (b : Body) → f.body ≡ Some b → Outermost b (written.labels_within word f.body)
-  outermost b is = subst (Outermost b) (ap (λ ats. each_once (map word ats)) (labels_same b) ∙ ap (written.labels_within word) (sym is)) (by_walk b is (stands_body b is))
+  outermost b is = subst (Outermost b) (ap (λ ats. each_once (map word ats)) (labels_same b) ∙ ap (written.labels_within word) (sym is))
+      (by_walk b is (stands_body b is))
 
   twice_labelled : (b : Body) → Finds (twice_faults word (walked_labels b [])) (λ v. SomeBehind (λ before at. LabelTwice word before at v) (body_labels b))
-  twice_labelled b = subst (λ ats. Finds (twice_faults word (walked_labels b [])) (λ v. SomeBehind (λ before at. LabelTwice word before at v) ats)) (labels_same b) (labels_twice word (walked_labels b []))
+  twice_labelled b = subst (λ ats. Finds (twice_faults word (walked_labels b [])) (λ v. SomeBehind (λ before at. LabelTwice word before at v) ats))
+      (labels_same b) (labels_twice word (walked_labels b []))
 
-  definition : (o : Option Body) → f.body ≡ o → Finds (faults_within flat word notes f o (inside word f ms)) (λ v. DefinitionBreaks typed flat word notes f ss o v)
+  definition : (o : Option Body) → f.body ≡ o → Finds (faults_within flat word notes f o (inside word f ms))
+      (λ v. DefinitionBreaks typed flat word notes f ss o v)
   definition None is = finds_none
   definition (Some b) is =
-      finds_both (twice_faults word (walked_labels b [])) (λ vs. tangle_fault flat word f b (ours b is) (body_faults (context word notes f b) b (inside word f ms) vs)) _ _ (twice_labelled b)
+      finds_both (twice_faults word (walked_labels b [])) (λ vs. tangle_fault flat word f b (ours b is)
+      (body_faults (context word notes f b) b (inside word f ms) vs)) _ _ (twice_labelled b)
       (finds_both (body_faults (context word notes f b) b (inside word f ms)) (tangle_fault flat word f b (ours b is)) _ _ (outermost b is) (tangles b is))
 
   pub function : Finds (function_faults flat word notes f ms) (λ v. FunctionBreaks typed flat word notes f ss v)
   function =
       let s = parted lo (each_marks parameter_marks f.parameters) (within_marks f.body) hi order in
       finds_both (parameters_faults word (is_some f.body) f.parameters (walked.entered ms)) (faults_within flat word notes f f.body (inside word f ms)) _ _
-      (parameters here apart (is_some f.body) f.parameters (walked.entered ms) place lo s.0 hi (outermost_identifiers here f.body) (variables_within f.body) (entered_scope here apart f refl ms ss lo hi sees order) s.1
+      (parameters here apart (is_some f.body) f.parameters (walked.entered ms) place lo s.0 hi (outermost_identifiers here f.body)
+      (variables_within f.body) (entered_scope here apart f refl ms ss lo hi sees order) s.1
       (rising_ends s.0 (within_marks f.body) hi s.2) (outermost_from here apart s.0 f.body hi s.2) (entered_numbered here apart f refl ms ss lo hi sees order))
       (definition f.body refl)

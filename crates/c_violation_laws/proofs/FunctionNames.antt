@@ -54,7 +54,8 @@ has_more q n (x ∷ xs) = by (name_cmp n x) (is_eq-slice_cmp n x) (has_more q n 
 module _ (word : ℕ → List ℕ) where
   -- those that one of these defines
   abbrev pub AreBodies : List Top → List (List ℕ) → Type 0
-  AreBodies before bodies = (q : List ℕ) → (has_function bodies q ≡ true → IsDefinedIn word q before) × (IsDefinedIn word q before → has_function bodies q ≡ true)
+  AreBodies before bodies = (q : List ℕ) → (has_function bodies q ≡ true → IsDefinedIn word q before) ×
+      (IsDefinedIn word q before → has_function bodies q ≡ true)
 
   defined_more : (q : List ℕ) (before : List Top) (x : Top) → IsDefinedIn word q (before ++ x ∷ []) → IsDefinedIn word q before ⊎ IsDefinedIn word q (x ∷ [])
   defined_more q [] x h = inr h
@@ -77,10 +78,16 @@ module _ (word : ℕ → List ℕ) where
   more_defined q (From first after Unread ∷ xs) x h = more_defined q xs x h
 
   -- behind something that is no function
-  pub bodies_same : (before : List Top) (x : Top) (bodies : List (List ℕ)) → ((q : List ℕ) → IsDefinedIn word q (x ∷ []) → ⊥) → AreBodies before bodies → AreBodies (before ++ x ∷ []) bodies
-  bodies_same before x bodies never h q = (λ e. more_defined q before x (inl ((h q).0 e)), λ d. elim (defined_more q before x d) [ inl a ↦ (h q).1 a | inr b ↦ absurd (never q b) ])
+  pub bodies_same : (before : List Top) (x : Top) (bodies : List (List ℕ)) → ((q : List ℕ) → IsDefinedIn word q (x ∷ []) → ⊥) →
+      AreBodies before bodies → AreBodies (before ++ x ∷ []) bodies
+  bodies_same before x bodies never h q = (
+    λ e. more_defined q before x (inl ((h q).0 e)),
+    λ d. elim (defined_more q before x d)
+        [ inl a ↦ (h q).1 a | inr b ↦ absurd (never q b) ],
+  )
 
-  with_body_by : (q : List ℕ) (f : Function) (bodies : List (List ℕ)) → has_function (with_body word f bodies) q ≡ ((has_body f && bytes_eq q (word f.name)) || has_function bodies q)
+  with_body_by : (q : List ℕ) (f : Function) (bodies : List (List ℕ)) →
+      has_function (with_body word f bodies) q ≡ ((has_body f && bytes_eq q (word f.name)) || has_function bodies q)
   with_body_by q f bodies = by (has_body f)
     where
       by : (b : Bool) → has_function (cond b (with_function (word f.name) bodies) bodies) q ≡ ((b && bytes_eq q (word f.name)) || has_function bodies q)
@@ -88,16 +95,19 @@ module _ (word : ℕ → List ℕ) where
       by false = refl
 
   -- behind a function
-  pub bodies_more : (before : List Top) (first after : ℕ) (f : Function) (bodies : List (List ℕ)) → AreBodies before bodies → AreBodies (before ++ From first after (Defines f) ∷ []) (with_body word f bodies)
+  pub bodies_more : (before : List Top) (first after : ℕ) (f : Function) (bodies : List (List ℕ)) → AreBodies before bodies →
+      AreBodies (before ++ From first after (Defines f) ∷ []) (with_body word f bodies)
   bodies_more before first after f bodies h q = (
-    λ e. more_defined q before (From first after (Defines f)) (elim (or_cases (has_body f && bytes_eq q (word f.name)) (has_function bodies q) (sym (with_body_by q f bodies) ∙ e)) [
-      | inl g ↦ let p = and_parts (has_body f) (bytes_eq q (word f.name)) g in inr (inl (p.0, same_names q (word f.name) p.1))
-      | inr g ↦ inl ((h q).0 g)
-    ]),
+    λ e. more_defined q before (From first after (Defines f))
+        (elim (or_cases (has_body f && bytes_eq q (word f.name)) (has_function bodies q) (sym (with_body_by q f bodies) ∙ e)) [
+          | inl g ↦ let p = and_parts (has_body f) (bytes_eq q (word f.name)) g in inr (inl (p.0, same_names q (word f.name) p.1))
+          | inr g ↦ inl ((h q).0 g)
+        ]),
     λ d. with_body_by q f bodies ∙ elim (defined_more q before (From first after (Defines f)) d) [
       | inl a ↦ or_right (has_body f && bytes_eq q (word f.name)) (has_function bodies q) ((h q).1 a)
       | inr b ↦ elim b [
-        | inl p ↦ or_left (has_body f && bytes_eq q (word f.name)) (has_function bodies q) (and_both (has_body f) (bytes_eq q (word f.name)) p.0 (names_same q (word f.name) p.1))
+        | inl p ↦ or_left (has_body f && bytes_eq q (word f.name)) (has_function bodies q)
+            (and_both (has_body f) (bytes_eq q (word f.name)) p.0 (names_same q (word f.name) p.1))
         | inr n ↦ absurd n
       ]
     ],
@@ -125,13 +135,15 @@ again_rule at again s (Some _) v = v ≡ broken at 21
 
 again_finds : (at : ℕ) (again : Bool) (s : Signature) (o : Option Binding) → Finds (again_faults at again s o) (again_rule at again s o)
 again_finds at again s None = finds_none
-again_finds at again s (Some (binding.Function g)) = finds_both (fault_if (not (same_signature g s)) at 37) (fault_if again at 21) _ _ (finds_if (not (same_signature g s)) at 37) (finds_if again at 21)
+again_finds at again s (Some (binding.Function g)) = finds_both (fault_if (not (same_signature g s)) at 37) (fault_if again at 21)
+    _ _ (finds_if (not (same_signature g s)) at 37) (finds_if again at 21)
 again_finds at again s (Some (binding.Constant n)) = finds_fault at 21
 again_finds at again s (Some (binding.Global shape)) = finds_fault at 21
 again_finds at again s (Some (binding.Local slot shape)) = finds_fault at 21
 again_finds at again s (Some binding.Printf) = finds_fault at 21
 
-module _ (file : File) (before : List Top) (bodies : List (List ℕ)) (defined : AreBodies file.word before bodies) (ms ss : List Scope) (m : AreMaps ms ss) (f : Function) where
+module _ (file : File) (before : List Top) (bodies : List (List ℕ)) (defined : AreBodies file.word before bodies) (ms ss : List Scope)
+    (m : AreMaps ms ss) (f : Function) where
   abbrev name : List ℕ
   name = file.word f.name
 
@@ -153,11 +165,13 @@ module _ (file : File) (before : List Top) (bodies : List (List ℕ)) (defined :
   other : (b : Binding) → bound name ss ≡ Some b → ((s : Signature) → b ≡ binding.Function s → ⊥) → (v : Fault) → v ≡ broken f.name 21 → Breaks v
   other b e i v g =
       subst Breaks (sym g)
-      (FunctionNameBreaks.no_function (is_declared name ss (ap is_some e)) (λ s h. let q : Some b ≡ Some (binding.Function s) = sym e ∙ as_declared name (binding.Function s) ss h in i s (cc)))
+      (FunctionNameBreaks.no_function (is_declared name ss (ap is_some e))
+      (λ s h. let q : Some b ≡ Some (binding.Function s) = sym e ∙ as_declared name (binding.Function s) ss h in i s (cc)))
 
   declared_before : (o : Option Binding) → bound name ss ≡ o → (v : Fault) → again_rule f.name again own o v → Breaks v
   declared_before None e v h = absurd h
-  declared_before (Some (binding.Function g)) e v (inl q) = subst Breaks (sym q.1) (FunctionNameBreaks.disagrees g (declared_as name (binding.Function g) ss e) (untrue (same_signature g own) q.0))
+  declared_before (Some (binding.Function g)) e v (inl q) = subst Breaks (sym q.1)
+      (FunctionNameBreaks.disagrees g (declared_as name (binding.Function g) ss e) (untrue (same_signature g own) q.0))
   declared_before (Some (binding.Function g)) e v (inr q) =
       let p = and_parts (has_body f) (has_function bodies name) q.0 in
       subst Breaks (sym q.1) (FunctionNameBreaks.second_body g (declared_as name (binding.Function g) ss e) p.0 ((defined name).0 p.1))
@@ -173,7 +187,8 @@ module _ (file : File) (before : List Top) (bodies : List (List ℕ)) (defined :
       subst Breaks (sym q.1) (FunctionNameBreaks.other_main (same_names name (codes "main") p.0) (untrue (is_main_form file.word f) p.1))
   to v (inr (inr h)) = declared_before (bound name ss) refl v h
 
-  other_rule : (o : Option Binding) → bound name ss ≡ o → IsDeclared name ss → ((s : Signature) → IsDeclaredAs name (binding.Function s) ss → ⊥) → again_rule f.name again own o (broken f.name 21)
+  other_rule : (o : Option Binding) → bound name ss ≡ o → IsDeclared name ss → ((s : Signature) → IsDeclaredAs name (binding.Function s) ss → ⊥) →
+      again_rule f.name again own o (broken f.name 21)
   other_rule None e d i = absurd (true≢false (sym (declared_is name ss d) ∙ ap is_some e))
   other_rule (Some (binding.Function g)) e d i = absurd (i g (declared_as name (binding.Function g) ss e))
   other_rule (Some (binding.Constant n)) e d i = refl
@@ -187,14 +202,18 @@ module _ (file : File) (before : List Top) (bodies : List (List ℕ)) (defined :
   fro : (v : Fault) → FunctionNameBreaks file before ss f v → Parts v
   fro v (FunctionNameBreaks.known_function e) = inl (e, refl)
   fro v (FunctionNameBreaks.no_function d i) = inr (inr (other_rule (bound name ss) refl d i))
-  fro v (FunctionNameBreaks.second_body g h e d) = inr (inr (known (binding.Function g) (broken f.name 21) h (inr (and_both (has_body f) (has_function bodies name) e ((defined name).1 d), refl))))
-  fro v (FunctionNameBreaks.other_main e g) = inr (inl (and_both (bytes_eq name (codes "main")) (not (is_main_form file.word f)) (names_same name (codes "main") e) (ap not g), refl))
+  fro v (FunctionNameBreaks.second_body g h e d) = inr
+      (inr (known (binding.Function g) (broken f.name 21) h (inr (and_both (has_body f) (has_function bodies name) e ((defined name).1 d), refl))))
+  fro v (FunctionNameBreaks.other_main e g) = inr
+      (inl (and_both (bytes_eq name (codes "main")) (not (is_main_form file.word f)) (names_same name (codes "main") e) (ap not g), refl))
   fro v (FunctionNameBreaks.disagrees g h e) = inr (inr (known (binding.Function g) (broken f.name 37) h (inl (ap not e, refl))))
 
   pub function_name : Finds (function_name_faults file.bodies bodies f (in_scopes file.word ms)) Breaks
   function_name =
       finds_same (function_name_faults file.bodies bodies f (in_scopes file.word ms)) Parts Breaks
-      (finds_both (fault_if (is_known name) f.name 21) (λ vs. again_faults f.name again own (bound name ms) (fault_if main f.name 36 vs)) _ _ (finds_if (is_known name) f.name 21)
+      (finds_both (fault_if (is_known name) f.name 21) (λ vs. again_faults f.name again own (bound name ms) (fault_if main f.name 36 vs))
+      _ _ (finds_if (is_known name) f.name 21)
       (finds_both (fault_if main f.name 36) (again_faults f.name again own (bound name ms)) _ _ (finds_if main f.name 36)
-      (subst (λ o. Finds (again_faults f.name again own o) (again_rule f.name again own (bound name ss))) (sym (found_alike name ms ss m)) (again_finds f.name again own (bound name ss)))))
+      (subst (λ o. Finds (again_faults f.name again own o) (again_rule f.name again own (bound name ss))) (sym (found_alike name ms ss m))
+      (again_finds f.name again own (bound name ss)))))
       to fro

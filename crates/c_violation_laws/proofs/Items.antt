@@ -82,7 +82,8 @@ module _ (lo hi : ℕ) (g k : Term → Expression) (same : (t : Term) → lo ≤
 -- ---- declarations
 
 module _ (f : InFunction) (apart : Apart f.variables) where
-  pub locals_same : (k : Kinded) (ds : List Declarator) (w : Walk) (p : Place) (rest : List ℕ) → StandsIn f.variables w p (map (variable f k) ds) (each_marks declarator_marks ds) (name_tokens ds ++ rest)
+  pub locals_same : (k : Kinded) (ds : List Declarator) (w : Walk) (p : Place) (rest : List ℕ) →
+      StandsIn f.variables w p (map (variable f k) ds) (each_marks declarator_marks ds) (name_tokens ds ++ rest)
       → walked_names.locals f.word k ds w ≡ map (local typed f p) ds
   locals_same k [] w p rest h = refl
   locals_same k (d ∷ ds) w p rest h =
@@ -96,7 +97,8 @@ module _ (f : InFunction) (apart : Apart f.variables) where
 
 -- ---- labels
 
-module _ (c : Context) (labels : List (List ℕ)) (numbers : (name : List ℕ) → number_in c.labels name ≡ label_number labels name) (vs : List ℕ) (apart : Apart vs) where
+module _ (c : Context) (labels : List (List ℕ)) (numbers : (name : List ℕ) → number_in c.labels name ≡ label_number labels name) (vs : List ℕ)
+    (apart : Apart vs) where
   -- the same with these labels and variables
   abbrev numbered : InFunction
   numbered = in_function c labels vs
@@ -110,7 +112,8 @@ module _ (c : Context) (labels : List (List ℕ)) (numbers : (name : List ℕ) �
   module _ (w : Walk) (p : Place) where
     label_same : (l : Label) → LabelSees w p l → label_items c (env_at c w) l ≡ written.label_items typed numbered (names numbered p) l
     label_same (Named at after) m = λ i. notes_at numbered (Before at) ++ item.Mark (numbers (c.word at) i) ∷ []
-    label_same (Case at after t) m = λ i. notes_at numbered (Before at) ++ item.Arrival (Some (constant_same c.word w (scopes_at p.scopes (first_of t)) m t i)) ∷ []
+    label_same (Case at after t) m = λ i. notes_at numbered (Before at) ++
+        item.Arrival (Some (constant_same c.word w (scopes_at p.scopes (first_of t)) m t i)) ∷ []
     label_same (Default at after) m = refl
 
     labels_same : (ls : List Label) → LabelsSee w p ls → labels_items c (env_at c w) ls ≡ written.labels_items typed numbered (names numbered p) ls
@@ -148,7 +151,8 @@ module _ (c : Context) (labels : List (List ℕ)) (numbers : (name : List ℕ) �
         → notes_at numbered (Before first) ++ walked.declaration_items c d w ≡ declares_items typed numbered first d p
     declares_same first d h = λ i. notes_at numbered (Before first) ++ locals_same numbered apart (kinded c.word d) d.names w p rest h i
 
-    start_same : (s : Start) → StandsIn vs w p (start_identifiers numbered s) (start_marks s) (start_variables s ++ rest) → walked.start_items c s w ≡ start_items typed numbered s p
+    start_same : (s : Start) → StandsIn vs w p (start_identifiers numbered s) (start_marks s) (start_variables s ++ rest) →
+        walked.start_items c s w ≡ start_items typed numbered s p
     start_same NoStart h = refl
     start_same (StartValue t) h = λ i. item.Evaluate (dropped_is w p t (stands_at vs w p t [] rest (stands_stated vs w p (term_marks t) rest h)) i) ∷ []
     start_same (StartNames d) h = locals_same numbered apart (kinded c.word d) d.names w p rest h
@@ -166,69 +170,92 @@ module _ (c : Context) (labels : List (List ℕ)) (numbers : (name : List ℕ) �
   extended_by_none (Some s) = λ i. Some (record { cases = s.cases; default = s.default; list = append-nil s.list i })
   extended_by_none None = refl
 
-  more_items : (r : Option Reading) (xs ys : List item.Item) (rest : Parted) (later : List Section) → xs ≡ ys → later ≡ Sectioned (extended r xs) rest → later ≡ Sectioned r (preceded ys rest)
+  more_items : (r : Option Reading) (xs ys : List item.Item) (rest : Parted) (later : List Section) → xs ≡ ys →
+      later ≡ Sectioned (extended r xs) rest → later ≡ Sectioned r (preceded ys rest)
   more_items r xs ys rest later e f =
-      f ∙ ap (λ s. closed s ++ map ended rest.sections) (extended_twice r xs rest.outside) ∙ ap (λ l. closed (extended r (l ++ rest.outside)) ++ map ended rest.sections) e
+      f ∙ ap (λ s. closed s ++ map ended rest.sections) (extended_twice r xs rest.outside) ∙
+      ap (λ l. closed (extended r (l ++ rest.outside)) ++ map ended rest.sections) e
 
   -- a section with these labels, which begins with these items
   abbrev read_at : Place → List Label → List item.Item → Option Reading
-  read_at p ls xs = Some (record { cases = written.section_cases typed (names numbered p) ls; default = has_default ls; list = notes_at numbered (AtSection (first_label ls)) ++ section_marks numbered ls ++ xs })
+  read_at p ls xs = Some (record {
+    cases = written.section_cases typed (names numbered p) ls;
+    default = has_default ls;
+    list = notes_at numbered (AtSection (first_label ls)) ++ section_marks numbered ls ++ xs;
+  })
 
-  ended_section : (w : Walk) (p : Place) (ls : List Label) (h : LabelsSee w p ls) (xs ys : List item.Item) → xs ≡ ys → begun c (env_at c w) ls xs ≡ read_at p ls ys
+  ended_section : (w : Walk) (p : Place) (ls : List Label) (h : LabelsSee w p ls) (xs ys : List item.Item) → xs ≡ ys →
+      begun c (env_at c w) ls xs ≡ read_at p ls ys
   ended_section w p ls h xs ys e =
-      λ i. Some (record { cases = cases_same w p ls h i; default = has_default ls; list = notes_at numbered (AtSection (first_label ls)) ++ marks_same ls i ++ e i })
+      λ i. Some (record {
+        cases = cases_same w p ls h i;
+        default = has_default ls;
+        list = notes_at numbered (AtSection (first_label ls)) ++ marks_same ls i ++ e i;
+      })
 
-  one_section : (w : Walk) (p : Place) (r : Option Reading) (ls : List Label) (h : LabelsSee w p ls) (xs ys : List item.Item) (rest : Parted) (later : List Section) → xs ≡ ys
+  one_section : (w : Walk) (p : Place) (r : Option Reading) (ls : List Label) (h : LabelsSee w p ls) (xs ys : List item.Item) (rest : Parted)
+      (later : List Section) → xs ≡ ys
       → later ≡ Sectioned (begun c (env_at c w) ls xs) rest → closed r ++ later ≡ Sectioned r (headed typed numbered p ls ys rest)
   one_section w p r ls h xs ys rest later e f =
-      ap (λ l. closed r ++ l) (f ∙ ap (λ s. Sectioned s rest) (ended_section w p ls h xs ys e)) ∙ ap (λ s. closed s ++ map ended (headed typed numbered p ls ys rest).sections) (sym (extended_by_none r))
+      ap (λ l. closed r ++ l) (f ∙ ap (λ s. Sectioned s rest) (ended_section w p ls h xs ys e)) ∙
+      ap (λ s. closed s ++ map ended (headed typed numbered p ls ys rest).sections) (sym (extended_by_none r))
 
   -- a labelled item, or another
-  by_case : (w : Walk) (p : Place) (r : Option Reading) (ls : List Label) (h : LabelsSee w p ls) (xs ys : List item.Item) (rest : Parted) (first other : List Section) (t : Bool) → xs ≡ ys
+  by_case : (w : Walk) (p : Place) (r : Option Reading) (ls : List Label) (h : LabelsSee w p ls) (xs ys : List item.Item) (rest : Parted)
+      (first other : List Section) (t : Bool) → xs ≡ ys
       → first ≡ Sectioned (begun c (env_at c w) ls xs) rest
       → other ≡ Sectioned (extended r (labels_items c (env_at c w) ls ++ xs)) rest
       → elim t [ true ↦ closed r ++ first | false ↦ other ]
       ≡ Sectioned r (cond t (headed typed numbered p ls ys rest) (preceded (written.labels_items typed numbered (names numbered p) ls ++ ys) rest))
   by_case w p r ls h xs ys rest first other true e f g = one_section w p r ls h xs ys rest first e f
   by_case w p r ls h xs ys rest first other false e f g =
-      more_items r (labels_items c (env_at c w) ls ++ xs) (written.labels_items typed numbered (names numbered p) ls ++ ys) rest other (λ i. labels_same w p ls h i ++ e i) g
+      more_items r (labels_items c (env_at c w) ls ++ xs) (written.labels_items typed numbered (names numbered p) ls ++ ys) rest other
+      (λ i. labels_same w p ls h i ++ e i) g
 
   -- a switch that is one item
   by_case_alone : (w : Walk) (p : Place) (ls : List Label) (h : LabelsSee w p ls) (xs ys notes : List item.Item) (t : Bool) → xs ≡ ys
       → elim t [ true ↦ sections_of (begun c (env_at c w) ls xs) notes | false ↦ sections_of (extended None (labels_items c (env_at c w) ls ++ xs)) notes ]
-      ≡ map ended (cond t (headed typed numbered p ls ys (record { outside = notes; sections = [] })) (preceded (written.labels_items typed numbered (names numbered p) ls ++ ys) (record { outside = notes; sections = [] }))).sections
+      ≡ map ended (cond t (headed typed numbered p ls ys (record { outside = notes; sections = [] }))
+      (preceded (written.labels_items typed numbered (names numbered p) ls ++ ys) (record { outside = notes; sections = [] }))).sections
   by_case_alone w p ls h xs ys notes true e = λ i. sections_of (ended_section w p ls h xs ys e i) notes
   by_case_alone w p ls h xs ys notes false e = refl
 
   -- ---- items
 
   mutual
-    pub item_same : (x : items.Item) (w : Walk) (p : Place) (rest : List ℕ) → StandsIn vs w p (item_identifiers numbered x) (item_marks x) (item_variables x ++ rest) → walked.item_items c x w ≡ item_items typed numbered x p
+    pub item_same : (x : items.Item) (w : Walk) (p : Place) (rest : List ℕ) →
+        StandsIn vs w p (item_identifiers numbered x) (item_marks x) (item_variables x ++ rest) → walked.item_items c x w ≡ item_items typed numbered x p
     item_same (Declares first after d) w p rest h = declares_same w p rest first d h
     item_same (States ls s) w p rest h =
         let g = stands_stated vs w p (each_marks label_marks ls ++ plain_marks s) (plain_variables s ++ rest) h in
         let k = stands_behind vs w p (each_marks label_marks ls) (plain_marks s) (plain_variables s ++ rest) g in
         λ i. labels_same w p ls (labels_see vs w p ls (plain_marks s) (plain_variables s ++ rest) g) i ++ plain_same s w p rest k i
 
-    plain_same : (s : Plain) (w : Walk) (p : Place) (rest : List ℕ) → Stands vs w p (plain_marks s) (plain_variables s ++ rest) → walked.plain_items c s w ≡ plain_items typed numbered s p
+    plain_same : (s : Plain) (w : Walk) (p : Place) (rest : List ℕ) → Stands vs w p (plain_marks s) (plain_variables s ++ rest) →
+        walked.plain_items c s w ≡ plain_items typed numbered s p
     plain_same (From first after s) w p rest h = λ i. notes_at numbered (Before first) ++ statement_same s w p rest h i
 
-    statement_same : (s : Statement) (w : Walk) (p : Place) (rest : List ℕ) → Stands vs w p (statement_marks s) (statement_variables s ++ rest) → walked.statement_items c s w ≡ statement_items typed numbered s p
+    statement_same : (s : Statement) (w : Walk) (p : Place) (rest : List ℕ) → Stands vs w p (statement_marks s) (statement_variables s ++ rest) →
+        walked.statement_items c s w ≡ statement_items typed numbered s p
     statement_same Null w p rest h = refl
     statement_same (Evaluate t) w p rest h = λ i. item.Evaluate (dropped_is w p t (stands_at vs w p t [] rest h) i) ∷ []
     statement_same (If t b) w p rest h =
         let more = body_variables b ++ rest in
-        λ i. item.If (test_is w p t (stands_at vs w p t (body_marks b) more h) i) (body_same b w p rest (stands_behind vs w p (term_marks t) (body_marks b) more h) i) [] ∷ []
+        λ i. item.If (test_is w p t (stands_at vs w p t (body_marks b) more h) i)
+        (body_same b w p rest (stands_behind vs w p (term_marks t) (body_marks b) more h) i) [] ∷ []
     statement_same (IfElse t b d) w p rest h =
         let all = (body_variables b ++ body_variables d) ++ rest in
         let g = stands_behind vs w p (term_marks t) (body_marks b ++ body_marks d) all h in
         let more = body_variables d ++ rest in
-        let first = stands_first vs w p (body_marks b) (body_marks d) (body_variables b ++ more) all g (numbered_grouped vs w (body_variables b) (body_variables d) rest g.numbered) in
+        let first = stands_first vs w p (body_marks b) (body_marks d) (body_variables b ++ more) all g
+        (numbered_grouped vs w (body_variables b) (body_variables d) rest g.numbered) in
         let second = stands_body c labels vs apart b w p (body_marks d) (body_variables d) rest g in
-        λ i. item.If (test_is w p t (stands_at vs w p t (body_marks b ++ body_marks d) all h) i) (body_same b w p more first i) (body_same d (behind_body c b w) p rest second i) ∷ []
+        λ i. item.If (test_is w p t (stands_at vs w p t (body_marks b ++ body_marks d) all h) i) (body_same b w p more first i)
+        (body_same d (behind_body c b w) p rest second i) ∷ []
     statement_same (While t b) w p rest h =
         let more = body_variables b ++ rest in
-        λ i. item.While (test_is w p t (stands_at vs w p t (body_marks b) more h) i) (body_same b w p rest (stands_behind vs w p (term_marks t) (body_marks b) more h) i) ∷ []
+        λ i. item.While (test_is w p t (stands_at vs w p t (body_marks b) more h) i)
+        (body_same b w p rest (stands_behind vs w p (term_marks t) (body_marks b) more h) i) ∷ []
     statement_same (DoWhile b t) w p rest h =
         let more = body_variables b ++ rest in
         λ i. item.Do (body_same b w p rest (stands_before vs w p (body_marks b) (term_marks t) more h) i)
@@ -243,7 +270,8 @@ module _ (c : Context) (labels : List (List ℕ)) (numbers : (name : List ℕ) �
         let g1 = stands_behind vs inner place (option_marks t) (option_marks u ++ body_marks b) more g in
         let step = option_sees vs inner place u more (stands_before vs inner place (option_marks u) (body_marks b) more g1) in
         let g2 = stands_behind vs inner place (option_marks u) (body_marks b) more g1 in
-        λ i. item.For (start_same (enter w) place more start k i) (value_given inner place t test i) (dropped_given inner place u step i) (body_same b inner place rest g2 i) ∷ []
+        λ i. item.For (start_same (enter w) place more start k i) (value_given inner place t test i) (dropped_given inner place u step i)
+        (body_same b inner place rest g2 i) ∷ []
     statement_same (Switch t b) w p rest h =
         let more = body_variables b ++ rest in
         let g = stands_behind vs w p (term_marks t) (body_marks b) more h in
@@ -256,7 +284,8 @@ module _ (c : Context) (labels : List (List ℕ)) (numbers : (name : List ℕ) �
     statement_same (Return t) w p rest h = λ i. item.Return (value_given w p t (option_sees vs w p t rest h) i) ∷ []
     statement_same Unread w p rest h = refl
 
-    body_same : (b : Body) (w : Walk) (p : Place) (rest : List ℕ) → Stands vs w p (body_marks b) (body_variables b ++ rest) → walked.body_items c b w ≡ body_items typed numbered b p
+    body_same : (b : Body) (w : Walk) (p : Place) (rest : List ℕ) → Stands vs w p (body_marks b) (body_variables b ++ rest) →
+        walked.body_items c b w ≡ body_items typed numbered b p
     body_same (Braces first after xs) w p rest h =
         let g = stands_braces numbered vs w p first after xs (list_variables xs ++ rest) h in
         λ i. list_same xs (enter w) (within numbered (Braces first after xs) p) rest g i ++ notes_at numbered (AtEnd first)
@@ -264,12 +293,15 @@ module _ (c : Context) (labels : List (List ℕ)) (numbers : (name : List ℕ) �
         let g = stands_lone numbered vs w p first after x (item_variables x ++ rest) h in
         λ i. item_same x (enter w) (within numbered (Lone first after x) p) rest g i ++ notes_at numbered (AtEnd first)
 
-    pub list_same : (xs : Items) (w : Walk) (p : Place) (rest : List ℕ) → StandsIn vs w p (list_identifiers numbered xs) (list_marks xs) (list_variables xs ++ rest) → walked.list_items c xs w ≡ list_items typed numbered xs p
+    pub list_same : (xs : Items) (w : Walk) (p : Place) (rest : List ℕ) →
+        StandsIn vs w p (list_identifiers numbered xs) (list_marks xs) (list_variables xs ++ rest) → walked.list_items c xs w ≡ list_items typed numbered xs p
     list_same NoItem w p rest h = refl
     list_same (Then x xs) w p rest h =
-        λ i. item_same x w p (list_variables xs ++ rest) (stands_item c labels vs apart x xs w p rest h) i ++ list_same xs (behind_item c x w) p rest (stands_rest c labels vs apart x xs w p rest h) i
+        λ i. item_same x w p (list_variables xs ++ rest) (stands_item c labels vs apart x xs w p rest h) i ++
+        list_same xs (behind_item c x w) p rest (stands_rest c labels vs apart x xs w p rest h) i
 
-    switch_same : (b : Body) (w : Walk) (p : Place) (rest : List ℕ) → Stands vs w p (body_marks b) (body_variables b ++ rest) → walked.switch_sections c b w ≡ switch_sections typed numbered b p
+    switch_same : (b : Body) (w : Walk) (p : Place) (rest : List ℕ) → Stands vs w p (body_marks b) (body_variables b ++ rest) →
+        walked.switch_sections c b w ≡ switch_sections typed numbered b p
     switch_same (Braces first after xs) w p rest h =
         let g = stands_braces numbered vs w p first after xs (list_variables xs ++ rest) h in
         let q = within numbered (Braces first after xs) p in
@@ -283,27 +315,33 @@ module _ (c : Context) (labels : List (List ℕ)) (numbers : (name : List ℕ) �
         (λ i. front (outside_item_same x (enter w) q rest g i) ++ alone_same x notes (enter w) q rest g i)
         ∙ ap (λ l. front (outside_item typed numbered x q) ++ map ended l) (part_alone typed numbered q x notes)
 
-    outside_same : (xs : Items) (w : Walk) (p : Place) (rest : List ℕ) → StandsIn vs w p (list_identifiers numbered xs) (list_marks xs) (list_variables xs ++ rest) → walked.outside_items c xs w ≡ outside_items typed numbered xs p
+    outside_same : (xs : Items) (w : Walk) (p : Place) (rest : List ℕ) →
+        StandsIn vs w p (list_identifiers numbered xs) (list_marks xs) (list_variables xs ++ rest) →
+        walked.outside_items c xs w ≡ outside_items typed numbered xs p
     outside_same NoItem w p rest h = refl
     outside_same (Then x xs) w p rest h =
         λ i. cond (begins x) [] (outside_item_same x w p (list_variables xs ++ rest) (stands_item c labels vs apart x xs w p rest h) i
         ++ outside_same xs (behind_item c x w) p rest (stands_rest c labels vs apart x xs w p rest h) i)
 
-    outside_item_same : (x : items.Item) (w : Walk) (p : Place) (rest : List ℕ) → StandsIn vs w p (item_identifiers numbered x) (item_marks x) (item_variables x ++ rest) → walked.outside_item c x w ≡ outside_item typed numbered x p
+    outside_item_same : (x : items.Item) (w : Walk) (p : Place) (rest : List ℕ) →
+        StandsIn vs w p (item_identifiers numbered x) (item_marks x) (item_variables x ++ rest) → walked.outside_item c x w ≡ outside_item typed numbered x p
     outside_item_same (Declares first after d) w p rest h = declares_same w p rest first d h
     outside_item_same (States ls s) w p rest h =
         let g = stands_stated vs w p (each_marks label_marks ls ++ plain_marks s) (plain_variables s ++ rest) h in
         let k = stands_behind vs w p (each_marks label_marks ls) (plain_marks s) (plain_variables s ++ rest) g in
-        λ i. cond (has_case ls || is_null ls s) [] (labels_same w p ls (labels_see vs w p ls (plain_marks s) (plain_variables s ++ rest) g) i ++ plain_same s w p rest k i)
+        λ i. cond (has_case ls || is_null ls s) [] (labels_same w p ls (labels_see vs w p ls (plain_marks s) (plain_variables s ++ rest) g) i ++
+        plain_same s w p rest k i)
 
-    sections_same : (r : Option Reading) (xs : Items) (notes : List item.Item) (w : Walk) (p : Place) (rest : List ℕ) → StandsIn vs w p (list_identifiers numbered xs) (list_marks xs) (list_variables xs ++ rest)
+    sections_same : (r : Option Reading) (xs : Items) (notes : List item.Item) (w : Walk) (p : Place) (rest : List ℕ) →
+        StandsIn vs w p (list_identifiers numbered xs) (list_marks xs) (list_variables xs ++ rest)
         → walked.sections_from c r xs notes w ≡ Sectioned r (parts typed numbered xs notes p)
     sections_same (Some s) NoItem notes w p rest h = refl
     sections_same None NoItem notes w p rest h = refl
     sections_same r (Then (Declares first after d) xs) notes w p rest h =
         let x = notes_at numbered (Before first) ++ walked.declaration_items c d w in
         let one = Declares first after d in
-        more_items r x (declares_items typed numbered first d p) (parts typed numbered xs notes p) (walked.sections_from c (extended r x) xs notes (declared_by c d w))
+        more_items r x (declares_items typed numbered first d p) (parts typed numbered xs notes p)
+        (walked.sections_from c (extended r x) xs notes (declared_by c d w))
         (declares_same w p (list_variables xs ++ rest) first d (stands_item c labels vs apart one xs w p rest h))
         (sections_same (extended r x) xs notes (declared_by c d w) p rest (stands_rest c labels vs apart one xs w p rest h))
     sections_same r (Then (States ls s) xs) notes w p rest h =
@@ -315,14 +353,17 @@ module _ (c : Context) (labels : List (List ℕ)) (numbers : (name : List ℕ) �
         let v = behind_plain c s w in
         let x = walked.plain_items c s w in
         let l = labels_items c (env_at c w) ls ++ x in
-        by_case w p r ls (labels_see vs w p ls (plain_marks s) (plain_variables s ++ more) stated) x (plain_items typed numbered s p) (parts typed numbered xs notes p)
+        by_case w p r ls (labels_see vs w p ls (plain_marks s) (plain_variables s ++ more) stated) x (plain_items typed numbered s p)
+        (parts typed numbered xs notes p)
         (walked.sections_from c (begun c (env_at c w) ls x) xs notes v) (walked.sections_from c (extended r l) xs notes v) (has_case ls)
         (plain_same s w p more k) (sections_same (begun c (env_at c w) ls x) xs notes v p rest g) (sections_same (extended r l) xs notes v p rest g)
 
-    alone_same : (x : items.Item) (notes : List item.Item) (w : Walk) (p : Place) (rest : List ℕ) → StandsIn vs w p (item_identifiers numbered x) (item_marks x) (item_variables x ++ rest)
+    alone_same : (x : items.Item) (notes : List item.Item) (w : Walk) (p : Place) (rest : List ℕ) →
+        StandsIn vs w p (item_identifiers numbered x) (item_marks x) (item_variables x ++ rest)
         → walked.sections_at c None x notes w ≡ map ended (part typed numbered x (record { outside = notes; sections = [] }) p).sections
     alone_same (Declares first after d) notes w p rest h = refl
     alone_same (States ls s) notes w p rest h =
         let g = stands_stated vs w p (each_marks label_marks ls ++ plain_marks s) (plain_variables s ++ rest) h in
         let k = stands_behind vs w p (each_marks label_marks ls) (plain_marks s) (plain_variables s ++ rest) g in
-        by_case_alone w p ls (labels_see vs w p ls (plain_marks s) (plain_variables s ++ rest) g) (walked.plain_items c s w) (plain_items typed numbered s p) notes (has_case ls) (plain_same s w p rest k)
+        by_case_alone w p ls (labels_see vs w p ls (plain_marks s) (plain_variables s ++ rest) g) (walked.plain_items c s w)
+        (plain_items typed numbered s p) notes (has_case ls) (plain_same s w p rest k)

@@ -37,7 +37,8 @@ front_both token (x ∷ xs) y f g = (f.0, front_both token xs y f.1 g)
 
 -- ---- known, or not
 
-by_test : (token : ℕ) (x : Identifier) (b : Bool) (rest : Scope) → nat_lt x.at token ≡ b → cond (nat_lt x.at token) ((x.name, x.binding) ∷ rest) rest ≡ cond b ((x.name, x.binding) ∷ rest) rest
+by_test : (token : ℕ) (x : Identifier) (b : Bool) (rest : Scope) → nat_lt x.at token ≡ b →
+    cond (nat_lt x.at token) ((x.name, x.binding) ∷ rest) rest ≡ cond b ((x.name, x.binding) ∷ rest) rest
 by_test token x b rest e = ap (λ t. cond t ((x.name, x.binding) ∷ rest) rest) e
 
 not_less : (a b : ℕ) → b ≤ a → nat_lt a b ≡ false
@@ -62,11 +63,13 @@ cond_append false x xs ys = refl
 pub known_both : (token : ℕ) (xs ys : List Identifier) → known_at token (xs ++ ys) ≡ known_at token xs ++ known_at token ys
 known_both token [] ys = refl
 known_both token (x ∷ xs) ys =
-    ap (λ l. cond (nat_lt x.at token) ((x.name, x.binding) ∷ l) l) (known_both token xs ys) ∙ cond_append (nat_lt x.at token) (x.name, x.binding) (known_at token xs) (known_at token ys)
+    ap (λ l. cond (nat_lt x.at token) ((x.name, x.binding) ∷ l) l) (known_both token xs ys) ∙
+    cond_append (nat_lt x.at token) (x.name, x.binding) (known_at token xs) (known_at token ys)
 
 known_parts : (token : ℕ) (front rest : List Identifier) → InFront token front → FromOn token rest → known_at token (front ++ rest) ≡ names_of front
 known_parts token front rest f g =
-    known_both token front rest ∙ ap (λ l. l ++ known_at token rest) (known_front token front f) ∙ ap (λ l. names_of front ++ l) (known_none token rest g) ∙ append-nil (names_of front)
+    known_both token front rest ∙ ap (λ l. l ++ known_at token rest) (known_front token front f) ∙
+    ap (λ l. names_of front ++ l) (known_none token rest g) ∙ append-nil (names_of front)
 
 names_more : (xs : List Identifier) (y : Identifier) → names_of (xs ++ y ∷ []) ≡ names_of xs ++ (y.name, y.binding) ∷ []
 names_more [] y = refl
@@ -89,13 +92,16 @@ pub record InScope (ms : List Scope) (ss : List (List Identifier)) (lo hi : ℕ)
 pub scope_entered : (ms : List Scope) (s : List Identifier) (ss : List (List Identifier)) (lo hi : ℕ) → Sees ms ss lo hi → InScope ([] ∷ ms) (s ∷ ss) lo hi s
 scope_entered ms s ss lo hi h = record { front = []; outer = ss; split = refl; early = tt; maps = λ token g l. (λ name. refl, h token g l) }
 
-pub scope_sees : (ms : List Scope) (ss : List (List Identifier)) (lo hi mid : ℕ) (rest : List Identifier) → InScope ms ss lo hi rest → mid ≤ hi → FromOn mid rest → Sees ms ss lo mid
+pub scope_sees : (ms : List Scope) (ss : List (List Identifier)) (lo hi mid : ℕ) (rest : List Identifier) → InScope ms ss lo hi rest → mid ≤ hi →
+    FromOn mid rest → Sees ms ss lo mid
 scope_sees ms ss lo hi mid rest h less from token g l =
     let known = known_parts token h.front rest (in_front_of_more lo token h.front g h.early) (from_earlier token mid rest l from) in
-    subst (λ z. AreMaps ms (scopes_at z token)) (sym h.split) (subst (λ z. AreMaps ms (z ∷ scopes_at h.outer token)) (sym known) (h.maps token g (omega (arith, l, less))))
+    subst (λ z. AreMaps ms (scopes_at z token)) (sym h.split)
+    (subst (λ z. AreMaps ms (z ∷ scopes_at h.outer token)) (sym known) (h.maps token g (omega (arith, l, less))))
 
 -- behind one of them
-pub scope_declared : (ms : List Scope) (ss : List (List Identifier)) (lo hi : ℕ) (b : Binding) (x : Identifier) (rest : List Identifier) → InScope ms ss lo hi (x ∷ rest) → lo ≤ x.at → b ≡ x.binding
+pub scope_declared : (ms : List Scope) (ss : List (List Identifier)) (lo hi : ℕ) (b : Binding) (x : Identifier) (rest : List Identifier) →
+    InScope ms ss lo hi (x ∷ rest) → lo ≤ x.at → b ≡ x.binding
     → InScope (bind x.name b ms) ss (x.at + 1) hi rest
 scope_declared ms ss lo hi b x rest h g e = record {
   front = h.front ++ x ∷ [];
@@ -108,7 +114,8 @@ scope_declared ms ss lo hi b x rest h g e = record {
 }
 
 -- between other tokens
-pub scope_narrow : (ms : List Scope) (ss : List (List Identifier)) (lo hi from to : ℕ) (rest : List Identifier) → InScope ms ss lo hi rest → lo ≤ from → to ≤ hi → InScope ms ss from to rest
+pub scope_narrow : (ms : List Scope) (ss : List (List Identifier)) (lo hi from to : ℕ) (rest : List Identifier) → InScope ms ss lo hi rest →
+    lo ≤ from → to ≤ hi → InScope ms ss from to rest
 scope_narrow ms ss lo hi from to rest h g l = record {
   front = h.front;
   outer = h.outer;
@@ -118,5 +125,6 @@ scope_narrow ms ss lo hi from to rest h g l = record {
 }
 
 -- with the same maps
-pub scope_same : (ms ns : List Scope) (ss : List (List Identifier)) (lo hi : ℕ) (rest : List Identifier) → ns ≡ ms → InScope ms ss lo hi rest → InScope ns ss lo hi rest
+pub scope_same : (ms ns : List Scope) (ss : List (List Identifier)) (lo hi : ℕ) (rest : List Identifier) → ns ≡ ms → InScope ms ss lo hi rest →
+    InScope ns ss lo hi rest
 scope_same ms ns ss lo hi rest e h = subst (λ z. InScope z ss lo hi rest) (sym e) h

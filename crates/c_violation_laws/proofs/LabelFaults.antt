@@ -52,14 +52,16 @@ module _ (word : ℕ → List ℕ) where
 
   knows_more : (before : List ℕ) (known : Names ℕ) (at : ℕ) → Knows before known → Knows (before ++ at ∷ []) (with_number (word at) known)
   knows_more before known at k q = (
-    λ e. more_one q before at (elim (or_cases (bytes_eq q (word at)) (has_label known q) (sym (has_more q (word at) known) ∙ e)) [ inl g ↦ inr (same_names q (word at) g) | inr g ↦ inl ((k q).0 g) ]),
+    λ e. more_one q before at (elim (or_cases (bytes_eq q (word at)) (has_label known q) (sym (has_more q (word at) known) ∙ e))
+        [ inl g ↦ inr (same_names q (word at) g) | inr g ↦ inl ((k q).0 g) ]),
     λ h. has_more q (word at) known ∙ elim (one_more q before at h) [
       | inl a ↦ or_right (bytes_eq q (word at)) (has_label known q) ((k q).1 a)
       | inr e ↦ or_left (bytes_eq q (word at)) (has_label known q) (names_same q (word at) e)
     ],
   )
 
-  twice : (ats before : List ℕ) (known : Names ℕ) → Knows before known → Finds (twice_from known word ats) (λ v. Behind (λ b at. LabelTwice word b at v) before ats)
+  twice : (ats before : List ℕ) (known : Names ℕ) → Knows before known →
+      Finds (twice_from known word ats) (λ v. Behind (λ b at. LabelTwice word b at v) before ats)
   twice [] before known k = finds_none
   twice (at ∷ ats) before known k =
       finds_both (fault_if (has_label known (word at)) at 32) (twice_from (with_number (word at) known) word ats) _ _
@@ -71,4 +73,5 @@ module _ (word : ℕ → List ℕ) where
       fro v (LabelTwice.label_twice h) = ((k (word at)).1 h, refl)
 
   pub labels_twice : (ats : List ℕ) → Finds (twice_faults word ats) (λ v. SomeBehind (λ b at. LabelTwice word b at v) ats)
-  labels_twice ats = finds_behind (twice_faults word ats) (λ v b at. LabelTwice word b at v) ats (twice ats [] [] (λ q. (λ e. absurd (true≢false (sym e)), λ h. absurd h)))
+  labels_twice ats = finds_behind (twice_faults word ats) (λ v b at. LabelTwice word b at v) ats
+      (twice ats [] [] (λ q. (λ e. absurd (true≢false (sym e)), λ h. absurd h)))

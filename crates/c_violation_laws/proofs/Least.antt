@@ -25,7 +25,8 @@ before_of a b e = elim (or_cases (nat_lt a.at b.at) (a.at == b.at && nat_lt a.re
 
 of_before : (a b : Fault) → Before a b → is_before a b ≡ true
 of_before a b (inl p) = ap (λ x. x || (a.at == b.at && nat_lt a.reason b.reason)) (lt-ltb a.at b.at p)
-of_before a b (inr p) = or_true (nat_lt a.at b.at) (a.at == b.at && nat_lt a.reason b.reason) (and_from (a.at == b.at) (nat_lt a.reason b.reason) (eq-eqb a.at b.at p.0) (lt-ltb a.reason b.reason p.1))
+of_before a b (inr p) = or_true (nat_lt a.at b.at) (a.at == b.at && nat_lt a.reason b.reason)
+    (and_from (a.at == b.at) (nat_lt a.reason b.reason) (eq-eqb a.at b.at p.0) (lt-ltb a.reason b.reason p.1))
 
 through : (a b c : ℕ) → a < b → b < c → a < c
 through a b c h k = omega arith
@@ -74,7 +75,8 @@ least_behind : (vs : Faults) (found : Fault) → HasLeast found vs (least_with (
 least_behind [] found = record { least = found; is = refl; there = inl refl; not_found = not_itself found; first = λ w h. absurd h }
 least_behind (x ∷ xs) found = by (is_before x found) refl (λ f. least_behind xs f)
   where
-    by : (b : Bool) → is_before x found ≡ b → ((f : Fault) → HasLeast f xs (least_with (Some f) xs)) → HasLeast found (x ∷ xs) (least_with (Some (cond b x found)) xs)
+    by : (b : Bool) → is_before x found ≡ b → ((f : Fault) → HasLeast f xs (least_with (Some f) xs)) →
+        HasLeast found (x ∷ xs) (least_with (Some (cond b x found)) xs)
     by true e r =
         let q = r x in
         record {
@@ -108,7 +110,11 @@ abbrev IsFirst : Fault → Faults → Type 0
 IsFirst v vs = IsAmong v vs × ((w : Fault) → IsAmong w vs → Before w v → ⊥)
 
 among_least : (x : Fault) (xs : Faults) (q : HasLeast x xs (least_with (Some x) xs)) → IsFirst q.least (x ∷ xs)
-among_least x xs q = (elim q.there [ inl s ↦ inl s | inr h ↦ inr h ], λ w h k. elim h [ inl s ↦ q.not_found (subst (λ z. Before z q.least) s k) | inr m ↦ q.first w m k ])
+among_least x xs q = (
+  elim q.there [ inl s ↦ inl s | inr h ↦ inr h ],
+  λ w h k. elim h
+      [ inl s ↦ q.not_found (subst (λ z. Before z q.least) s k) | inr m ↦ q.first w m k ],
+)
 
 least_first : (vs : Faults) (v : Fault) → least vs ≡ Some v → IsFirst v vs
 least_first [] v e = cc

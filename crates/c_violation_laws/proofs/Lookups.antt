@@ -47,7 +47,8 @@ lost_not : (name : List ℕ) (s : Scope) → found name s ≡ None → DeclaresN
 lost_not name [] e = tt
 lost_not name (d ∷ ds) e = lost_by name d ds (bytes_eq name d.0) (lost_not name ds) (same_if name d.0) e
 
-not_by : (name : List ℕ) (d : List ℕ × Binding) (ds : Scope) (t : Bool) → found name ds ≡ None → Same name d.0 t → DeclaresNot name (d ∷ ds) → cond t (Some d.1) (found name ds) ≡ None
+not_by : (name : List ℕ) (d : List ℕ × Binding) (ds : Scope) (t : Bool) → found name ds ≡ None → Same name d.0 t → DeclaresNot name (d ∷ ds) →
+    cond t (Some d.1) (found name ds) ≡ None
 not_by name d ds true rest (same k) h = absurd (h.0 (sym k))
 not_by name d ds false rest (other k) h = rest
 

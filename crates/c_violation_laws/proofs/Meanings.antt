@@ -39,9 +39,11 @@ use Rattle.c_violation_laws.proofs.CallMeanings.{types, AllRight, call_right, ca
 
 is_variable : (env : Env) (at : ℕ) (v : of.Variable) → IsVariable env at v → variable_of (env.word at) (meaning env at) ≡ Some v
 is_variable env at v (inl h) =
-    ap (variable_of (env.word at)) (is_bound (env.word at) env.scopes (binding.Global v.shape) h.0) ∙ ap (λ x. Some (record { home = x; shape = v.shape })) (sym h.1)
+    ap (variable_of (env.word at)) (is_bound (env.word at) env.scopes (binding.Global v.shape) h.0) ∙
+    ap (λ x. Some (record { home = x; shape = v.shape })) (sym h.1)
 is_variable env at v (inr h) =
-    ap (variable_of (env.word at)) (is_bound (env.word at) env.scopes (binding.Local h.0 v.shape) h.1) ∙ ap (λ x. Some (record { home = x; shape = v.shape })) (sym h.2)
+    ap (variable_of (env.word at)) (is_bound (env.word at) env.scopes (binding.Local h.0 v.shape) h.1) ∙
+    ap (λ x. Some (record { home = x; shape = v.shape })) (sym h.2)
 
 variable_is : (env : Env) (at : ℕ) (v : of.Variable) (o : Option Binding) → meaning env at ≡ o → variable_of (env.word at) o ≡ Some v → IsVariable env at v
 variable_is env at v (Some (binding.Global s)) m e =
@@ -84,7 +86,8 @@ number_by : (v : of.Variable) (b : Bool) → v.shape.array ≡ b → b ≡ false
 number_by v true e f = cc
 number_by v false e f = ap (λ b. cond b None (Some (target (place.Var v.home) v.shape))) e
 
-cell_by : (v : of.Variable) (i : Valued) (b : Bool) → v.shape.array ≡ b → b ≡ true → cell_target (Some v) (Some i) ≡ Some (target (place.Cell v.home (expression i)) v.shape)
+cell_by : (v : of.Variable) (i : Valued) (b : Bool) → v.shape.array ≡ b → b ≡ true →
+    cell_target (Some v) (Some i) ≡ Some (target (place.Cell v.home (expression i)) v.shape)
 cell_by v i true e f = ap (λ b. cond b (Some (target (place.Cell v.home (expression i)) v.shape)) None) e
 cell_by v i false e f = cc
 
@@ -99,7 +102,8 @@ number_at : (env : Env) (at : ℕ) (y : Target) (v : of.Variable) (b : Bool) →
 number_at env at y v true h a e = cc
 number_at env at y v false h a e = let f : target (place.Var v.home) v.shape ≡ y = cc in (v, h, a, sym f)
 
-number_is : (env : Env) (at : ℕ) (y : Target) (o : Option of.Variable) → variable_of (env.word at) (meaning env at) ≡ o → number_target o ≡ Some y → IsNumber env at y
+number_is : (env : Env) (at : ℕ) (y : Target) (o : Option of.Variable) → variable_of (env.word at) (meaning env at) ≡ o → number_target o ≡ Some y →
+    IsNumber env at y
 number_is env at y (Some v) m e = number_at env at y v v.shape.array (variable_is env at v (meaning env at) refl m) refl e
 number_is env at y None m e = cc
 
@@ -113,8 +117,14 @@ cell_at : (env : Env) (at : ℕ) (i : Valued) (y : Target) (v : of.Variable) (b 
 cell_at env at i y v true h a e = let f : target (place.Cell v.home (expression i)) v.shape ≡ y = cc in (v, h, a, sym f)
 cell_at env at i y v false h a e = cc
 
-cell_is : (env : Env) (at : ℕ) (i : Option Valued) (y : Target) (o : Option of.Variable) → variable_of (env.word at) (meaning env at) ≡ o → cell_target o i ≡ Some y → CellAt env at i y
-cell_is env at (Some i) y (Some v) m e = record { index = i; index_is = refl; cell = cell_at env at i y v v.shape.array (variable_is env at v (meaning env at) refl m) refl e }
+cell_is : (env : Env) (at : ℕ) (i : Option Valued) (y : Target) (o : Option of.Variable) → variable_of (env.word at) (meaning env at) ≡ o →
+    cell_target o i ≡ Some y → CellAt env at i y
+cell_is env at (Some i) y (Some v) m e = record {
+  index = i;
+  index_is = refl;
+  cell = cell_at env at i y v v.shape.array
+      (variable_is env at v (meaning env at) refl m) refl e;
+}
 cell_is env at None y (Some v) m e = cc
 cell_is env at None y None m e = cc
 cell_is env at (Some i) y None m e = cc
@@ -147,7 +157,8 @@ record Needs {A : Type 0} (o : Option A) (P : A → Type 0) : Type 0 where
   it_is : o ≡ Some it
   holds : P it
 
-unary_is : (op : UnaryOp) (o : Option Valued) (x : Typed) → unary op o ≡ x → x ≢ Wrong → Needs o (λ v. x ≡ of_kind (unary_kind op v.kind) (node.Unary op (expression v)))
+unary_is : (op : UnaryOp) (o : Option Valued) (x : Typed) → unary op o ≡ x → x ≢ Wrong →
+    Needs o (λ v. x ≡ of_kind (unary_kind op v.kind) (node.Unary op (expression v)))
 unary_is op (Some v) x e r = record { it = v; it_is = refl; holds = sym e }
 unary_is op None x e r = absurd (r (sym e))
 
@@ -167,7 +178,8 @@ binary_is op (Some v) None x e r = absurd (r (sym e))
 
 choice_is : (o p q : Option Valued) (x : Typed) → choice o p q ≡ x → x ≢ Wrong
     → Needs o (λ u. Needs p (λ v. Needs q (λ w. x ≡ of_kind (usual_kind v.kind w.kind) (node.Conditional (expression u) (expression v) (expression w)))))
-choice_is (Some u) (Some v) (Some w) x e r = record { it = u; it_is = refl; holds = record { it = v; it_is = refl; holds = record { it = w; it_is = refl; holds = sym e } } }
+choice_is (Some u) (Some v) (Some w) x e r =
+    record { it = u; it_is = refl; holds = record { it = v; it_is = refl; holds = record { it = w; it_is = refl; holds = sym e } } }
 choice_is None p q x e r = absurd (r (sym e))
 choice_is (Some u) None q x e r = absurd (r (sym e))
 choice_is (Some u) (Some v) None x e r = absurd (r (sym e))
@@ -180,7 +192,8 @@ writable_is : (o : Option Target) {P : Target → Type 0} → Needs (writable o)
 writable_is (Some t) n = record { it = t; it_is = refl; holds = writable_by t t.constant refl n }
 writable_is None n = let k : None ≡ Some n.it = n.it_is in cc
 
-counting_is : (up after : Bool) (o : Option Target) (x : Typed) → counting up after o ≡ x → x ≢ Wrong → Needs o (λ y. x ≡ of_kind y.kind (node.Count y.place up after))
+counting_is : (up after : Bool) (o : Option Target) (x : Typed) → counting up after o ≡ x → x ≢ Wrong →
+    Needs o (λ y. x ≡ of_kind y.kind (node.Count y.place up after))
 counting_is up after (Some y) x e r = record { it = y; it_is = refl; holds = sym e }
 counting_is up after None x e r = absurd (r (sym e))
 
@@ -217,11 +230,13 @@ abbrev AllJoined : List Typed → Typed → Type 0
 AllJoined [] x = ⊥
 AllJoined (y ∷ ys) x = Joined y ys x
 
-joined_last : (y : Typed) (ys : List Typed) (x z : Typed) (e f : Expression) → Joined y ys x → dropped x ≡ Some e → dropped z ≡ Some f → Joined y (ys ++ z ∷ []) (with_left e z)
+joined_last : (y : Typed) (ys : List Typed) (x z : Typed) (e f : Expression) → Joined y ys x → dropped x ≡ Some e → dropped z ≡ Some f →
+    Joined y (ys ++ z ∷ []) (with_left e z)
 joined_last y [] x z e f h d g = (e, f, ap dropped (sym h) ∙ d, g, refl)
 joined_last y (w ∷ ws) x z e f h d g = (h.0, h.1, h.2, h.3, joined_last (with_left h.0 w) ws x z e f h.4 d g)
 
-all_last : (ys : List Typed) (x z : Typed) (e f : Expression) → AllJoined ys x → dropped x ≡ Some e → dropped z ≡ Some f → AllJoined (ys ++ z ∷ []) (with_left e z)
+all_last : (ys : List Typed) (x z : Typed) (e f : Expression) → AllJoined ys x → dropped x ≡ Some e → dropped z ≡ Some f →
+    AllJoined (ys ++ z ∷ []) (with_left e z)
 all_last [] x z e f h d g = absurd h
 all_last (y ∷ ys) x z e f h d g = joined_last y ys x z e f h d g
 
@@ -254,12 +269,21 @@ mutual
   is_form env (Constant at) x h = sym h
   is_form env (Variable at) x h = is_named env at x h
   is_form env (Cell at i) x h =
-      ap (λ z. reading (cell_target (variable_of (env.word at) (meaning env at)) (value_of z))) (is_typed env i (Value h.0) h.2) ∙ ap reading (is_cell env at h.0 h.1 h.3) ∙ sym h.4
+      ap (λ z. reading (cell_target (variable_of (env.word at) (meaning env at)) (value_of z))) (is_typed env i (Value h.0) h.2) ∙
+      ap reading (is_cell env at h.0 h.1 h.3) ∙ sym h.4
   is_form env (Prefix m a) x (inl h) =
-      ap (λ o. elim o [ Some up ↦ counting up false (writable (target_of env a)) | None ↦ unary (unary_op (mark_of (env.word m))) (value_of (typed env a)) ]) h.2
+      ap (λ o. elim o [
+        | Some up ↦ counting up false (writable (target_of env a))
+        | None ↦ unary (unary_op (mark_of (env.word m)))
+            (value_of (typed env a))
+      ]) h.2
       ∙ ap (λ o. counting h.0 false (writable o)) (is_target env a h.1 h.3) ∙ ap (counting h.0 false) (is_writable h.1 h.1.constant refl h.4) ∙ sym h.5
   is_form env (Prefix m a) x (inr h) =
-      ap (λ o. elim o [ Some up ↦ counting up false (writable (target_of env a)) | None ↦ unary (unary_op (mark_of (env.word m))) (value_of (typed env a)) ]) h.1
+      ap (λ o. elim o [
+        | Some up ↦ counting up false (writable (target_of env a))
+        | None ↦ unary (unary_op (mark_of (env.word m)))
+            (value_of (typed env a))
+      ]) h.1
       ∙ ap (λ z. unary (unary_op (mark_of (env.word m))) (value_of z)) (is_typed env a (Value h.0) h.2) ∙ sym h.3
   is_form env (Suffix m a) x h =
       let up = counts_up (mark_of (env.word m)) in
@@ -285,14 +309,16 @@ mutual
   are_commas env y NoTerm ys x m h = sym (subst (λ l. Joined y l x) m h)
   are_commas env y (Then b bs) ys x m h =
       let j = subst (λ l. Joined y l x) m.4 h in
-      ap (λ z. commas env (comma (dropped y) z) bs) (is_typed env b m.0 m.2) ∙ ap (λ o. commas env (comma o m.0) bs) j.2 ∙ are_commas env (with_left j.0 m.0) bs m.1 x m.3 j.4
+      ap (λ z. commas env (comma (dropped y) z) bs) (is_typed env b m.0 m.2) ∙ ap (λ o. commas env (comma o m.0) bs) j.2 ∙
+      are_commas env (with_left j.0 m.0) bs m.1 x m.3 j.4
 
   pub is_target : (env : Env) (t : Term) (y : Target) → MeansTarget env t y → target_of env t ≡ Some y
   is_target env (At first form) y h = is_form_target env form y h
 
   is_form_target : (env : Env) (f : Form) (y : Target) → FormMeansTarget env f y → form_target env f ≡ Some y
   is_form_target env (Variable at) y h = is_number env at y h
-  is_form_target env (Cell at i) y h = ap (λ x. cell_target (variable_of (env.word at) (meaning env at)) (value_of x)) (is_typed env i (Value h.0) h.1) ∙ is_cell env at h.0 y h.2
+  is_form_target env (Cell at i) y h = ap (λ x. cell_target (variable_of (env.word at) (meaning env at)) (value_of x))
+      (is_typed env i (Value h.0) h.1) ∙ is_cell env at h.0 y h.2
   is_form_target env (Constant at) y h = absurd h
   is_form_target env (Prefix m a) y h = absurd h
   is_form_target env (Suffix m a) y h = absurd h
@@ -314,7 +340,10 @@ mutual
 
 prefix_is : (env : Env) (m : ℕ) (a : Term) (x : Typed) (o : Option Bool) → step_of (mark_of (env.word m)) ≡ o
     → ((y : Target) → target_of env a ≡ Some y → MeansTarget env a y) → ((v : Valued) → typed env a ≡ Value v → Means env a (Value v))
-    → elim o [ Some up ↦ counting up false (writable (target_of env a)) | None ↦ unary (unary_op (mark_of (env.word m))) (value_of (typed env a)) ] ≡ x → x ≢ Wrong → FormMeans env (Prefix m a) x
+    → elim o [
+      | Some up ↦ counting up false (writable (target_of env a))
+      | None ↦ unary (unary_op (mark_of (env.word m))) (value_of (typed env a))
+    ] ≡ x → x ≢ Wrong → FormMeans env (Prefix m a) x
 prefix_is env m a x (Some up) s tt' vv e r =
     let n = writable_is (target_of env a) (counting_is up false (writable (target_of env a)) x e r) in
     inl (up, n.it, s, tt' n.it n.it_is, n.holds.0, n.holds.1)
@@ -322,7 +351,8 @@ prefix_is env m a x None s tt' vv e r =
     let n = unary_is (unary_op (mark_of (env.word m))) (value_of (typed env a)) x e r in
     inr (n.it, s, vv n.it (value_is (typed env a) n.it n.it_is), n.holds)
 
-call_by : (env : Env) (at : ℕ) (xs : Terms) (x : Typed) (o : Option Binding) → meaning env at ≡ o → (AllRight (types (given env xs)) → AreMeant env xs (types (given env xs)))
+call_by : (env : Env) (at : ℕ) (xs : Terms) (x : Typed) (o : Option Binding) → meaning env at ≡ o →
+    (AllRight (types (given env xs)) → AreMeant env xs (types (given env xs)))
     → called (env.word at) o (given env xs) ≡ x → x ≢ Wrong → FormMeans env (Call at xs) x
 call_by env at xs x None m mean e r = absurd (r (sym e))
 call_by env at xs x (Some b) m mean e r =
@@ -340,7 +370,8 @@ mutual
       let n = reading_is (cell_target (variable_of (env.word at) (meaning env at)) (value_of (typed env i))) x e r in
       let c = cell_is env at (value_of (typed env i)) n.it (variable_of (env.word at) (meaning env at)) refl n.it_is in
       (c.index, n.it, typed_is env i (Value c.index) (value_is (typed env i) c.index c.index_is) (value_right c.index), c.cell, n.holds)
-  form_is env (Prefix m a) x e r = prefix_is env m a x (step_of (mark_of (env.word m))) refl (λ y f. target_is env a y f) (λ v f. typed_is env a (Value v) f (value_right v)) e r
+  form_is env (Prefix m a) x e r = prefix_is env m a x (step_of (mark_of (env.word m))) refl (λ y f. target_is env a y f)
+      (λ v f. typed_is env a (Value v) f (value_right v)) e r
   form_is env (Suffix m a) x e r =
       let n = writable_is (target_of env a) (counting_is (counts_up (mark_of (env.word m))) true (writable (target_of env a)) x e r) in
       (n.it, target_is env a n.it n.it_is, n.holds.0, n.holds.1)
@@ -429,7 +460,8 @@ wrong_constant word false (Some i) e = cc
 wrong_constant word false None e = cc
 
 wrong_variable : (at : ℕ) (v : of.Variable) (b : Bool)
-    → Wrong ≡ cond b (Array (record { token = at; home = v.home; kind = v.shape.kind; constant = v.shape.constant })) (of_kind v.shape.kind (node.Read (place.Var v.home))) → ⊥
+    → Wrong ≡ cond b (Array (record { token = at; home = v.home; kind = v.shape.kind; constant = v.shape.constant }))
+    (of_kind v.shape.kind (node.Read (place.Var v.home))) → ⊥
 wrong_variable at v true e = cc
 wrong_variable at v false e = cc
 

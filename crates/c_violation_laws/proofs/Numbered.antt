@@ -26,7 +26,8 @@ start_climbs lo (StartNames d) hi r = names_climb lo d.names hi r
 second : (lo : ℕ) (ms ns vs : List ℕ) (hi : ℕ) → Rising lo (ms ++ ns) hi → ((mid : ℕ) → Rising mid ns hi → Climbing mid vs hi) → Climbing lo vs hi
 second lo ms ns vs hi r k = let s = parted lo ms ns hi r in let h = rising_ends lo ms s.0 s.1 in climbing_wider lo s.0 vs hi hi h (omega arith) (k s.0 s.2)
 
-both : (lo : ℕ) (ms ns vs us : List ℕ) (hi : ℕ) → Rising lo (ms ++ ns) hi → ((mid : ℕ) → Rising lo ms mid → Climbing lo vs mid) → ((mid : ℕ) → Rising mid ns hi → Climbing mid us hi) → Climbing lo (vs ++ us) hi
+both : (lo : ℕ) (ms ns vs us : List ℕ) (hi : ℕ) → Rising lo (ms ++ ns) hi → ((mid : ℕ) → Rising lo ms mid → Climbing lo vs mid) →
+    ((mid : ℕ) → Rising mid ns hi → Climbing mid us hi) → Climbing lo (vs ++ us) hi
 both lo ms ns vs us hi r f k = let s = parted lo ms ns hi r in climbing_both lo vs s.0 us hi (f s.0 s.1) (k s.0 s.2)
 
 mutual
@@ -50,7 +51,8 @@ mutual
       let h = rising_ends s.0 (term_marks t) hi s.2 in
       climbing_wider lo lo (body_variables b) s.0 hi (omega arith) h (body_climbs lo b s.0 s.1)
   statement_climbs lo (For start t u b) hi r =
-      both lo (start_marks start) (option_marks t ++ (option_marks u ++ body_marks b)) (start_variables start) (body_variables b) hi r (λ m p. start_climbs lo start m p)
+      both lo (start_marks start) (option_marks t ++ (option_marks u ++ body_marks b)) (start_variables start) (body_variables b) hi r
+      (λ m p. start_climbs lo start m p)
       (λ mid q. second mid (option_marks t) (option_marks u ++ body_marks b) (body_variables b) hi q
       (λ m p. second m (option_marks u) (body_marks b) (body_variables b) hi p (λ n o. body_climbs n b hi o)))
   statement_climbs lo (Switch t b) hi r = second lo (term_marks t) (body_marks b) (body_variables b) hi r (λ mid q. body_climbs mid b hi q)
@@ -67,7 +69,8 @@ mutual
 
   list_climbs : (lo : ℕ) (xs : Items) (hi : ℕ) → Rising lo (list_marks xs) hi → Climbing lo (list_variables xs) hi
   list_climbs lo NoItem hi r = r
-  list_climbs lo (Then x xs) hi r = both lo (item_marks x) (list_marks xs) (item_variables x) (list_variables xs) hi r (λ mid p. item_climbs lo x mid p) (λ mid p. list_climbs mid xs hi p)
+  list_climbs lo (Then x xs) hi r = both lo (item_marks x) (list_marks xs) (item_variables x) (list_variables xs) hi r
+      (λ mid p. item_climbs lo x mid p) (λ mid p. list_climbs mid xs hi p)
 
 -- ---- functions
 
@@ -109,7 +112,8 @@ form_apart lo tops.Unread hi r = tt
 
 are_apart : (lo : ℕ) (xs : List Top) (hi : ℕ) → Rising lo (each_marks top_marks xs) hi → AreApart xs
 are_apart lo [] hi r = tt
-are_apart lo (tops.From first after form ∷ xs) hi r = let s = parted lo (form_marks form) (each_marks top_marks xs) hi r in (form_apart lo form s.0 s.1, are_apart s.0 xs hi s.2)
+are_apart lo (tops.From first after form ∷ xs) hi r = let s = parted lo (form_marks form) (each_marks top_marks xs) hi r in
+    (form_apart lo form s.0 s.1, are_apart s.0 xs hi s.2)
 
 pub file_apart : (at : ℕ) (es : List Symbol) (xs : List Top) → IsFile at es xs → AreApart xs
 file_apart at es xs h = are_apart at xs _ (file at es xs h)

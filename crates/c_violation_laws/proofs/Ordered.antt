@@ -43,13 +43,15 @@ InOrder at ms es = Rising at ms (token_behind at es)
 
 -- ---- in a list
 
-module _ {W : Type 0} (Is : ℕ → List Symbol → W → Type 0) (marks : W → List ℕ) (one : (at : ℕ) (es : List Symbol) (w : W) → Is at es w → InOrder at (marks w) es) where
+module _ {W : Type 0} (Is : ℕ → List Symbol → W → Type 0) (marks : W → List ℕ)
+    (one : (at : ℕ) (es : List Symbol) (w : W) → Is at es w → InOrder at (marks w) es) where
   more : (at : ℕ) (es : List Symbol) (ws : List W) → AreMore Is at es ws → InOrder at (each_marks marks ws) es
   more at us vs AreMore.none = omega arith
   more at us vs (AreMore.more {xs = xs} {ys = ys} {w = w} {ws = ws} i m) =
       let n = size_both xs ys in
       wider at (at + 1) (marks w ++ each_marks marks ws) (at + 1 + size xs + size ys) _ (omega arith) (omega (arith, n))
-      (rising_both (at + 1) (marks w) (at + 1 + size xs) (each_marks marks ws) (at + 1 + size xs + size ys) (one (at + 1) xs w i) (more (at + 1 + size xs) ys ws m))
+      (rising_both (at + 1) (marks w) (at + 1 + size xs) (each_marks marks ws) (at + 1 + size xs + size ys) (one (at + 1) xs w i)
+      (more (at + 1 + size xs) ys ws m))
 
   each : (at : ℕ) (es : List Symbol) (ws : List W) → AreEach Is at es ws → InOrder at (each_marks marks ws) es
   each at us vs (AreEach.each {xs = xs} {ys = ys} {w = w} {ws = ws} i m) =
@@ -70,12 +72,19 @@ initialiser at us i (IsInitialiser.list {xs = xs} {ys = ys} {ts = ts} e m) =
 
 given : (at : ℕ) (es : List Symbol) (i : Initialiser) → IsGiven at es i → InOrder at (value_marks i) es
 given at us i IsGiven.not_given = omega arith
-given at us j (IsGiven.given {xs = xs} {i = i} v) = wider at (at + 1) (value_marks i) (at + 1 + size xs) _ (omega arith) (omega arith) (initialiser (at + 1) xs i v)
+given at us j (IsGiven.given {xs = xs} {i = i} v) = wider at (at + 1) (value_marks i) (at + 1 + size xs) _ (omega arith) (omega arith)
+    (initialiser (at + 1) xs i v)
 
 declarator : (at : ℕ) (es : List Symbol) (d : Declarator) → IsDeclarator at es d → InOrder at (declarator_marks d) es
 declarator at us d (IsDeclarator.declared {xs = xs} {ys = ys} {z = z} {i = i} s g) =
-    let n = size_both xs ys in
-    (omega arith, (omega arith, wider (at + 1) (at + 1 + size xs) (value_marks i) (at + 1 + size xs + size ys) _ (omega arith) (omega (arith, n)) (given (at + 1 + size xs) ys i g)))
+    let n = size_both xs ys in (
+      omega arith,
+      (
+        omega arith,
+        wider (at + 1) (at + 1 + size xs) (value_marks i) (at + 1 + size xs + size ys) _ (omega arith) (omega (arith, n))
+            (given (at + 1 + size xs) ys i g),
+      ),
+    )
 
 declaration : (at : ℕ) (es : List Symbol) (d : Declaration) → IsDeclaration at es d → InOrder at (declaration_marks d) es
 declaration at us d (IsDeclaration.declares {xs = xs} {ys = ys} {zs = zs} {ds = ds} m t e) =
@@ -107,7 +116,8 @@ tested : (k : Class) (at : ℕ) (es : List Symbol) (t : Term) → IsTested k at 
 tested k at us t (IsTested.tested {xs = xs} i) = let n = size_then xs c.Close in (omega arith, omega (arith, n))
 
 -- a label in front of the rest
-labelled : (at : ℕ) (xs ys : List Symbol) (ms ns ks : List ℕ) → InOrder at ms xs → InOrder (token_behind at xs) (ns ++ ks) ys → InOrder at ((ms ++ ns) ++ ks) (xs ++ ys)
+labelled : (at : ℕ) (xs ys : List Symbol) (ms ns ks : List ℕ) → InOrder at ms xs → InOrder (token_behind at xs) (ns ++ ks) ys →
+    InOrder at ((ms ++ ns) ++ ks) (xs ++ ys)
 labelled at xs ys ms ns ks g h =
     let n = size_both xs ys in
     wider at at ((ms ++ ns) ++ ks) (at + size xs + size ys) _ (omega arith) (omega (arith, n))
@@ -115,7 +125,8 @@ labelled at xs ys ms ns ks g h =
 
 -- two parts, the second behind one token more
 pair : (at : ℕ) (xs ys : List Symbol) (ms ns : List ℕ) → InOrder at ms xs → InOrder (at + size xs + 1) ns ys → Rising at (ms ++ ns) (at + size xs + 1 + size ys)
-pair at xs ys ms ns g h = rising_both at ms (at + size xs + 1) ns (at + size xs + 1 + size ys) (wider at at ms (at + size xs) (at + size xs + 1) (omega arith) (omega arith) g) h
+pair at xs ys ms ns g h = rising_both at ms (at + size xs + 1) ns (at + size xs + 1 + size ys)
+    (wider at at ms (at + size xs) (at + size xs + 1) (omega arith) (omega arith) g) h
 
 mutual
   block : (at : ℕ) (es : List Symbol) (b : Body) → IsBlock at es b → InOrder at (body_marks b) es
@@ -143,7 +154,8 @@ mutual
 
   body : (o : Bool) (at : ℕ) (es : List Symbol) (b : Body) → IsBody o at es b → InOrder at (body_marks b) es
   body o at us b (IsBody.block_list {xs = xs} h) = block at xs b h
-  body o at us b (IsBody.unlabelled_list {xs = xs} {p = p} h) = let n = size_nested xs in wider at at (statement_marks p) (at + size xs) _ (omega arith) (omega (arith, n)) (plain o at xs p h)
+  body o at us b (IsBody.unlabelled_list {xs = xs} {p = p} h) = let n = size_nested xs in
+      wider at at (statement_marks p) (at + size xs) _ (omega arith) (omega (arith, n)) (plain o at xs p h)
   body o at us b (IsBody.labelled_list {xs = xs} {ys = ys} {l = l} {ls = ls} {p = p} g h) =
       let n = size_nested (xs ++ ys) in
       wider at at ((label_marks l ++ each_marks label_marks ls) ++ plain_marks p) (at + size (xs ++ ys)) _ (omega arith) (omega (arith, n))
@@ -161,7 +173,8 @@ mutual
       let mid = at + size xs in
       let hi = mid + size ys + 1 + size zs in
       wider at at (term_marks t ++ (body_marks b ++ body_marks d)) hi _ (omega arith) (omega (arith, n))
-      (rising_both at (term_marks t) mid (body_marks b ++ body_marks d) hi (tested c.If at xs t g) (pair mid ys zs (body_marks b) (body_marks d) (body false mid ys b h) (body o (mid + size ys + 1) zs d k)))
+      (rising_both at (term_marks t) mid (body_marks b ++ body_marks d) hi (tested c.If at xs t g)
+      (pair mid ys zs (body_marks b) (body_marks d) (body false mid ys b h) (body o (mid + size ys + 1) zs d k)))
   plain o at us s (IsPlain.while {xs = xs} {ys = ys} {t = t} {b = b} g h) =
       let n = size_both xs ys in
       wider at at (term_marks t ++ body_marks b) (at + size xs + size ys) _ (omega arith) (omega (arith, n))
@@ -169,7 +182,8 @@ mutual
   plain o at us s (IsPlain.do_while {dangling = q} {xs = xs} {ys = ys} {t = t} {b = b} g h) =
       let n = size_three xs ys (Outside c.Semicolon ∷ []) in
       wider at (at + 1) (body_marks b ++ term_marks t) (at + 1 + size xs + size ys) _ (omega arith) (omega (arith, n))
-      (rising_both (at + 1) (body_marks b) (at + 1 + size xs) (term_marks t) (at + 1 + size xs + size ys) (body q (at + 1) xs b g) (tested c.While (at + 1 + size xs) ys t h))
+      (rising_both (at + 1) (body_marks b) (at + 1 + size xs) (term_marks t) (at + 1 + size xs + size ys) (body q (at + 1) xs b g)
+      (tested c.While (at + 1 + size xs) ys t h))
   plain o at us s (IsPlain.for {xs = xs} {ys = ys} {zs = zs} {ws = ws} {i = i} {t = t} {u = u} {b = b} f g h k) =
       let n = size_four xs ys (Outside c.Semicolon ∷ zs) (Outside c.Close ∷ ws) in
       let first = at + 1 + 1 in
@@ -178,7 +192,8 @@ mutual
       let hi = third + size zs + 1 + size ws in
       wider at first (start_marks i ++ (option_marks t ++ (option_marks u ++ body_marks b))) hi _ (omega arith) (omega (arith, n))
       (rising_both first (start_marks i) second (option_marks t ++ (option_marks u ++ body_marks b)) hi (start first xs i f)
-      (rising_both second (option_marks t) third (option_marks u ++ body_marks b) hi (wider second second (option_marks t) (second + size ys) third (omega arith) (omega arith) (optional second ys t g))
+      (rising_both second (option_marks t) third (option_marks u ++ body_marks b) hi
+      (wider second second (option_marks t) (second + size ys) third (omega arith) (omega arith) (optional second ys t g))
       (pair third zs ws (option_marks u) (body_marks b) (optional third zs u h) (body o (third + size zs + 1) ws b k))))
   plain o at us s (IsPlain.switch {xs = xs} {ys = ys} {t = t} {b = b} g h) =
       let n = size_both xs ys in
@@ -233,7 +248,8 @@ function at us f (IsFunction.function {xs = xs} {ys = ys} {zs = zs} {ws = ws} {p
         omega arith,
         wider (name + 1) first (each_marks parameter_marks ps ++ within_marks b) (second + size ws) _ (omega arith) (omega (arith, n))
             (rising_both first (each_marks parameter_marks ps) second (within_marks b) (second + size ws)
-            (wider first first (each_marks parameter_marks ps) (first + size zs) second (omega arith) (omega arith) (parameters first zs ps p)) (defined second ws b d)),
+            (wider first first (each_marks parameter_marks ps) (first + size zs) second (omega arith) (omega arith) (parameters first zs ps p))
+            (defined second ws b d)),
       ),
     )
 
@@ -247,7 +263,8 @@ top : (at : ℕ) (es : List Symbol) (f : Form) → IsTop at es f → InOrder at 
 top at us f IsTop.line = omega arith
 top at us f (IsTop.enum {xs = xs} {ys = ys} {es = es} e m) =
     let n = size_three xs ys (Outside c.CloseBlock ∷ Outside c.Semicolon ∷ []) in
-    wider at (at + 1 + 1) (each_marks enumerator_marks es) (at + 1 + 1 + size xs) _ (omega arith) (omega (arith, n)) (each IsEnumerator enumerator_marks enumerator (at + 1 + 1) xs es e)
+    wider at (at + 1 + 1) (each_marks enumerator_marks es) (at + 1 + 1 + size xs) _ (omega arith) (omega (arith, n))
+    (each IsEnumerator enumerator_marks enumerator (at + 1 + 1) xs es e)
 top at us f (IsTop.globals {xs = xs} {ys = ys} {d = d} m h) =
     let n = size_both xs ys in
     wider at (at + size xs) (declaration_marks d) (at + size xs + size ys) _ (omega arith) (omega (arith, n)) (declaration (at + size xs) ys d h)

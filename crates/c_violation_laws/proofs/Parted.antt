@@ -25,13 +25,18 @@ preceded xs rest = record { outside = xs ++ rest.outside; sections = rest.sectio
 abbrev pub headed : Typing → InFunction → Place → List Label → List item.Item → Parted → Parted
 headed typing f p ls xs rest = record {
   outside = [];
-  sections = record { cases = section_cases typing (names f p) ls; default = has_default ls; list = (notes_at f (AtSection (first_label ls)) ++ section_marks f ls ++ xs) ++ rest.outside } ∷ rest.sections;
+  sections = record {
+    cases = section_cases typing (names f p) ls;
+    default = has_default ls;
+    list = (notes_at f (AtSection (first_label ls)) ++ section_marks f ls ++ xs) ++ rest.outside;
+  } ∷ rest.sections;
 }
 
 -- an item in front of these
 abbrev pub part : Typing → InFunction → items.Item → Parted → Place → Parted
 part typing f (Declares first after d) rest p = preceded (declares_items typing f first d p) rest
-part typing f (States ls s) rest p = cond (has_case ls) (headed typing f p ls (plain_items typing f s p) rest) (preceded (labels_items typing f (names f p) ls ++ plain_items typing f s p) rest)
+part typing f (States ls s) rest p = cond (has_case ls) (headed typing f p ls (plain_items typing f s p) rest)
+    (preceded (labels_items typing f (names f p) ls ++ plain_items typing f s p) rest)
 
 -- a list that ends with these Notes
 abbrev pub parts : Typing → InFunction → Items → List item.Item → Place → Parted
@@ -41,7 +46,8 @@ parts typing f (Then x xs) notes p = part typing f x (parts typing f xs notes p)
 -- ---- these are the sections and the runs of items
 
 module _ (typing : Typing) (f : InFunction) (p : Place) where
-  section_is : (ls : List Label) (xs : List item.Item) (rest : Parted) → (headed typing f p ls xs rest).sections ≡ section_with typing f p ls (xs ++ rest.outside) ∷ rest.sections
+  section_is : (ls : List Label) (xs : List item.Item) (rest : Parted) →
+      (headed typing f p ls xs rest).sections ≡ section_with typing f p ls (xs ++ rest.outside) ∷ rest.sections
   section_is ls xs rest =
       let e = append_assoc (notes_at f (AtSection (first_label ls)) ++ section_marks f ls) xs rest.outside in
       λ i. record { cases = section_cases typing (names f p) ls; default = has_default ls; list = e i } ∷ rest.sections
@@ -51,13 +57,15 @@ module _ (typing : Typing) (f : InFunction) (p : Place) where
   either_sections true ls xs ys rest = section_is ls xs rest
   either_sections false ls xs ys rest = refl
 
-  either_run : (b : Bool) (ls : List Label) (xs ys : List item.Item) (rest : Parted) → (cond b (headed typing f p ls xs rest) (preceded ys rest)).outside ≡ cond b [] (ys ++ rest.outside)
+  either_run : (b : Bool) (ls : List Label) (xs ys : List item.Item) (rest : Parted) →
+      (cond b (headed typing f p ls xs rest) (preceded ys rest)).outside ≡ cond b [] (ys ++ rest.outside)
   either_run true ls xs ys rest = refl
   either_run false ls xs ys rest = refl
 
   pub part_sections : (x : items.Item) (rest : Parted) → (part typing f x rest p).sections ≡ item_sections typing f x rest.outside p ++ rest.sections
   part_sections (Declares first after d) rest = refl
-  part_sections (States ls s) rest = either_sections (has_case ls) ls (plain_items typing f s p) (labels_items typing f (names f p) ls ++ plain_items typing f s p) rest
+  part_sections (States ls s) rest = either_sections (has_case ls) ls (plain_items typing f s p)
+      (labels_items typing f (names f p) ls ++ plain_items typing f s p) rest
 
   part_run : (x : items.Item) (rest : Parted) → (part typing f x rest p).outside ≡ cond (begins x) [] (item_items typing f x p ++ rest.outside)
   part_run (Declares first after d) rest = refl
@@ -72,5 +80,6 @@ module _ (typing : Typing) (f : InFunction) (p : Place) where
   parts_sections (Then x xs) notes =
       part_sections x (parts typing f xs notes p) ∙ (λ i. item_sections typing f x (parts_run xs notes i) p ++ parts_sections xs notes i)
 
-  pub part_alone : (x : items.Item) (notes : List item.Item) → (part typing f x (record { outside = notes; sections = [] }) p).sections ≡ item_sections typing f x notes p
+  pub part_alone : (x : items.Item) (notes : List item.Item) →
+      (part typing f x (record { outside = notes; sections = [] }) p).sections ≡ item_sections typing f x notes p
   part_alone x notes = part_sections x (record { outside = notes; sections = [] }) ∙ append-nil (item_sections typing f x notes p)

@@ -44,12 +44,14 @@ use Rattle.c_violation_laws.proofs.WrittenFunctions.{function_same}
 
 -- ---- functions with a body
 
-inserted_at : (name n : List ℕ) (m : List ℕ) (ms : List (List ℕ)) (o : Ordering) → is_eq o ≡ bytes_eq n m → has_function (insert_key name_cmp ms n) name ≡ (bytes_eq name n || has_function ms name)
+inserted_at : (name n : List ℕ) (m : List ℕ) (ms : List (List ℕ)) (o : Ordering) → is_eq o ≡ bytes_eq n m →
+    has_function (insert_key name_cmp ms n) name ≡ (bytes_eq name n || has_function ms name)
     → has_function (match_ordering o (n ∷ m ∷ ms) (m ∷ ms) (m ∷ insert_key name_cmp ms n)) name ≡ (bytes_eq name n || (bytes_eq name m || has_function ms name))
 inserted_at name n m ms Less e h = refl
 inserted_at name n m ms Equal e h =
     let s : n ≡ m = same_names n m (sym e) in
-    subst (λ z. (bytes_eq name z || has_function ms name) ≡ (bytes_eq name n || (bytes_eq name z || has_function ms name))) s (twice (bytes_eq name n) (has_function ms name))
+    subst (λ z. (bytes_eq name z || has_function ms name) ≡ (bytes_eq name n || (bytes_eq name z || has_function ms name))) s
+    (twice (bytes_eq name n) (has_function ms name))
   where
     twice : (a b : Bool) → (a || b) ≡ (a || (a || b))
     twice true b = refl
@@ -82,11 +84,13 @@ defined_same word (From first after Unread ∷ xs) name = defined_same word xs n
 -- ---- what is declared at file scope
 
 module _ (word : ℕ → List ℕ) (ss : List (List Identifier)) where
-  given_same : (ms known : List Scope) → AreMaps ms known → (t : Option Term) → option_map (walked_names.constant_at (in_scopes word ms)) t ≡ option_map (constant_at typed (λ z. in_scopes word known)) t
+  given_same : (ms known : List Scope) → AreMaps ms known → (t : Option Term) →
+      option_map (walked_names.constant_at (in_scopes word ms)) t ≡ option_map (constant_at typed (λ z. in_scopes word known)) t
   given_same ms known m None = refl
   given_same ms known m (Some t) = ap Some (constant_same word (file_walk ms) known m t)
 
-  enums_same : (es : List Enumerator) (before : Option ℤ) (ms : List Scope) (zs : List Identifier) (ns : List ℕ) → FileIn ms ss (constants word ss before es ++ zs) (each_marks enumerator_marks es ++ ns) → Follow ns zs
+  enums_same : (es : List Enumerator) (before : Option ℤ) (ms : List Scope) (zs : List Identifier) (ns : List ℕ) →
+      FileIn ms ss (constants word ss before es ++ zs) (each_marks enumerator_marks es ++ ns) → Follow ns zs
       → enums.enum_items es before (in_scopes word ms) ≡ enum_items word ss before es
   enums_same [] before ms zs ns h follow = refl
   enums_same (e ∷ es) before ms zs ns h follow =
@@ -95,10 +99,12 @@ module _ (word : ℕ → List ℕ) (ss : List (List Identifier)) where
       let v = value_of (in_scopes word ms) e.value before in
       let same = value_alike word ms ss e m before in
       let rest = ap (λ z. enums.enum_items es z (in_scopes word (bind (word e.name) (Constant (or_zero v)) ms))) same
-      ∙ enums_same es (value_in word ss before e) (bind (word e.name) (Constant (or_zero v)) ms) zs ns (constant_past word ss e es before ms zs ns v same h) follow in
+      ∙ enums_same es (value_in word ss before e) (bind (word e.name) (Constant (or_zero v)) ms) zs ns
+      (constant_past word ss e es before ms zs ns v same h) follow in
       λ i. record { name = word e.name; given = given_same ms known m e.value i; value = or_zero (same i) } ∷ rest i
 
-  globals_same : (static : Bool) (k : Kinded) (ds : List Declarator) (ms : List Scope) (zs : List Identifier) (ns : List ℕ) → FileIn ms ss (map (global_variable word k) ds ++ zs) (each_marks declarator_marks ds ++ ns) → Follow ns zs
+  globals_same : (static : Bool) (k : Kinded) (ds : List Declarator) (ms : List Scope) (zs : List Identifier) (ns : List ℕ) →
+      FileIn ms ss (map (global_variable word k) ds ++ zs) (each_marks declarator_marks ds ++ ns) → Follow ns zs
       → walked_globals.globals static k ds (in_scopes word ms) ≡ map (global typed word ss static k) ds
   globals_same static k [] ms zs ns h follow = refl
   globals_same static k (d ∷ ds) ms zs ns h follow =
@@ -113,7 +119,8 @@ module _ (word : ℕ → List ℕ) (ss : List (List Identifier)) where
 -- ---- the whole
 
 module _ (file : File) (ss : List (List Identifier)) where
-  form_same : (first : ℕ) (form : Form) (s : State) → IsApart form → FileIn s.scopes ss (form_identifiers typed file ss form) (form_marks form) → walked.form_tops file first form s ≡ form_tops typed file ss first form
+  form_same : (first : ℕ) (form : Form) (s : State) → IsApart form → FileIn s.scopes ss (form_identifiers typed file ss form) (form_marks form) →
+      walked.form_tops file first form s ≡ form_tops typed file ss first form
   form_same first Line s a h = refl
   form_same first (Enum es) s a h =
       let marks = each_marks enumerator_marks es in
@@ -123,19 +130,26 @@ module _ (file : File) (ss : List (List Identifier)) where
       λ i. top.Enum (items i) ∷ []
   form_same first (Globals static d) s a h =
       let k = kinded file.word d in
-      globals_same file.word ss static k d.names s.scopes [] [] (file_last s.scopes ss (map (global_variable file.word k) d.names) (each_marks declarator_marks d.names) h) (λ mid hi r. tt)
+      globals_same file.word ss static k d.names s.scopes [] []
+      (file_last s.scopes ss (map (global_variable file.word k) d.names) (each_marks declarator_marks d.names) h) (λ mid hi r. tt)
   form_same first (Defines f) s a h =
       let g = function_inside file ss f s h in
       λ i. top.Function (function_same file.word file.notes f a (walked.function_declared file f s).scopes ss g.lo g.hi g.sees g.order i) ∷ []
   form_same first Unread s a h = refl
 
-  tops_same : (xs : List Top) (s : State) → AreApart xs → Before file ss xs s → walked.tops_of file xs s ≡ flat_map (top_tops typed file ss) xs ++ walked.notes_tops file Last
+  tops_same : (xs : List Top) (s : State) → AreApart xs → Before file ss xs s →
+      walked.tops_of file xs s ≡ flat_map (top_tops typed file ss) xs ++ walked.notes_tops file Last
   tops_same [] s a h = refl
   tops_same (From first after form ∷ xs) s a h =
       let t = From first after form in
-      (λ i. (walked.notes_tops file (anchor.Before first) ++ form_same first form s a.0 (form_first file ss first after form xs s h) i) ++ tops_same xs (walked.behind_form file form s) a.1 (tops_rest file ss first after form xs s h) i)
+      (λ i. (walked.notes_tops file (anchor.Before first) ++ form_same first form s a.0 (form_first file ss first after form xs s h) i) ++
+      tops_same xs (walked.behind_form file form s) a.1 (tops_rest file ss first after form xs s h) i)
       ∙ sym (append_assoc (top_tops typed file ss t) (flat_map (top_tops typed file ss) xs) (walked.notes_tops file Last))
 
-pub program_same : (file : File) (symbols : List Symbol) (xs : List Top) → IsFile 0 symbols xs → (scope : List Identifier) → IsFileScope typed file xs scope → program_of file xs ≡ program typed file scope xs
+pub program_same : (file : File) (symbols : List Symbol) (xs : List Top) → IsFile 0 symbols xs → (scope : List Identifier) →
+    IsFileScope typed file xs scope → program_of file xs ≡ program typed file scope xs
 program_same file symbols xs derives scope e =
-    λ i. record { tops = tops_same file (scope ∷ []) xs start (file_apart 0 symbols xs derives) (file_begins file xs scope _ e (ordered_file 0 symbols xs derives)) i }
+    λ i. record {
+      tops = tops_same file (scope ∷ []) xs start (file_apart 0 symbols xs derives)
+          (file_begins file xs scope _ e (ordered_file 0 symbols xs derives)) i;
+    }

@@ -65,7 +65,8 @@ from_on lo (x ∷ xs) v rest hi r = let g = r.0 in let h = from_on (x + 1) xs v 
 abbrev pub Apart : List ℕ → Type 0
 Apart vs = (front : List ℕ) (v : ℕ) (rest : List ℕ) → vs ≡ front ++ v ∷ rest → variable_number vs v ≡ length front
 
-number_of : (lo : ℕ) (front : List ℕ) (v : ℕ) (rest : List ℕ) (hi : ℕ) → Climbing lo (front ++ v ∷ rest) hi → variable_number (front ++ v ∷ rest) v ≡ length front
+number_of : (lo : ℕ) (front : List ℕ) (v : ℕ) (rest : List ℕ) (hi : ℕ) → Climbing lo (front ++ v ∷ rest) hi →
+    variable_number (front ++ v ∷ rest) v ≡ length front
 number_of lo [] v rest hi r = ap (λ b. cond b 0 (suc (variable_number rest v))) (eq-eqb v v refl)
 number_of lo (x ∷ xs) v rest hi r =
     let less = from_on (x + 1) xs v rest hi r.1 in

@@ -30,7 +30,10 @@ module _ (file : File) (bodies : List (List ℕ)) (same : (name : List ℕ) → 
   signature_same f = λ i. signature file.word (not (same (file.word f.name) i)) f
 
   declared_same : (f : Function) (s : State) → function_declared file f s ≡ function_declared again f s
-  declared_same f s = λ i. record { scopes = (bound_in f.name (binding.Function (signature_same f i)) (env_of file s)).scopes; bodies = with_body file.word f s.bodies }
+  declared_same f s = λ i. record {
+    scopes = (bound_in f.name (binding.Function (signature_same f i)) (env_of file s)).scopes;
+    bodies = with_body file.word f s.bodies;
+  }
 
   form_behind : (form : Form) (s : State) → behind_form file form s ≡ behind_form again form s
   form_behind Line s = refl
@@ -64,7 +67,8 @@ module _ (file : File) (bodies : List (List ℕ)) (same : (name : List ℕ) → 
 
 module _ (flat : FlatCounts) (text : List ℕ) (tokens : List Token) (comments : List Span) (xs : List Top) where
   -- with the comments at their places
-  noted : again (file_at flat text tokens comments xs) (defined (word_of text tokens) xs) (defined_same (word_of text tokens) xs) ≡ file_written flat text tokens comments xs
+  noted : again (file_at flat text tokens comments xs) (defined (word_of text tokens) xs) (defined_same (word_of text tokens) xs) ≡ file_written flat
+      text tokens comments xs
   noted = λ i. record { word = word_of text tokens; notes = notes_same text tokens comments xs i; bodies = defined (word_of text tokens) xs; flat = flat }
 
   -- the file of a text breaks the same rules
@@ -74,9 +78,13 @@ module _ (flat : FlatCounts) (text : List ℕ) (tokens : List Token) (comments :
       ∙ (λ i. violation_of (noted i) xs)
 
   -- and is the same program
-  pub program_written : (symbols : List Symbol) → IsFile 0 symbols xs → (scope : List Identifier) → IsFileScope typed (file_written flat text tokens comments xs) xs scope
+  pub program_written : (symbols : List Symbol) → IsFile 0 symbols xs → (scope : List Identifier) →
+      IsFileScope typed (file_written flat text tokens comments xs) xs scope
       → program_of (file_at flat text tokens comments xs) xs ≡ program typed (file_written flat text tokens comments xs) scope xs
   program_written symbols derives scope e =
-      (λ i. record { tops = tops_same (file_at flat text tokens comments xs) (defined (word_of text tokens) xs) (defined_same (word_of text tokens) xs) xs start i })
+      (λ i. record {
+        tops = tops_same (file_at flat text tokens comments xs) (defined (word_of text tokens) xs)
+            (defined_same (word_of text tokens) xs) xs start i;
+      })
       ∙ (λ i. program_of (noted i) xs)
       ∙ program_same (file_written flat text tokens comments xs) symbols xs derives scope e

@@ -26,9 +26,11 @@ module _ (word : ℕ → List ℕ) where
 
   abbrev pub constants_behind : List Identifier → Option ℤ → List Enumerator → List Identifier
   constants_behind front before [] = []
-  constants_behind front before (e ∷ es) = constant front before e ∷ constants_behind (front ++ constant front before e ∷ []) (value_in word (front ∷ []) before e) es
+  constants_behind front before (e ∷ es) = constant front before e ∷ constants_behind (front ++ constant front before e ∷ [])
+      (value_in word (front ∷ []) before e) es
 
-  constants_from : (front : List Identifier) (before : Option ℤ) (lo : ℕ) (es : List Enumerator) (hi : ℕ) → Rising lo (each_marks enumerator_marks es) hi → FromOn lo (constants_behind front before es)
+  constants_from : (front : List Identifier) (before : Option ℤ) (lo : ℕ) (es : List Enumerator) (hi : ℕ) →
+      Rising lo (each_marks enumerator_marks es) hi → FromOn lo (constants_behind front before es)
   constants_from front before lo [] hi r = tt
   constants_from front before lo (e ∷ es) hi r =
       let g = r.0 in
@@ -37,9 +39,11 @@ module _ (word : ℕ → List ℕ) where
       (g, from_earlier lo (e.name + 1) (constants_behind more v es) (omega (arith, g)) (constants_from more v (e.name + 1) es hi r.1.1))
 
   known_so_far : (token : ℕ) (front later : List Identifier) → FromOn token later → known_at token (front ++ later) ≡ known_at token front
-  known_so_far token front later f = known_both token front later ∙ ap (λ l. known_at token front ++ l) (known_none token later f) ∙ append-nil (known_at token front)
+  known_so_far token front later f = known_both token front later ∙ ap (λ l. known_at token front ++ l) (known_none token later f) ∙
+      append-nil (known_at token front)
 
-  constants_fixed : (front : List Identifier) (before : Option ℤ) (es : List Enumerator) (later : List Identifier) (lo hi : ℕ) → Rising lo (each_marks enumerator_marks es) hi → FromOn hi later
+  constants_fixed : (front : List Identifier) (before : Option ℤ) (es : List Enumerator) (later : List Identifier) (lo hi : ℕ) →
+      Rising lo (each_marks enumerator_marks es) hi → FromOn hi later
       → constants word ((front ++ (constants_behind front before es ++ later)) ∷ []) before es ≡ constants_behind front before es
   constants_fixed front before [] later lo hi r f = refl
   constants_fixed front before (e ∷ es) later lo hi r f =
@@ -48,9 +52,14 @@ module _ (word : ℕ → List ℕ) where
       let more = constants_behind (front ++ x ∷ []) v es in
       let whole = front ++ (x ∷ (more ++ later)) in
       let last = rising_ends (e.name + 1) (each_marks enumerator_marks es) hi r.1.1 in
-      let from : FromOn e.name (x ∷ (more ++ later)) =
-      (omega arith, from_both e.name more later (from_earlier e.name (e.name + 1) more (omega arith) (constants_from (front ++ x ∷ []) v (e.name + 1) es hi r.1.1)) (from_earlier e.name hi later (omega (arith, last)) f)) in
-      let same : value_in word (whole ∷ []) before e ≡ v = ap (λ (l : Scope). int_only (written_or typed (record { word = word; scopes = l ∷ known_scope ∷ [] }) e.value (next_value before))) (known_so_far e.name front (x ∷ (more ++ later)) from) in
+      let from : FromOn e.name (x ∷ (more ++ later)) = (
+        omega arith,
+        from_both e.name more later (from_earlier e.name (e.name + 1) more (omega arith)
+            (constants_from (front ++ x ∷ []) v (e.name + 1) es hi r.1.1)) (from_earlier e.name hi later (omega (arith, last)) f),
+      ) in
+      let same : value_in word (whole ∷ []) before e ≡ v =
+      ap (λ (l : Scope). int_only (written_or typed (record { word = word; scopes = l ∷ known_scope ∷ [] }) e.value (next_value before)))
+      (known_so_far e.name front (x ∷ (more ++ later)) from) in
       ap (λ (z : Option ℤ). record { at = e.name; name = word e.name; binding = Constant (or_zero z) } ∷ constants word (whole ∷ []) z es) same
       ∙ ap (λ (l : List Identifier). x ∷ constants word (l ∷ []) v es) (sym (append_assoc front (x ∷ []) (more ++ later)))
       ∙ ap (λ (l : List Identifier). x ∷ l) (constants_fixed (front ++ x ∷ []) v es later (e.name + 1) hi r.1.1 f)
@@ -89,14 +98,16 @@ module _ (file : File) where
   form_fixed front (Defines g) later lo hi r f = refl
   form_fixed front Unread later lo hi r f = refl
 
-  tops_fixed : (front : List Identifier) (xs : List Top) (lo hi : ℕ) → Rising lo (each_marks top_marks xs) hi → file_identifiers typed file ((front ++ tops_behind front xs) ∷ []) xs ≡ tops_behind front xs
+  tops_fixed : (front : List Identifier) (xs : List Top) (lo hi : ℕ) → Rising lo (each_marks top_marks xs) hi →
+      file_identifiers typed file ((front ++ tops_behind front xs) ∷ []) xs ≡ tops_behind front xs
   tops_fixed front [] lo hi r = refl
   tops_fixed front (From first after form ∷ xs) lo hi r =
       let s = parted lo (form_marks form) (each_marks top_marks xs) hi r in
       let ds = form_behind front form in
       let rest = tops_behind (front ++ ds) xs in
       let here = form_fixed front form rest lo s.0 s.1 (tops_from (front ++ ds) s.0 xs hi s.2) in
-      let there = ap (λ (l : List Identifier). file_identifiers typed file (l ∷ []) xs) (sym (append_assoc front ds rest)) ∙ tops_fixed (front ++ ds) xs s.0 hi s.2 in
+      let there = ap (λ (l : List Identifier). file_identifiers typed file (l ∷ []) xs) (sym (append_assoc front ds rest)) ∙
+      tops_fixed (front ++ ds) xs s.0 hi s.2 in
       λ i. here i ++ there i
 
 pub file_scope : (file : File) (symbols : List Symbol) (xs : List Top) → IsFile 0 symbols xs → (scope : List Identifier) × IsFileScope typed file xs scope

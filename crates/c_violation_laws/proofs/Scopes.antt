@@ -46,13 +46,15 @@ kept_name q name b x None p e h = by_bool (bytes_eq q name)
     (λ n. ap (λ t. cond t (Some b) None) (sym n))
 
 -- a new one gets it
-new_name : (q name : List ℕ) (b : Binding) (o p : Option Binding) → p ≡ None → (q ≡ name → o ≡ p) → cond (bytes_eq q name) (Some b) o ≡ or_else o (cond (bytes_eq q name) (Some b) None)
+new_name : (q name : List ℕ) (b : Binding) (o p : Option Binding) → p ≡ None → (q ≡ name → o ≡ p) →
+    cond (bytes_eq q name) (Some b) o ≡ or_else o (cond (bytes_eq q name) (Some b) None)
 new_name q name b None p e h = refl
 new_name q name b (Some y) p e h = by_bool (bytes_eq q name)
     (λ t. let k : Some y ≡ p = h (same_names q name t) in cc)
     (λ n. ap (λ t. cond t (Some b) (Some y)) n)
 
-named_alike : (q name : List ℕ) (b : Binding) (m : Scope) (o : Option Binding) → found name m ≡ o → found q (with_name name b m) ≡ or_else (found q m) (cond (bytes_eq q name) (Some b) None)
+named_alike : (q name : List ℕ) (b : Binding) (m : Scope) (o : Option Binding) → found name m ≡ o →
+    found q (with_name name b m) ≡ or_else (found q m) (cond (bytes_eq q name) (Some b) None)
 named_alike q name b m (Some x) e =
     ap (λ p. found q (cond (is_some p) m (with_entry name b m))) e ∙ kept_name q name b x (found q m) (found name m) e (λ f. ap (λ z. found z m) f)
 named_alike q name b m None e =

@@ -17,7 +17,12 @@ or_assoc false b c = refl
 
 labelled_twice : (cs ds : List Expression) (a b : Bool) (s : Section) → with_labels (cs ++ ds) (a || b) s ≡ with_labels cs a (with_labels ds b s)
 labelled_twice cs ds a b s =
-    let k = out-roll-Section (record { cases = ds ++ (out-Section s).cases; default = b || (out-Section s).default; list = (out-Section s).list; ends = (out-Section s).ends }) in
+    let k = out-roll-Section (record {
+      cases = ds ++ (out-Section s).cases;
+      default = b || (out-Section s).default;
+      list = (out-Section s).list;
+      ends = (out-Section s).ends;
+    }) in
     (λ i. section (append_assoc cs ds (out-Section s).cases i) (or_assoc a b (out-Section s).default i) (out-Section s).list (out-Section s).ends)
     ∙ (λ i. section (cs ++ (sym k i).cases) (a || (sym k i).default) (sym k i).list (sym k i).ends)
 

@@ -25,7 +25,8 @@ joined : (a b c : List Slot) (d e : List Slot) → b ≡ a ++ d → c ≡ b ++ e
 joined a b c d e f g = g ∙ ap (λ l. l ++ e) f ∙ append_assoc a d e
 
 names_slots : (f : InFunction) (apart : Apart f.variables) (k : Kinded) (ds : List Declarator) (w : Walk) (p : Place) (rest : List ℕ)
-    → StandsIn f.variables w p (map (variable f k) ds) (each_marks declarator_marks ds) (name_tokens ds ++ rest) → (all_declared f.word k ds w).slots ≡ w.slots ++ slots_of_names typed f k ds p
+    → StandsIn f.variables w p (map (variable f k) ds) (each_marks declarator_marks ds) (name_tokens ds ++ rest) →
+    (all_declared f.word k ds w).slots ≡ w.slots ++ slots_of_names typed f k ds p
 names_slots f apart k [] w p rest h = sym (append-nil w.slots)
 names_slots f apart k (d ∷ ds) w p rest h =
     names_slots f apart k ds (declared f.word k d w) p rest (stands_name f apart k d ds w p rest h)
@@ -34,34 +35,41 @@ names_slots f apart k (d ∷ ds) w p rest h =
 
 pub parameters_slots : (word : ℕ → List ℕ) (xs : List Parameter) (w : Walk) → (bind_parameters word xs w).slots ≡ w.slots ++ map (parameter_slot word) xs
 parameters_slots word [] w = sym (append-nil w.slots)
-parameters_slots word (x ∷ xs) w = parameters_slots word xs (bind_parameter word x w) ∙ append_assoc w.slots (parameter_slot word x ∷ []) (map (parameter_slot word) xs)
+parameters_slots word (x ∷ xs) w = parameters_slots word xs (bind_parameter word x w) ∙
+    append_assoc w.slots (parameter_slot word x ∷ []) (map (parameter_slot word) xs)
 
 module _ (c : Context) (labels : List (List ℕ)) (vs : List ℕ) (apart : Apart vs) where
   abbrev f : InFunction
   f = in_function c labels vs
 
-  start_slots : (s : Start) (w : Walk) (p : Place) (rest : List ℕ) → StandsIn vs w p (start_identifiers f s) (start_marks s) (start_variables s ++ rest) → (walked.behind_start c s w).slots ≡ w.slots ++ slots_of_start typed f s p
+  start_slots : (s : Start) (w : Walk) (p : Place) (rest : List ℕ) → StandsIn vs w p (start_identifiers f s) (start_marks s)
+      (start_variables s ++ rest) → (walked.behind_start c s w).slots ≡ w.slots ++ slots_of_start typed f s p
   start_slots NoStart w p rest h = sym (append-nil w.slots)
   start_slots (StartValue t) w p rest h = sym (append-nil w.slots)
   start_slots (StartNames d) w p rest h = names_slots f apart (kinded c.word d) d.names w p rest h
 
   mutual
-    pub item_slots : (x : Item) (w : Walk) (p : Place) (rest : List ℕ) → StandsIn vs w p (item_identifiers f x) (item_marks x) (item_variables x ++ rest) → (behind_item c x w).slots ≡ w.slots ++ slots_in typed f x p
+    pub item_slots : (x : Item) (w : Walk) (p : Place) (rest : List ℕ) →
+        StandsIn vs w p (item_identifiers f x) (item_marks x) (item_variables x ++ rest) → (behind_item c x w).slots ≡ w.slots ++ slots_in typed f x p
     item_slots (Declares first after d) w p rest h = names_slots f apart (kinded c.word d) d.names w p rest h
     item_slots (States ls s) w p rest h =
         let more = plain_variables s ++ rest in
-        plain_slots s w p rest (stands_behind vs w p (each_marks label_marks ls) (plain_marks s) more (stands_stated vs w p (each_marks label_marks ls ++ plain_marks s) more h))
+        plain_slots s w p rest (stands_behind vs w p (each_marks label_marks ls) (plain_marks s) more
+        (stands_stated vs w p (each_marks label_marks ls ++ plain_marks s) more h))
 
-    plain_slots : (s : Plain) (w : Walk) (p : Place) (rest : List ℕ) → Stands vs w p (plain_marks s) (plain_variables s ++ rest) → (behind_plain c s w).slots ≡ w.slots ++ slots_of_plain typed f s p
+    plain_slots : (s : Plain) (w : Walk) (p : Place) (rest : List ℕ) → Stands vs w p (plain_marks s) (plain_variables s ++ rest) →
+        (behind_plain c s w).slots ≡ w.slots ++ slots_of_plain typed f s p
     plain_slots (From first after s) w p rest h = statement_slots s w p rest h
 
-    statement_slots : (s : Statement) (w : Walk) (p : Place) (rest : List ℕ) → Stands vs w p (statement_marks s) (statement_variables s ++ rest) → (behind_statement c s w).slots ≡ w.slots ++ slots_of_statement typed f s p
+    statement_slots : (s : Statement) (w : Walk) (p : Place) (rest : List ℕ) → Stands vs w p (statement_marks s) (statement_variables s ++ rest) →
+        (behind_statement c s w).slots ≡ w.slots ++ slots_of_statement typed f s p
     statement_slots (If t b) w p rest h = body_slots b w p rest (stands_behind vs w p (term_marks t) (body_marks b) (body_variables b ++ rest) h)
     statement_slots (IfElse t b d) w p rest h =
         let all = (body_variables b ++ body_variables d) ++ rest in
         let more = body_variables d ++ rest in
         let g = stands_behind vs w p (term_marks t) (body_marks b ++ body_marks d) all h in
-        let first = stands_first vs w p (body_marks b) (body_marks d) (body_variables b ++ more) all g (numbered_grouped vs w (body_variables b) (body_variables d) rest g.numbered) in
+        let first = stands_first vs w p (body_marks b) (body_marks d) (body_variables b ++ more) all g
+        (numbered_grouped vs w (body_variables b) (body_variables d) rest g.numbered) in
         let second = stands_body c labels vs apart b w p (body_marks d) (body_variables d) rest g in
         joined w.slots (behind_body c b w).slots (behind_body c d (behind_body c b w)).slots (slots_of_body typed f b p) (slots_of_body typed f d p)
         (body_slots b w p more first) (body_slots d (behind_body c b w) p rest second)
@@ -87,13 +95,19 @@ module _ (c : Context) (labels : List (List ℕ)) (vs : List ℕ) (apart : Apart
     statement_slots (Return t) w p rest h = sym (append-nil w.slots)
     statement_slots Unread w p rest h = sym (append-nil w.slots)
 
-    body_slots : (b : Body) (w : Walk) (p : Place) (rest : List ℕ) → Stands vs w p (body_marks b) (body_variables b ++ rest) → (behind_body c b w).slots ≡ w.slots ++ slots_of_body typed f b p
-    body_slots (Braces first after xs) w p rest h = list_slots xs (enter w) (within f (Braces first after xs) p) rest (stands_braces f vs w p first after xs (list_variables xs ++ rest) h)
-    body_slots (Lone first after x) w p rest h = item_slots x (enter w) (within f (Lone first after x) p) rest (stands_lone f vs w p first after x (item_variables x ++ rest) h)
+    body_slots : (b : Body) (w : Walk) (p : Place) (rest : List ℕ) → Stands vs w p (body_marks b) (body_variables b ++ rest) →
+        (behind_body c b w).slots ≡ w.slots ++ slots_of_body typed f b p
+    body_slots (Braces first after xs) w p rest h = list_slots xs (enter w) (within f (Braces first after xs) p) rest
+        (stands_braces f vs w p first after xs (list_variables xs ++ rest) h)
+    body_slots (Lone first after x) w p rest h = item_slots x (enter w) (within f (Lone first after x) p) rest
+        (stands_lone f vs w p first after x (item_variables x ++ rest) h)
 
-    pub list_slots : (xs : Items) (w : Walk) (p : Place) (rest : List ℕ) → StandsIn vs w p (list_identifiers f xs) (list_marks xs) (list_variables xs ++ rest) → (behind_items c xs w).slots ≡ w.slots ++ slots_of_list typed f xs p
+    pub list_slots : (xs : Items) (w : Walk) (p : Place) (rest : List ℕ) →
+        StandsIn vs w p (list_identifiers f xs) (list_marks xs) (list_variables xs ++ rest) →
+        (behind_items c xs w).slots ≡ w.slots ++ slots_of_list typed f xs p
     list_slots NoItem w p rest h = sym (append-nil w.slots)
     list_slots (Then x xs) w p rest h =
         let v = behind_item c x w in
-        joined w.slots v.slots (behind_items c xs v).slots (slots_in typed f x p) (slots_of_list typed f xs p) (item_slots x w p (list_variables xs ++ rest) (stands_item c labels vs apart x xs w p rest h))
+        joined w.slots v.slots (behind_items c xs v).slots (slots_in typed f x p) (slots_of_list typed f xs p)
+        (item_slots x w p (list_variables xs ++ rest) (stands_item c labels vs apart x xs w p rest h))
         (list_slots xs v p rest (stands_rest c labels vs apart x xs w p rest h))

@@ -64,7 +64,8 @@ numbered_next vs w v x rest h e = record {
   count = e ∙ ap (λ n. n + 1) h.count ∙ sym (one_more h.front x);
 }
 
-numbered_past : (vs : List ℕ) (w v : Walk) (ours rest : List ℕ) → Numbered vs w (ours ++ rest) → length v.slots ≡ length w.slots + length ours → Numbered vs v rest
+numbered_past : (vs : List ℕ) (w v : Walk) (ours rest : List ℕ) → Numbered vs w (ours ++ rest) → length v.slots ≡ length w.slots + length ours →
+    Numbered vs v rest
 numbered_past vs w v ours rest h e = record {
   front = h.front ++ ours;
   split = h.split ∙ sym (append_assoc h.front ours rest);
@@ -101,7 +102,13 @@ module _ (vs : List ℕ) (w : Walk) (p : Place) where
 
   -- in a list, before a statement
   pub stands_stated : (ms rest : List ℕ) → StandsIn vs w p [] ms rest → Stands vs w p ms rest
-  stands_stated ms rest h = record { lo = h.lo; hi = h.end; sees = scope_sees w.scopes p.scopes h.lo h.hi h.end h.later h.inner h.room h.beyond; order = h.order; numbered = h.numbered }
+  stands_stated ms rest h = record {
+    lo = h.lo;
+    hi = h.end;
+    sees = scope_sees w.scopes p.scopes h.lo h.hi h.end h.later h.inner h.room h.beyond;
+    order = h.order;
+    numbered = h.numbered;
+  }
 
 -- ---- the constants of labels, and expressions that may be left out
 
@@ -123,10 +130,13 @@ labels_sees w p lo hi [] s r = tt
 labels_sees w p lo hi (l ∷ ls) s r =
     let q = parted lo (label_marks l) (each_marks label_marks ls) hi r in
     let less = rising_ends lo (label_marks l) q.0 q.1 in
-    let more = rising_ends q.0 (each_marks label_marks ls) hi q.2 in
-    (label_sees w p lo hi l s (wider lo lo (label_marks l) q.0 hi (omega arith) more q.1), labels_sees w p lo hi ls s (wider lo q.0 (each_marks label_marks ls) hi hi less (omega arith) q.2))
+    let more = rising_ends q.0 (each_marks label_marks ls) hi q.2 in (
+      label_sees w p lo hi l s (wider lo lo (label_marks l) q.0 hi (omega arith) more q.1),
+      labels_sees w p lo hi ls s (wider lo q.0 (each_marks label_marks ls) hi hi less (omega arith) q.2),
+    )
 
-pub labels_see : (vs : List ℕ) (w : Walk) (p : Place) (ls : List Label) (ms rest : List ℕ) → Stands vs w p (each_marks label_marks ls ++ ms) rest → LabelsSee w p ls
+pub labels_see : (vs : List ℕ) (w : Walk) (p : Place) (ls : List Label) (ms rest : List ℕ) → Stands vs w p (each_marks label_marks ls ++ ms) rest →
+    LabelsSee w p ls
 labels_see vs w p ls ms rest h = let g = stands_before vs w p (each_marks label_marks ls) ms rest h in labels_sees w p g.lo g.hi ls g.sees g.order
 
 abbrev pub OptionSees : Walk → Place → Option Term → Type 0
@@ -139,7 +149,8 @@ option_sees vs w p None rest h = tt
 
 -- ---- what is declared behind a token
 
-declared_from : (f : InFunction) (k : Kinded) (lo : ℕ) (ds : List Declarator) (hi : ℕ) → Rising lo (each_marks declarator_marks ds) hi → FromOn lo (map (variable f k) ds)
+declared_from : (f : InFunction) (k : Kinded) (lo : ℕ) (ds : List Declarator) (hi : ℕ) → Rising lo (each_marks declarator_marks ds) hi →
+    FromOn lo (map (variable f k) ds)
 declared_from f k lo [] hi r = tt
 declared_from f k lo (d ∷ ds) hi r =
     let s = parted lo (declarator_marks d) (each_marks declarator_marks ds) hi r in
@@ -173,10 +184,12 @@ module _ (f : InFunction) (vs : List ℕ) (w : Walk) (p : Place) where
     numbered = record { front = n.front; split = n.split; count = n.count };
   }
 
-  pub stands_braces : (first after : ℕ) (xs : Items) (rest : List ℕ) → Stands vs w p (list_marks xs) rest → StandsIn vs (enter w) (within f (Braces first after xs) p) (list_identifiers f xs) (list_marks xs) rest
+  pub stands_braces : (first after : ℕ) (xs : Items) (rest : List ℕ) → Stands vs w p (list_marks xs) rest →
+      StandsIn vs (enter w) (within f (Braces first after xs) p) (list_identifiers f xs) (list_marks xs) rest
   stands_braces first after xs rest h = entered (list_identifiers f xs) h.lo h.hi h.hi (list_marks xs) rest h.sees h.order (omega arith) h.numbered
 
-  pub stands_lone : (first after : ℕ) (x : Item) (rest : List ℕ) → Stands vs w p (item_marks x) rest → StandsIn vs (enter w) (within f (Lone first after x) p) (item_identifiers f x) (item_marks x) rest
+  pub stands_lone : (first after : ℕ) (x : Item) (rest : List ℕ) → Stands vs w p (item_marks x) rest →
+      StandsIn vs (enter w) (within f (Lone first after x) p) (item_identifiers f x) (item_marks x) rest
   stands_lone first after x rest h = record {
     lo = h.lo;
     end = h.hi;
@@ -200,7 +213,8 @@ module _ (f : InFunction) (vs : List ℕ) (w : Walk) (p : Place) where
 -- ---- in a list: what stands first, and the rest
 
 module _ (vs : List ℕ) (w : Walk) (p : Place) where
-  pub stands_begin : (xs ys : List Identifier) (ms ns vars more rest : List ℕ) → StandsIn vs w p (xs ++ ys) (ms ++ ns) ((vars ++ more) ++ rest) → ((mid hi : ℕ) → Rising mid ns hi → FromOn mid ys)
+  pub stands_begin : (xs ys : List Identifier) (ms ns vars more rest : List ℕ) → StandsIn vs w p (xs ++ ys) (ms ++ ns) ((vars ++ more) ++ rest) →
+      ((mid hi : ℕ) → Rising mid ns hi → FromOn mid ys)
       → StandsIn vs w p xs ms (vars ++ (more ++ rest))
   stands_begin xs ys ms ns vars more rest h from =
       let s = parted h.lo ms ns h.end h.order in
@@ -222,15 +236,18 @@ module _ (vs : List ℕ) (w : Walk) (p : Place) where
 
 module _ (f : InFunction) (apart : Apart f.variables) (k : Kinded) where
   -- behind one
-  name_past : (d : Declarator) (w : Walk) (ss : List (List Identifier)) (lo hi : ℕ) (zs : List Identifier) (rest : List ℕ) → InScope w.scopes ss lo hi (variable f k d ∷ zs) → lo ≤ d.name → Numbered f.variables w (d.name ∷ rest)
+  name_past : (d : Declarator) (w : Walk) (ss : List (List Identifier)) (lo hi : ℕ) (zs : List Identifier) (rest : List ℕ) →
+      InScope w.scopes ss lo hi (variable f k d ∷ zs) → lo ≤ d.name → Numbered f.variables w (d.name ∷ rest)
       → InScope (declared f.word k d w).scopes ss (d.name + 1) hi zs × Numbered f.variables (declared f.word k d w) rest
   name_past d w ss lo hi zs rest h l n = (
-    scope_declared w.scopes ss lo hi (Local (length w.slots) (shape_of k d)) (variable f k d) zs h l (ap (λ i. Local i (shape_of k d)) (number_here f.variables apart d.name w rest n)),
+    scope_declared w.scopes ss lo hi (Local (length w.slots) (shape_of k d)) (variable f k d) zs h l
+        (ap (λ i. Local i (shape_of k d)) (number_here f.variables apart d.name w rest n)),
     numbered_next f.variables w (declared f.word k d w) d.name rest n (one_more w.slots _),
   )
 
   -- behind all of them
-  pub names_past : (ds : List Declarator) (w : Walk) (ss : List (List Identifier)) (lo mid hi : ℕ) (zs : List Identifier) (rest : List ℕ) → InScope w.scopes ss lo hi (map (variable f k) ds ++ zs)
+  pub names_past : (ds : List Declarator) (w : Walk) (ss : List (List Identifier)) (lo mid hi : ℕ) (zs : List Identifier) (rest : List ℕ) →
+      InScope w.scopes ss lo hi (map (variable f k) ds ++ zs)
       → Rising lo (each_marks declarator_marks ds) mid → Numbered f.variables w (name_tokens ds ++ rest)
       → InScope (all_declared f.word k ds w).scopes ss mid hi zs × Numbered f.variables (all_declared f.word k ds w) rest
   names_past [] w ss lo mid hi zs rest h r n = (scope_narrow w.scopes ss lo hi mid hi zs h r (omega arith), n)
@@ -254,11 +271,15 @@ module _ (f : InFunction) (apart : Apart f.variables) (k : Kinded) where
         let less = rising_ends (d.name + 1) (value_marks d.value) s.0 s.1.1.1 in
         let last = rising_ends s.0 (each_marks declarator_marks ds) h.end s.2 in
         let room = h.room in
-        scope_sees w.scopes p.scopes h.lo h.hi d.name (variable f k d ∷ (next ++ h.later)) h.inner (omega (arith, less, last, room))
-        (omega arith, from_both d.name next h.later (from_earlier d.name s.0 next (omega (arith, less)) (declared_from f k s.0 ds h.end s.2)) (from_earlier d.name h.end h.later (omega (arith, less, last)) h.beyond))
+        scope_sees w.scopes p.scopes h.lo h.hi d.name (variable f k d ∷ (next ++ h.later)) h.inner (omega (arith, less, last, room)) (
+          omega arith,
+          from_both d.name next h.later (from_earlier d.name s.0 next (omega (arith, less)) (declared_from f k s.0 ds h.end s.2))
+              (from_earlier d.name h.end h.later (omega (arith, less, last)) h.beyond),
+        )
         d.name first (omega arith)
 
-    behind : InScope (declared f.word k d w).scopes p.scopes (d.name + 1) h.hi (next ++ h.later) × Numbered f.variables (declared f.word k d w) (name_tokens ds ++ rest)
+    behind : InScope (declared f.word k d w).scopes p.scopes (d.name + 1) h.hi (next ++ h.later) ×
+        Numbered f.variables (declared f.word k d w) (name_tokens ds ++ rest)
     behind = name_past d w p.scopes h.lo h.hi (next ++ h.later) (name_tokens ds ++ rest) h.inner h.order.0 h.numbered
 
     pub stands_values : Stands f.variables (declared f.word k d w) p (value_marks d.value) (name_tokens ds ++ rest)
@@ -283,7 +304,8 @@ module _ (f : InFunction) (apart : Apart f.variables) (k : Kinded) where
           end = h.end;
           hi = h.hi;
           later = h.later;
-          inner = scope_narrow (declared f.word k d w).scopes p.scopes (d.name + 1) h.hi s.0 h.hi (next ++ h.later) behind.0 (rising_ends (d.name + 1) (value_marks d.value) s.0 s.1.1.1) (omega arith);
+          inner = scope_narrow (declared f.word k d w).scopes p.scopes (d.name + 1) h.hi s.0 h.hi (next ++ h.later) behind.0
+              (rising_ends (d.name + 1) (value_marks d.value) s.0 s.1.1.1) (omega arith);
           order = s.2;
           room = h.room;
           beyond = h.beyond;
@@ -320,7 +342,8 @@ module _ (ctx : Context) where
     statement_count : (s : Statement) (w : Walk) → length (behind_statement ctx s w).slots ≡ length w.slots + length (statement_variables s)
     statement_count (If t b) w = body_count b w
     statement_count (IfElse t b c) w =
-        in_turn (length w.slots) (length (behind_body ctx b w).slots) (body_variables b) (body_variables c) (body_count b w) (body_count c (behind_body ctx b w))
+        in_turn (length w.slots) (length (behind_body ctx b w).slots) (body_variables b) (body_variables c) (body_count b w)
+        (body_count c (behind_body ctx b w))
     statement_count (While t b) w = body_count b w
     statement_count (DoWhile b t) w = body_count b w
     statement_count (For start t u b) w =
@@ -343,7 +366,8 @@ module _ (ctx : Context) where
     list_count : (xs : Items) (w : Walk) → length (behind_items ctx xs w).slots ≡ length w.slots + length (list_variables xs)
     list_count NoItem w = sym (add-zero (length w.slots))
     list_count (Then x xs) w =
-        in_turn (length w.slots) (length (behind_item ctx x w).slots) (item_variables x) (list_variables xs) (item_count x w) (list_count xs (behind_item ctx x w))
+        in_turn (length w.slots) (length (behind_item ctx x w).slots) (item_variables x) (list_variables xs) (item_count x w)
+        (list_count xs (behind_item ctx x w))
 
 -- the scopes are what they were
 body_scopes : (ctx : Context) (b : Body) (w : Walk) → (behind_body ctx b w).scopes ≡ w.scopes
@@ -372,7 +396,8 @@ plain_scopes ctx (From first after s) w = statement_scopes ctx s w
 -- ---- behind items
 
 -- the scopes are the same, and these variables more are declared
-past : (vs : List ℕ) (w v : Walk) (p : Place) (ms ns vars more rest : List ℕ) → Stands vs w p (ms ++ ns) ((vars ++ more) ++ rest) → v.scopes ≡ w.scopes → length v.slots ≡ length w.slots + length vars → Stands vs v p ns (more ++ rest)
+past : (vs : List ℕ) (w v : Walk) (p : Place) (ms ns vars more rest : List ℕ) → Stands vs w p (ms ++ ns) ((vars ++ more) ++ rest) →
+    v.scopes ≡ w.scopes → length v.slots ≡ length w.slots + length vars → Stands vs v p ns (more ++ rest)
 past vs w v p ms ns vars more rest h e n =
     let g = stands_behind vs w p ms ns ((vars ++ more) ++ rest) h in
     record {
@@ -388,18 +413,22 @@ module _ (c : Context) (labels : List (List ℕ)) (vs : List ℕ) (apart : Apart
   f = in_function c labels vs
 
   -- behind a body, before these tokens
-  pub stands_body : (b : Body) (w : Walk) (p : Place) (ns more rest : List ℕ) → Stands vs w p (body_marks b ++ ns) ((body_variables b ++ more) ++ rest) → Stands vs (behind_body c b w) p ns (more ++ rest)
+  pub stands_body : (b : Body) (w : Walk) (p : Place) (ns more rest : List ℕ) →
+      Stands vs w p (body_marks b ++ ns) ((body_variables b ++ more) ++ rest) → Stands vs (behind_body c b w) p ns (more ++ rest)
   stands_body b w p ns more rest h = past vs w (behind_body c b w) p (body_marks b) ns (body_variables b) more rest h (body_scopes c b w) (body_count c b w)
 
   -- behind the first part of a `for`
-  pub stands_start : (start : Start) (w : Walk) (p : Place) (ns more rest : List ℕ) → Stands vs w p (start_marks start ++ ns) ((start_variables start ++ more) ++ rest)
+  pub stands_start : (start : Start) (w : Walk) (p : Place) (ns more rest : List ℕ) →
+      Stands vs w p (start_marks start ++ ns) ((start_variables start ++ more) ++ rest)
       → Stands vs (start_walked c start (enter w)) (within_for f start p) ns (more ++ rest)
   stands_start start w p ns more rest h =
       let s = parted h.lo (start_marks start) ns h.hi h.order in
       let own = start_identifiers f start in
-      let inner = subst (λ l. InScope ([] ∷ w.scopes) (own ∷ p.scopes) h.lo h.hi l) (sym (append-nil own)) (scope_entered w.scopes own p.scopes h.lo h.hi h.sees) in
+      let inner = subst (λ l. InScope ([] ∷ w.scopes) (own ∷ p.scopes) h.lo h.hi l) (sym (append-nil own))
+      (scope_entered w.scopes own p.scopes h.lo h.hi h.sees) in
       let n = numbered_grouped vs w (start_variables start) more rest h.numbered in
-      let k = start_past start (enter w) (within_for f start p).scopes h.lo s.0 h.hi [] (more ++ rest) inner s.1 (record { front = n.front; split = n.split; count = n.count }) in
+      let k = start_past start (enter w) (within_for f start p).scopes h.lo s.0 h.hi [] (more ++ rest) inner s.1
+      (record { front = n.front; split = n.split; count = n.count }) in
       record {
         lo = s.0;
         hi = h.hi;
@@ -408,31 +437,39 @@ module _ (c : Context) (labels : List (List ℕ)) (vs : List ℕ) (apart : Apart
         numbered = k.1;
       }
     where
-      start_past : (start : Start) (w : Walk) (ss : List (List Identifier)) (lo mid hi : ℕ) (zs : List Identifier) (rest : List ℕ) → InScope w.scopes ss lo hi (start_identifiers f start ++ zs) → Rising lo (start_marks start) mid
+      start_past : (start : Start) (w : Walk) (ss : List (List Identifier)) (lo mid hi : ℕ) (zs : List Identifier) (rest : List ℕ) →
+          InScope w.scopes ss lo hi (start_identifiers f start ++ zs) → Rising lo (start_marks start) mid
           → Numbered vs w (start_variables start ++ rest) → InScope (start_walked c start w).scopes ss mid hi zs × Numbered vs (start_walked c start w) rest
       start_past NoStart w ss lo mid hi zs rest i r n = (scope_narrow w.scopes ss lo hi mid hi zs i r (omega arith), n)
-      start_past (StartValue t) w ss lo mid hi zs rest i r n = (scope_narrow w.scopes ss lo hi mid hi zs i (rising_ends lo (term_marks t) mid r) (omega arith), n)
+      start_past (StartValue t) w ss lo mid hi zs rest i r n =
+          (scope_narrow w.scopes ss lo hi mid hi zs i (rising_ends lo (term_marks t) mid r) (omega arith), n)
       start_past (StartNames d) w ss lo mid hi zs rest i r n = names_past f apart (kinded c.word d) d.names w ss lo mid hi zs rest i r n
 
-  item_past : (x : Item) (w : Walk) (ss : List (List Identifier)) (lo mid hi : ℕ) (zs : List Identifier) (rest : List ℕ) → InScope w.scopes ss lo hi (item_identifiers f x ++ zs) → Rising lo (item_marks x) mid
+  item_past : (x : Item) (w : Walk) (ss : List (List Identifier)) (lo mid hi : ℕ) (zs : List Identifier) (rest : List ℕ) →
+      InScope w.scopes ss lo hi (item_identifiers f x ++ zs) → Rising lo (item_marks x) mid
       → Numbered vs w (item_variables x ++ rest) → InScope (behind_item c x w).scopes ss mid hi zs × Numbered vs (behind_item c x w) rest
   item_past (Declares first after d) w ss lo mid hi zs rest i r n = names_past f apart (kinded c.word d) d.names w ss lo mid hi zs rest i r n
   item_past (States ls s) w ss lo mid hi zs rest i r n = (
-    scope_same w.scopes (behind_plain c s w).scopes ss mid hi zs (plain_scopes c s w) (scope_narrow w.scopes ss lo hi mid hi zs i (rising_ends lo (item_marks (States ls s)) mid r) (omega arith)),
+    scope_same w.scopes (behind_plain c s w).scopes ss mid hi zs (plain_scopes c s w)
+        (scope_narrow w.scopes ss lo hi mid hi zs i (rising_ends lo (item_marks (States ls s)) mid r) (omega arith)),
     numbered_past vs w (behind_plain c s w) (plain_variables s) rest n (plain_count c s w),
   )
 
   -- before the first item, and behind it
-  pub stands_item : (x : Item) (xs : Items) (w : Walk) (p : Place) (rest : List ℕ) → StandsIn vs w p (list_identifiers f (Then x xs)) (list_marks (Then x xs)) (list_variables (Then x xs) ++ rest)
+  pub stands_item : (x : Item) (xs : Items) (w : Walk) (p : Place) (rest : List ℕ) →
+      StandsIn vs w p (list_identifiers f (Then x xs)) (list_marks (Then x xs)) (list_variables (Then x xs) ++ rest)
       → StandsIn vs w p (item_identifiers f x) (item_marks x) (item_variables x ++ (list_variables xs ++ rest))
   stands_item x xs w p rest h =
-      stands_begin vs w p (item_identifiers f x) (list_identifiers f xs) (item_marks x) (list_marks xs) (item_variables x) (list_variables xs) rest h (λ mid hi r. list_from f mid xs hi r)
+      stands_begin vs w p (item_identifiers f x) (list_identifiers f xs) (item_marks x) (list_marks xs) (item_variables x) (list_variables xs) rest h
+      (λ mid hi r. list_from f mid xs hi r)
 
-  pub stands_rest : (x : Item) (xs : Items) (w : Walk) (p : Place) (rest : List ℕ) → StandsIn vs w p (list_identifiers f (Then x xs)) (list_marks (Then x xs)) (list_variables (Then x xs) ++ rest)
+  pub stands_rest : (x : Item) (xs : Items) (w : Walk) (p : Place) (rest : List ℕ) →
+      StandsIn vs w p (list_identifiers f (Then x xs)) (list_marks (Then x xs)) (list_variables (Then x xs) ++ rest)
       → StandsIn vs (behind_item c x w) p (list_identifiers f xs) (list_marks xs) (list_variables xs ++ rest)
   stands_rest x xs w p rest h =
       let s = parted h.lo (item_marks x) (list_marks xs) h.end h.order in
       let zs = list_identifiers f xs ++ h.later in
       let inner = subst (λ z. InScope w.scopes p.scopes h.lo h.hi z) (append_assoc (item_identifiers f x) (list_identifiers f xs) h.later) h.inner in
-      let k = item_past x w p.scopes h.lo s.0 h.hi zs (list_variables xs ++ rest) inner s.1 (numbered_grouped vs w (item_variables x) (list_variables xs) rest h.numbered) in
+      let k = item_past x w p.scopes h.lo s.0 h.hi zs (list_variables xs ++ rest) inner s.1
+      (numbered_grouped vs w (item_variables x) (list_variables xs) rest h.numbered) in
       record { lo = s.0; end = h.end; hi = h.hi; later = h.later; inner = k.0; order = s.2; room = h.room; beyond = h.beyond; numbered = k.1 }

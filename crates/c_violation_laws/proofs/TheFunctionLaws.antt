@@ -12,5 +12,6 @@ use Rattle.c_violation_laws.proofs.FunctionFaults.{function}
 pub function_laws : FunctionLaws
 function_laws flat word notes at symbols f derives known scopes same =
     let order = function_ordered at symbols f derives in
-    let sees : Sees known scopes (f.name + 1) (token_behind at symbols) = λ token g l. subst (λ z. AreMaps known z) (sym (same token (omega (arith, g)) l)) (alike known) in
+    let sees : Sees known scopes (f.name + 1) (token_behind at symbols) =
+    λ token g l. subst (λ z. AreMaps known z) (sym (same token (omega (arith, g)) l)) (alike known) in
     function word flat notes f (function_apart at symbols f derives) known scopes (f.name + 1) (token_behind at symbols) sees order.1.1

@@ -20,11 +20,13 @@ pub typed_typing : IsTyping typed
 typed_typing env t = meant env t (typed env t) refl
 
 -- nothing that is found means nothing
-wrong_by : (env : Env) (t : Term) → ((y : Typed) → Means env t y → ⊥) → Means env t (typed env t) ⊎ ((typed env t ≡ Wrong) × ((y : Typed) → Means env t y → ⊥)) → typed env t ≡ Wrong
+wrong_by : (env : Env) (t : Term) → ((y : Typed) → Means env t y → ⊥) →
+    Means env t (typed env t) ⊎ ((typed env t ≡ Wrong) × ((y : Typed) → Means env t y → ⊥)) → typed env t ≡ Wrong
 wrong_by env t h (inl m) = absurd (h (typed env t) m)
 wrong_by env t h (inr n) = n.0
 
-same_by : (typing : Typing) (env : Env) (t : Term) → Means env t (typing env t) ⊎ ((typing env t ≡ Wrong) × ((y : Typed) → Means env t y → ⊥)) → typing env t ≡ typed env t
+same_by : (typing : Typing) (env : Env) (t : Term) → Means env t (typing env t) ⊎ ((typing env t ≡ Wrong) × ((y : Typed) → Means env t y → ⊥)) →
+    typing env t ≡ typed env t
 same_by typing env t (inl m) = sym (is_typed env t (typing env t) m)
 same_by typing env t (inr n) = n.0 ∙ sym (wrong_by env t n.1 (typed_typing env t))
 

@@ -80,11 +80,15 @@ module _ (env : Env) (at : ℕ) where
   -- ---- a cell that is read, a name or a cell that is written to
 
   -- a name of another kind, or one that is const
-  shaped : (k c : Bool) → Finds (λ vs. cond k (fault_if c at 26 vs) (fault at 22 vs)) (λ v. ((k ≡ false) × (v ≡ broken at 22)) ⊎ ((k ≡ true) × (c ≡ true) × (v ≡ broken at 26)))
-  shaped false c = finds_same (fault at 22) (λ v. v ≡ broken at 22) _ (finds_fault at 22) (λ v e. inl (refl, e)) (λ v h. elim h [ inl p ↦ p.1 | inr p ↦ absurd (true≢false (sym p.0)) ])
-  shaped true c = finds_same (fault_if c at 26) (λ v. (c ≡ true) × (v ≡ broken at 26)) _ (finds_if c at 26) (λ v p. inr (refl, p.0, p.1)) (λ v h. elim h [ inl p ↦ absurd (true≢false p.0) | inr p ↦ (p.1, p.2) ])
+  shaped : (k c : Bool) → Finds (λ vs. cond k (fault_if c at 26 vs) (fault at 22 vs))
+      (λ v. ((k ≡ false) × (v ≡ broken at 22)) ⊎ ((k ≡ true) × (c ≡ true) × (v ≡ broken at 26)))
+  shaped false c = finds_same (fault at 22) (λ v. v ≡ broken at 22) _ (finds_fault at 22) (λ v e. inl (refl, e))
+      (λ v h. elim h [ inl p ↦ p.1 | inr p ↦ absurd (true≢false (sym p.0)) ])
+  shaped true c = finds_same (fault_if c at 26) (λ v. (c ≡ true) × (v ≡ broken at 26)) _ (finds_if c at 26) (λ v p. inr (refl, p.0, p.1))
+      (λ v h. elim h [ inl p ↦ absurd (true≢false p.0) | inr p ↦ (p.1, p.2) ])
 
-  a_cell : (writes : Bool) (b : Binding) (vs : Faults) → target_fault writes true at (Some b) vs ≡ cond (is_array_binding b) (fault_if (writes && is_const b) at 26 vs) (fault at 22 vs)
+  a_cell : (writes : Bool) (b : Binding) (vs : Faults) → target_fault writes true at (Some b) vs ≡ cond (is_array_binding b)
+      (fault_if (writes && is_const b) at 26 vs) (fault at 22 vs)
   a_cell writes (Constant n) vs = refl
   a_cell writes (Global shape) vs = refl
   a_cell writes (Local slot shape) vs = refl
@@ -95,7 +99,8 @@ module _ (env : Env) (at : ℕ) where
   turned true x y = refl
   turned false x y = refl
 
-  a_number : (b : Binding) (vs : Faults) → target_fault true false at (Some b) vs ≡ cond (is_number_variable b) (fault_if (is_const b) at 26 vs) (fault at 22 vs)
+  a_number : (b : Binding) (vs : Faults) → target_fault true false at (Some b) vs ≡ cond (is_number_variable b) (fault_if (is_const b) at 26 vs)
+      (fault at 22 vs)
   a_number (Constant n) vs = refl
   a_number (Global shape) vs = turned shape.array (fault at 22 vs) (fault_if shape.constant at 26 vs)
   a_number (Local slot shape) vs = turned shape.array (fault at 22 vs) (fault_if shape.constant at 26 vs)
@@ -111,13 +116,16 @@ module _ (env : Env) (at : ℕ) where
         only v (ReadBreaks.undeclared_array u) = refl
         only v (ReadBreaks.no_array b h f) = absurd (not_bound b h e)
     read_cell_by (Some c) e =
-        finds_as (target_fault false true at (Some c)) _ _ (a_cell false c) (finds_same _ _ (λ v. ReadBreaks env (Cell at i) v) (shaped (is_array_binding c) false) to fro)
+        finds_as (target_fault false true at (Some c)) _ _ (a_cell false c)
+        (finds_same _ _ (λ v. ReadBreaks env (Cell at i) v) (shaped (is_array_binding c) false) to fro)
       where
-        to : (v : Fault) → ((is_array_binding c ≡ false) × (v ≡ broken at 22)) ⊎ ((is_array_binding c ≡ true) × (false ≡ true) × (v ≡ broken at 26)) → ReadBreaks env (Cell at i) v
+        to : (v : Fault) → ((is_array_binding c ≡ false) × (v ≡ broken at 22)) ⊎ ((is_array_binding c ≡ true) × (false ≡ true) × (v ≡ broken at 26)) →
+            ReadBreaks env (Cell at i) v
         to v (inl p) = subst (λ w. ReadBreaks env (Cell at i) w) (sym p.1) (ReadBreaks.no_array c (bound c e) p.0)
         to v (inr p) = absurd (true≢false (sym p.1))
 
-        fro : (v : Fault) → ReadBreaks env (Cell at i) v → ((is_array_binding c ≡ false) × (v ≡ broken at 22)) ⊎ ((is_array_binding c ≡ true) × (false ≡ true) × (v ≡ broken at 26))
+        fro : (v : Fault) → ReadBreaks env (Cell at i) v → ((is_array_binding c ≡ false) × (v ≡ broken at 22)) ⊎
+            ((is_array_binding c ≡ true) × (false ≡ true) × (v ≡ broken at 26))
         fro v (ReadBreaks.undeclared_array u) = absurd (not_both c u e)
         fro v (ReadBreaks.no_array b h f) = inl (subst (λ x. is_array_binding x ≡ false) (same_bound b c h e) f, refl)
 
@@ -132,16 +140,24 @@ module _ (env : Env) (at : ℕ) where
         only v (WriteBreaks.no_array b h f) = absurd (not_bound b h e)
         only v (WriteBreaks.const_cell b h f g) = absurd (not_bound b h e)
     write_cell_by (Some c) e =
-        finds_as (target_fault true true at (Some c)) _ _ (a_cell true c) (finds_same _ _ (λ v. WriteBreaks env (Cell at i) v) (shaped (is_array_binding c) (is_const c)) to fro)
+        finds_as (target_fault true true at (Some c)) _ _ (a_cell true c)
+        (finds_same _ _ (λ v. WriteBreaks env (Cell at i) v) (shaped (is_array_binding c) (is_const c)) to fro)
       where
-        to : (v : Fault) → ((is_array_binding c ≡ false) × (v ≡ broken at 22)) ⊎ ((is_array_binding c ≡ true) × (is_const c ≡ true) × (v ≡ broken at 26)) → WriteBreaks env (Cell at i) v
+        to : (v : Fault) → ((is_array_binding c ≡ false) × (v ≡ broken at 22)) ⊎
+            ((is_array_binding c ≡ true) × (is_const c ≡ true) × (v ≡ broken at 26)) → WriteBreaks env (Cell at i) v
         to v (inl p) = subst (λ w. WriteBreaks env (Cell at i) w) (sym p.1) (WriteBreaks.no_array c (bound c e) p.0)
         to v (inr p) = subst (λ w. WriteBreaks env (Cell at i) w) (sym p.2) (WriteBreaks.const_cell c (bound c e) p.0 p.1)
 
-        fro : (v : Fault) → WriteBreaks env (Cell at i) v → ((is_array_binding c ≡ false) × (v ≡ broken at 22)) ⊎ ((is_array_binding c ≡ true) × (is_const c ≡ true) × (v ≡ broken at 26))
+        fro : (v : Fault) → WriteBreaks env (Cell at i) v → ((is_array_binding c ≡ false) × (v ≡ broken at 22)) ⊎
+            ((is_array_binding c ≡ true) × (is_const c ≡ true) × (v ≡ broken at 26))
         fro v (WriteBreaks.undeclared_array u) = absurd (not_both c u e)
         fro v (WriteBreaks.no_array b h f) = inl (subst (λ x. is_array_binding x ≡ false) (same_bound b c h e) f, refl)
-        fro v (WriteBreaks.const_cell b h f g) = inr (subst (λ x. is_array_binding x ≡ true) (same_bound b c h e) f, subst (λ x. is_const x ≡ true) (same_bound b c h e) g, refl)
+        fro v (WriteBreaks.const_cell b h f g) = inr (
+          subst (λ x. is_array_binding x ≡ true) (same_bound b c h e) f,
+          subst (λ x. is_const x ≡ true)
+              (same_bound b c h e) g,
+          refl,
+        )
 
     pub write_cell : Finds (target_fault true true at (meaning env at)) (λ v. WriteBreaks env (Cell at i) v)
     write_cell = write_cell_by (meaning env at) refl
@@ -154,16 +170,24 @@ module _ (env : Env) (at : ℕ) where
       only v (WriteBreaks.no_number b h f) = absurd (not_bound b h e)
       only v (WriteBreaks.const b h f g) = absurd (not_bound b h e)
   write_name_by (Some c) e =
-      finds_as (target_fault true false at (Some c)) _ _ (a_number c) (finds_same _ _ (λ v. WriteBreaks env (Variable at) v) (shaped (is_number_variable c) (is_const c)) to fro)
+      finds_as (target_fault true false at (Some c)) _ _ (a_number c)
+      (finds_same _ _ (λ v. WriteBreaks env (Variable at) v) (shaped (is_number_variable c) (is_const c)) to fro)
     where
-      to : (v : Fault) → ((is_number_variable c ≡ false) × (v ≡ broken at 22)) ⊎ ((is_number_variable c ≡ true) × (is_const c ≡ true) × (v ≡ broken at 26)) → WriteBreaks env (Variable at) v
+      to : (v : Fault) → ((is_number_variable c ≡ false) × (v ≡ broken at 22)) ⊎
+          ((is_number_variable c ≡ true) × (is_const c ≡ true) × (v ≡ broken at 26)) → WriteBreaks env (Variable at) v
       to v (inl p) = subst (λ w. WriteBreaks env (Variable at) w) (sym p.1) (WriteBreaks.no_number c (bound c e) p.0)
       to v (inr p) = subst (λ w. WriteBreaks env (Variable at) w) (sym p.2) (WriteBreaks.const c (bound c e) p.0 p.1)
 
-      fro : (v : Fault) → WriteBreaks env (Variable at) v → ((is_number_variable c ≡ false) × (v ≡ broken at 22)) ⊎ ((is_number_variable c ≡ true) × (is_const c ≡ true) × (v ≡ broken at 26))
+      fro : (v : Fault) → WriteBreaks env (Variable at) v → ((is_number_variable c ≡ false) × (v ≡ broken at 22)) ⊎
+          ((is_number_variable c ≡ true) × (is_const c ≡ true) × (v ≡ broken at 26))
       fro v (WriteBreaks.undeclared u) = absurd (not_both c u e)
       fro v (WriteBreaks.no_number b h f) = inl (subst (λ x. is_number_variable x ≡ false) (same_bound b c h e) f, refl)
-      fro v (WriteBreaks.const b h f g) = inr (subst (λ x. is_number_variable x ≡ true) (same_bound b c h e) f, subst (λ x. is_const x ≡ true) (same_bound b c h e) g, refl)
+      fro v (WriteBreaks.const b h f g) = inr (
+        subst (λ x. is_number_variable x ≡ true) (same_bound b c h e) f,
+        subst (λ x. is_const x ≡ true)
+            (same_bound b c h e) g,
+        refl,
+      )
 
   pub write_name : Finds (target_fault true false at (meaning env at)) (λ v. WriteBreaks env (Variable at) v)
   write_name = write_name_by (meaning env at) refl
@@ -272,15 +296,19 @@ module _ (env : Env) (t : Term) where
   pub needs_constant : Finds (constant_fault (first_of t) (typed env t)) (λ v. UseBreaks env t NeedsConstant v)
   needs_constant =
       finds_same _ _ (λ v. UseBreaks env t NeedsConstant v)
-      (finds_both (used env t) (fault_if (not (is_some (constant_of (typed env t)))) (first_of t) 34) _ _ needs_value (finds_if (not (is_some (constant_of (typed env t)))) (first_of t) 34)) to fro
+      (finds_both (used env t) (fault_if (not (is_some (constant_of (typed env t)))) (first_of t) 34) _ _ needs_value
+      (finds_if (not (is_some (constant_of (typed env t)))) (first_of t) 34)) to fro
     where
-      to : (v : Fault) → UseBreaks env t NeedsValue v ⊎ ((not (is_some (constant_of (typed env t))) ≡ true) × (v ≡ broken (first_of t) 34)) → UseBreaks env t NeedsConstant v
+      to : (v : Fault) → UseBreaks env t NeedsValue v ⊎ ((not (is_some (constant_of (typed env t))) ≡ true) × (v ≡ broken (first_of t) 34)) →
+          UseBreaks env t NeedsConstant v
       to v (inl (UseBreaks.void n i f)) = UseBreaks.void n tt f
       to v (inl (UseBreaks.text bytes i f)) = UseBreaks.text bytes tt f
       to v (inl (UseBreaks.array a i f)) = UseBreaks.array a tt f
-      to v (inr p) = subst (λ w. UseBreaks env t NeedsConstant w) (sym p.1) (UseBreaks.not_constant (constant_not env t (unfixed (constant_of (typed env t)) p.0)))
+      to v (inr p) = subst (λ w. UseBreaks env t NeedsConstant w) (sym p.1)
+          (UseBreaks.not_constant (constant_not env t (unfixed (constant_of (typed env t)) p.0)))
 
-      fro : (v : Fault) → UseBreaks env t NeedsConstant v → UseBreaks env t NeedsValue v ⊎ ((not (is_some (constant_of (typed env t))) ≡ true) × (v ≡ broken (first_of t) 34))
+      fro : (v : Fault) → UseBreaks env t NeedsConstant v → UseBreaks env t NeedsValue v ⊎
+          ((not (is_some (constant_of (typed env t))) ≡ true) × (v ≡ broken (first_of t) 34))
       fro v (UseBreaks.void n i f) = inl (UseBreaks.void n tt f)
       fro v (UseBreaks.text bytes i f) = inl (UseBreaks.text bytes tt f)
       fro v (UseBreaks.array a i f) = inl (UseBreaks.array a tt f)

@@ -14,14 +14,16 @@ among (Default at after ∷ ls) rest = among ls rest
 mutual
   in_item : (x : Item) (rest : List ℕ) → walked.item_labels x rest ≡ item_labels x ++ rest
   in_item (Declares first after d) rest = refl
-  in_item (States ls s) rest = among ls (walked.plain_labels s rest) ∙ ap (λ l. labels_among ls ++ l) (in_plain s rest) ∙ sym (append_assoc (labels_among ls) (plain_labels s) rest)
+  in_item (States ls s) rest = among ls (walked.plain_labels s rest) ∙ ap (λ l. labels_among ls ++ l) (in_plain s rest) ∙
+      sym (append_assoc (labels_among ls) (plain_labels s) rest)
 
   in_plain : (s : Plain) (rest : List ℕ) → walked.plain_labels s rest ≡ plain_labels s ++ rest
   in_plain (From first after s) rest = in_statement s rest
 
   in_statement : (s : Statement) (rest : List ℕ) → walked.statement_labels s rest ≡ statement_labels s ++ rest
   in_statement (If t b) rest = in_body b rest
-  in_statement (IfElse t b c) rest = in_body b (walked.body_labels c rest) ∙ ap (λ l. body_labels b ++ l) (in_body c rest) ∙ sym (append_assoc (body_labels b) (body_labels c) rest)
+  in_statement (IfElse t b c) rest = in_body b (walked.body_labels c rest) ∙ ap (λ l. body_labels b ++ l) (in_body c rest) ∙
+      sym (append_assoc (body_labels b) (body_labels c) rest)
   in_statement (While t b) rest = in_body b rest
   in_statement (DoWhile b t) rest = in_body b rest
   in_statement (For start t u b) rest = in_body b rest
@@ -41,7 +43,8 @@ mutual
 
   in_list : (xs : Items) (rest : List ℕ) → walked.list_labels xs rest ≡ list_labels xs ++ rest
   in_list NoItem rest = refl
-  in_list (Then x xs) rest = in_item x (walked.list_labels xs rest) ∙ ap (λ l. item_labels x ++ l) (in_list xs rest) ∙ sym (append_assoc (item_labels x) (list_labels xs) rest)
+  in_list (Then x xs) rest = in_item x (walked.list_labels xs rest) ∙ ap (λ l. item_labels x ++ l) (in_list xs rest) ∙
+      sym (append_assoc (item_labels x) (list_labels xs) rest)
 
 pub labels_same : (b : Body) → walked.body_labels b [] ≡ body_labels b
 labels_same b = in_body b [] ∙ append-nil (body_labels b)

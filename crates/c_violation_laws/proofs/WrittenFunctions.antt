@@ -35,9 +35,11 @@ module _ (word : ℕ → List ℕ) (notes : Anchor → List (List ℕ)) (f : Fun
 
   numbers_same : (b : Body) → f.body ≡ Some b → (name : List ℕ) → number_in (context word notes f b).labels name ≡ label_number here.labels name
   numbers_same b e name =
-      number_same (map word (body_labels b [])) name ∙ ap (λ ats. label_number (each_once (map word ats)) name) (labels_same b) ∙ ap (λ o. label_number (labels_within word o) name) (sym e)
+      number_same (map word (body_labels b [])) name ∙ ap (λ ats. label_number (each_once (map word ats)) name) (labels_same b) ∙
+      ap (λ o. label_number (labels_within word o) name) (sym e)
 
-  pub body_same : (b : Body) → f.body ≡ Some b → (w : Walk) (p : Place) → OutermostIn here apart w p b → walked.body_items (context word notes f b) b w ≡ outermost_items typed here b p
+  pub body_same : (b : Body) → f.body ≡ Some b → (w : Walk) (p : Place) → OutermostIn here apart w p b →
+      walked.body_items (context word notes f b) b w ≡ outermost_items typed here b p
   body_same (Braces first after xs) e w p h =
       let b = Braces first after xs in
       λ i. list_same (context word notes f b) (labels_within word f.body) (numbers_same b e) vs apart xs w p [] h i ++ notes_at here (AtEnd first)
@@ -45,11 +47,13 @@ module _ (word : ℕ → List ℕ) (notes : Anchor → List (List ℕ)) (f : Fun
       let b = Lone first after x in
       λ i. item_same (context word notes f b) (labels_within word f.body) (numbers_same b e) vs apart x w p [] h i ++ notes_at here (AtEnd first)
 
-  body_slotted : (b : Body) (w : Walk) (p : Place) → OutermostIn here apart w p b → (walked.behind_body (context word notes f b) b w).slots ≡ w.slots ++ body_slots typed here b p
+  body_slotted : (b : Body) (w : Walk) (p : Place) → OutermostIn here apart w p b →
+      (walked.behind_body (context word notes f b) b w).slots ≡ w.slots ++ body_slots typed here b p
   body_slotted (Braces first after xs) w p h = list_slots (context word notes f (Braces first after xs)) (labels_within word f.body) vs apart xs w p [] h
   body_slotted (Lone first after x) w p h = item_slots (context word notes f (Lone first after x)) (labels_within word f.body) vs apart x w p [] h
 
-  within_slotted : (o : Option Body) (w : Walk) (p : Place) → GivenIn here apart w p o → (behind_within word notes f o w).slots ≡ w.slots ++ slots_within typed here o p
+  within_slotted : (o : Option Body) (w : Walk) (p : Place) → GivenIn here apart w p o →
+      (behind_within word notes f o w).slots ≡ w.slots ++ slots_within typed here o p
   within_slotted None w p h = sym (append-nil w.slots)
   within_slotted (Some b) w p h = body_slotted b w p h
 
@@ -57,11 +61,13 @@ module _ (word : ℕ → List ℕ) (notes : Anchor → List (List ℕ)) (f : Fun
   within_labelled None = refl
   within_labelled (Some b) = names_once (map word (body_labels b [])) ∙ ap (λ ats. each_once (map word ats)) (labels_same b)
 
-  within_same : (o : Option Body) → f.body ≡ o → (w : Walk) (p : Place) → GivenIn here apart w p o → items_within word notes f o w ≡ option_map (λ b. outermost_items typed here b p) o
+  within_same : (o : Option Body) → f.body ≡ o → (w : Walk) (p : Place) → GivenIn here apart w p o →
+      items_within word notes f o w ≡ option_map (λ b. outermost_items typed here b p) o
   within_same None e w p h = refl
   within_same (Some b) e w p h = ap Some (body_same b e w p h)
 
-  pub function_same : (ms : List Scope) (ss : List (List Identifier)) (lo hi : ℕ) → Sees ms ss lo hi → Rising lo (inner_marks f) hi → walked.function_of word notes f ms ≡ function_of typed word notes f ss
+  pub function_same : (ms : List Scope) (ss : List (List Identifier)) (lo hi : ℕ) → Sees ms ss lo hi → Rising lo (inner_marks f) hi →
+      walked.function_of word notes f ms ≡ function_of typed word notes f ss
   function_same ms ss lo hi sees order =
       let w = walked.inside word f ms in
       let p = inside word notes f ss in

@@ -29,7 +29,8 @@ known_if q known = known_by q known (found q known) refl
 -- a new name is one more
 longer : (m : List ℕ) (b : ℕ) (es : Names ℕ) → found m es ≡ None → length (with_entry m b es) ≡ suc (length es)
 longer m b [] h = refl
-longer m b (e ∷ es) h = by_order (name_cmp m e.0) (is_eq-slice_cmp m e.0) (by_bool (bytes_eq m e.0) (λ y. absurd (none_there y h)) (λ n. n)) (λ n. longer m b es (later n h))
+longer m b (e ∷ es) h = by_order (name_cmp m e.0) (is_eq-slice_cmp m e.0) (by_bool (bytes_eq m e.0) (λ y. absurd (none_there y h)) (λ n. n))
+    (λ n. longer m b es (later n h))
   where
     none_there : bytes_eq m e.0 ≡ true → cond (bytes_eq m e.0) (Some e.1) (found m es) ≡ None → ⊥
     none_there y k = let z : Some e.1 ≡ None = (λ i. cond (sym y i) (Some e.1) (found m es)) ∙ k in cc
@@ -45,7 +46,8 @@ longer m b (e ∷ es) h = by_order (name_cmp m e.0) (is_eq-slice_cmp m e.0) (by_
 
 -- ---- tests one after another
 
-filtered_by : {A : Type 0} (t : Bool) (x : A) (p r : A → Bool) (qs xs : List A) → (t && p x) ≡ r x → filter p qs ≡ filter r xs → filter p (cond t (x ∷ qs) qs) ≡ filter r (x ∷ xs)
+filtered_by : {A : Type 0} (t : Bool) (x : A) (p r : A → Bool) (qs xs : List A) → (t && p x) ≡ r x → filter p qs ≡ filter r xs →
+    filter p (cond t (x ∷ qs) qs) ≡ filter r (x ∷ xs)
 filtered_by true x p r qs xs e f = λ i. cond (e i) (x ∷ f i) (f i)
 filtered_by false x p r qs xs e f = f ∙ ap (λ b. cond b (x ∷ filter r xs) (filter r xs)) e
 
@@ -130,7 +132,9 @@ placed_by q n ns known true (there l e) rest = rest known ∙ ap (at_last q know
 placed_by q n ns known false (absent e) rest =
     rest (behind n known)
     ∙ (λ i. or_else (found_behind n known e q i) (found q (placed (longer n (length known) known e i) (sym (now_known n known e (each_once ns)) i))))
-    ∙ swapped (bytes_eq q n) (length known) (found q known) (found q (placed (suc (length known)) (filter (unknown known) (filter (others n) (each_once ns))))) (λ y. ap (λ z. found z known) (same_names q n y) ∙ e)
+    ∙ swapped (bytes_eq q n) (length known) (found q known)
+    (found q (placed (suc (length known)) (filter (unknown known) (filter (others n) (each_once ns)))))
+    (λ y. ap (λ z. found z known) (same_names q n y) ∙ e)
 
 places : (q : List ℕ) (ns : List (List ℕ)) (known : Names ℕ) → found q (numbers_from known ns) ≡ at_last q known (filter (unknown known) (each_once ns))
 places q [] known = or_none (found q known)
@@ -143,7 +147,8 @@ places q (n ∷ ns) known = placed_by q n ns known (has_label known n) (known_if
 count_by : (n : List ℕ) (ns : List (List ℕ)) (known : Names ℕ) (t : Bool) → Known n known t
     → ((m : Names ℕ) → length (numbers_from m ns) ≡ length m + length (filter (unknown m) (each_once ns)))
     → length (numbers_from (cond t known (behind n known)) ns)
-    ≡ length known + length (cond (not t) (n ∷ filter (unknown known) (filter (others n) (each_once ns))) (filter (unknown known) (filter (others n) (each_once ns))))
+    ≡ length known + length (cond (not t) (n ∷ filter (unknown known) (filter (others n) (each_once ns)))
+    (filter (unknown known) (filter (others n) (each_once ns))))
 count_by n ns known true (there l e) rest = rest known ∙ ap (λ l. length known + length l) (sym (still_known n known l e (each_once ns)))
 count_by n ns known false (absent e) rest =
     let a = rest (behind n known) in
@@ -177,7 +182,8 @@ number_same ns q =
     let k = counts ns [] in
     let a = ap length (filter_all (each_once ns)) in
     let f : length (numbers ns) ≡ 0 + length (each_once ns) = omega arith in
-    let g : or_this (found q (numbers ns)) (length (numbers ns)) ≡ or_this (found q (placed 0 (each_once ns))) (0 + length (each_once ns)) = λ i. or_this (e i) (f i) in
+    let g : or_this (found q (numbers ns)) (length (numbers ns)) ≡ or_this (found q (placed 0 (each_once ns))) (0 + length (each_once ns)) =
+    λ i. or_this (e i) (f i) in
     let h = place_counted q (each_once ns) 0 in
     let j : number_in (numbers ns) q ≡ or_this (found q (numbers ns)) (length (numbers ns)) = refl in
     let z : 0 + label_number (each_once ns) q ≡ label_number (each_once ns) q = omega arith in
@@ -191,7 +197,8 @@ one_placed q (n ∷ ns) at e = by_bool (bytes_eq q n)
     (λ y. inl (same_names q n y))
     (λ f. inr (one_placed q ns (suc at) (ap (λ t. is_some (cond t (Some at) (found q (placed (suc at) ns)))) (sym f) ∙ e)))
 
-behind_one : (q n : List ℕ) (ns : List (List ℕ)) (at : ℕ) → bytes_eq q n ≡ false → (q ≡ n) ⊎ IsOne q ns → (IsOne q ns → is_some (found q (placed at ns)) ≡ true) → is_some (found q (placed at ns)) ≡ true
+behind_one : (q n : List ℕ) (ns : List (List ℕ)) (at : ℕ) → bytes_eq q n ≡ false → (q ≡ n) ⊎ IsOne q ns →
+    (IsOne q ns → is_some (found q (placed at ns)) ≡ true) → is_some (found q (placed at ns)) ≡ true
 behind_one q n ns at f (inl e) g = absurd (true≢false (sym (names_same q n e) ∙ f))
 behind_one q n ns at f (inr k) g = g k
 

@@ -10,7 +10,8 @@ use Rattle.c_violation_laws.specs.Finds.{Finds}
 
 pub record ExpressionLaws : Type 0 where
   -- what is looked up is what the name is bound to
-  pub bound : (name : List ℕ) (b : Binding) (ss : List Scope) → (look_up ss name ≡ Some b → IsBoundTo name b ss) × (IsBoundTo name b ss → look_up ss name ≡ Some b)
+  pub bound : (name : List ℕ) (b : Binding) (ss : List Scope) → (look_up ss name ≡ Some b → IsBoundTo name b ss) ×
+      (IsBoundTo name b ss → look_up ss name ≡ Some b)
   pub unbound : (name : List ℕ) (ss : List Scope) → (look_up ss name ≡ None → IsUnbound name ss) × (IsUnbound name ss → look_up ss name ≡ None)
   -- an expression by what it is used for
   pub value : (env : Env) (t : Term) → Finds (λ vs. used env t (faults env t vs)) (λ v. ExpressionBreaks env NeedsValue t v)

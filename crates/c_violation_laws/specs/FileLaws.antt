@@ -15,7 +15,9 @@ use Rattle.c_reading_defs.specs.Files.{IsViolation}
 pub record FileLaws : Type 0 where
   -- a violation is reported iff it has the least place of all, and there the least reason
   pub least : (file : File) (symbols : List Symbol) (xs : List Top) → IsFile 0 symbols xs → (scope : List Identifier) → IsFileScope typed file xs scope
-      → (v : Fault) → (violation_of file xs ≡ Some v → IsLeast (IsViolation typed file scope xs) v) × (IsLeast (IsViolation typed file scope xs) v → violation_of file xs ≡ Some v)
+      → (v : Fault) → (violation_of file xs ≡ Some v → IsLeast (IsViolation typed file scope xs) v) ×
+      (IsLeast (IsViolation typed file scope xs) v → violation_of file xs ≡ Some v)
   -- and none iff no rule is broken
   pub faultless : (file : File) (symbols : List Symbol) (xs : List Top) → IsFile 0 symbols xs → (scope : List Identifier) → IsFileScope typed file xs scope
-      → (violation_of file xs ≡ None → IsFaultless (IsViolation typed file scope xs)) × (IsFaultless (IsViolation typed file scope xs) → violation_of file xs ≡ None)
+      → (violation_of file xs ≡ None → IsFaultless (IsViolation typed file scope xs)) ×
+      (IsFaultless (IsViolation typed file scope xs) → violation_of file xs ≡ None)

@@ -13,6 +13,7 @@ use Rattle.c_violation_laws.specs.Finds.{Finds}
 
 -- in scopes as they are known throughout the function, behind its name
 abbrev pub FunctionLaws : Type 0
-FunctionLaws = (flat : FlatCounts) (word : ℕ → List ℕ) (notes : Anchor → List (List ℕ)) (at : ℕ) (symbols : List Symbol) (f : Function) → IsFunction at symbols f
+FunctionLaws = (flat : FlatCounts) (word : ℕ → List ℕ) (notes : Anchor → List (List ℕ)) (at : ℕ) (symbols : List Symbol) (f : Function) →
+    IsFunction at symbols f
     → (known : List Scope) (scopes : List (List Identifier)) → ((token : ℕ) → f.name < token → token ≤ token_behind at symbols → scopes_at scopes token ≡ known)
     → Finds (function_faults flat word notes f known) (λ v. FunctionBreaks typed flat word notes f scopes v)

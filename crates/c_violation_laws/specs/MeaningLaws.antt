@@ -18,14 +18,16 @@ use Rattle.c_reading_defs.specs.Typings.{Typing, IsTyping}
 
 pub record MeaningLaws : Type 0 where
   -- a name that is looked up is what it is bound to
-  pub bound : (name : List ℕ) (ss : List Scope) (b : Binding) → (look_up ss name ≡ Some b → IsBoundTo name b ss) × (IsBoundTo name b ss → look_up ss name ≡ Some b)
+  pub bound : (name : List ℕ) (ss : List Scope) (b : Binding) → (look_up ss name ≡ Some b → IsBoundTo name b ss) ×
+      (IsBoundTo name b ss → look_up ss name ≡ Some b)
   pub unbound : (name : List ℕ) (ss : List Scope) → (look_up ss name ≡ None → IsUnbound name ss) × (IsUnbound name ss → look_up ss name ≡ None)
   -- what a format wants
   pub format : (bytes : List ℕ) (ws : List Want) → (wanted bytes ≡ Some ws → IsFormat bytes ws) × (IsFormat bytes ws → wanted bytes ≡ Some ws)
   -- an expression is what it means
   pub means : (env : Env) (t : Term) (x : Typed) → (typed env t ≡ x → x ≢ Wrong → Means env t x) × (Means env t x → typed env t ≡ x)
   -- so is a constant expression
-  pub constant : (env : Env) (t : Term) (e : Expression) (n : ℤ) → (constant_of (typed env t) ≡ Some (e, n) → IsConstantExpression env t e n) × (IsConstantExpression env t e n → constant_of (typed env t) ≡ Some (e, n))
+  pub constant : (env : Env) (t : Term) (e : Expression) (n : ℤ) → (constant_of (typed env t) ≡ Some (e, n) → IsConstantExpression env t e n) ×
+      (IsConstantExpression env t e n → constant_of (typed env t) ≡ Some (e, n))
   pub right : (env : Env) (t : Term) → Means env t Wrong → ⊥
   -- and so is a target
   pub target : (env : Env) (t : Term) (y : Target) → (target_of env t ≡ Some y → MeansTarget env t y) × (MeansTarget env t y → target_of env t ≡ Some y)

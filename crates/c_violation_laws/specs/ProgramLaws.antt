@@ -17,7 +17,8 @@ pub record ProgramLaws : Type 0 where
   -- a file that is derived has a scope
   pub scope : (file : File) (symbols : List Symbol) (xs : List Top) → IsFile 0 symbols xs → (scope : List Identifier) × IsFileScope typed file xs scope
   -- the program that the walk over a file makes is the one that the file writes
-  pub same : (file : File) (symbols : List Symbol) (xs : List Top) → IsFile 0 symbols xs → (scope : List Identifier) → IsFileScope typed file xs scope → program_of file xs ≡ program typed file scope xs
+  pub same : (file : File) (symbols : List Symbol) (xs : List Top) → IsFile 0 symbols xs → (scope : List Identifier) →
+      IsFileScope typed file xs scope → program_of file xs ≡ program typed file scope xs
   -- also where the functions with a body are listed in text order
   pub written : (flat : FlatCounts) (text : List ℕ) (tokens : List Token) (comments : List Span) (symbols : List Symbol) (xs : List Top) → IsFile 0 symbols xs
       → (scope : List Identifier) → IsFileScope typed (file_written flat text tokens comments xs) xs scope

@@ -23,7 +23,8 @@ written to (Some report) translation files = holding report translation.report (
 -- what the shelf holds where its write failed: the text or a prefix of it, or the whole text and the report or a prefix of it
 abbrev pub Stops : List ℕ → Option (List ℕ) → Translation → Option Files → Option Files → Type 0
 Stops to None translation before after = HoldsPrefix before after to translation.text
-Stops to (Some report) translation before after = HoldsPrefix before after to translation.text ⊎ HoldsPrefix (holding to translation.text before) after report translation.report
+Stops to (Some report) translation before after = HoldsPrefix before after to translation.text ⊎ HoldsPrefix (holding to translation.text before)
+    after report translation.report
 
 -- what the shelf holds where it had no memory for a write: all is as before, or the text is written and the report isn't
 abbrev pub Lingers : List ℕ → Option (List ℕ) → Translation → Option Files → Option Files → Type 0
@@ -41,7 +42,8 @@ pub record IsDone (said : List ℕ → Type 0) (to : List ℕ) (report : Option 
   pub line : said (summary_line translation.summary)
 
 -- a write failed, of the text or behind it of the report, and no other file changed
-pub record IsWriteFault (said : List ℕ → Type 0) (to : List ℕ) (report : Option (List ℕ)) (before after : Option Files) (writes writes' : ℕ) (translation : Translation) : Type 0 where
+pub record IsWriteFault (said : List ℕ → Type 0) (to : List ℕ) (report : Option (List ℕ)) (before after : Option Files) (writes writes' : ℕ)
+    (translation : Translation) : Type 0 where
   pub rose : Rose writes writes'
   pub stops : Stops to report translation before after
   pub line : said write_line
@@ -69,4 +71,5 @@ Puts said to report before after writes writes' translation status.Absent = ⊥
 abbrev pub Writes : (List ℕ → Type 0) → (List ℕ → Translation → Type 0) → (List ℕ → Refusal → Type 0)
     → List ℕ → List ℕ → Option (List ℕ) → Option Files → Option Files → ReadCounts → ReadCounts → ℕ → ℕ → Status → Type 0
 Writes said gives refuses from to report before after reads reads' writes writes' status =
-    Translates said gives refuses from before reads reads' (λ translation. Puts said to report before after writes writes' translation status) (after ≡ before) status
+    Translates said gives refuses from before reads reads' (λ translation. Puts said to report before after writes writes' translation status)
+    (after ≡ before) status

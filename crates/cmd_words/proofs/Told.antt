@@ -22,7 +22,8 @@ module _ (a b c : Written) (f g h : ℕ) (front rest : List ℕ) where
   }
 
 -- a piece broke, and what was to follow was not written
-pub broke_before : (a b : Written) (f g : ℕ) (front rest : List ℕ) (done : Bool) → done ≡ false → Writes done a b f g front → Writes done a b f g (front ++ rest)
+pub broke_before : (a b : Written) (f g : ℕ) (front rest : List ℕ) (done : Bool) → done ≡ false → Writes done a b f g front →
+    Writes done a b f g (front ++ rest)
 broke_before a b f g front rest true e p = cc
 broke_before a b f g front rest false e p = record { front = front-first a b front rest p.front; rose = p.rose }
 

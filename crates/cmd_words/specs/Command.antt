@@ -30,7 +30,8 @@ names_file (b ∷ bs) = not (b == 45)
 -- the report is not written over the text
 abbrev pub asks_for_report : List ℕ → List ℕ → List ℕ → List ℕ → List ℕ → Bool
 asks_for_report word from to flag report =
-    bytes_eq word (codes "restructure") && (names_file from && (names_file to && (bytes_eq flag (codes "--report") && (names_file report && not (bytes_eq to report)))))
+    bytes_eq word (codes "restructure") &&
+    (names_file from && (names_file to && (bytes_eq flag (codes "--report") && (names_file report && not (bytes_eq to report)))))
 
 -- what is done with a file that is read and one that is written
 abbrev pub pair_of : List ℕ → List ℕ → List ℕ → Option Command

@@ -73,7 +73,8 @@ summary_line (summary.Lowered gotos) = lowered_line gotos
 
 abbrev pub place_and_reason : Refusal → List ℕ
 place_and_reason refusal =
-    codes ":" ++ decimal refusal.line ++ codes ":" ++ decimal refusal.column ++ codes ": error " ++ decimal refusal.reason ++ codes ": " ++ reason_text refusal.reason ++ codes "\n"
+    codes ":" ++ decimal refusal.line ++ codes ":" ++ decimal refusal.column ++ codes ": error " ++ decimal refusal.reason ++ codes ": " ++
+    reason_text refusal.reason ++ codes "\n"
 
 -- as compilers print it: file, line, column, reason, text
 abbrev pub refusal_line : List ℕ → Refusal → List ℕ

@@ -51,7 +51,8 @@ Does works (Restructure from to report) untouched old new ended =
     × (ended ≡ status.Memory → Wanted old.held new.held old.wants new.wants)
 Does works (Run from steps) untouched old new ended =
     KeepsFiles old new
-    × works.runs (says old new) from steps old.held old.reads new.reads (untouched.input × untouched.out) old.rest new.rest old.inputs new.inputs old.out new.out old.faults new.faults ended
+    × works.runs (says old new) from steps old.held old.reads new.reads (untouched.input × untouched.out) old.rest new.rest old.inputs new.inputs
+    old.out new.out old.faults new.faults ended
     × works.completes_run from steps old.held old.reads new.reads old.rest old.inputs new.inputs old.faults new.faults ended
 Does works (Demo count) untouched old new ended =
     untouched.shelf

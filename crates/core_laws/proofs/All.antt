@@ -62,7 +62,8 @@ undropped : (k : List Task) → Plain k → is_dropped (task_core k) ≡ false
 undropped [] h = refl
 undropped (Runs x ∷ k) h = undropped_items (core_of x (task_way k)) (task_core k) (undropped k h)
 undropped (Loops (WhileLoop t a) ∷ k) h = refl
-undropped (Loops (DoLoop a t) ∷ k) h = undropped_loop (peel no_guards t) (breaks a + continues a) (core a (after_do a t (task_way k))) (task_core k) (undropped k h)
+undropped (Loops (DoLoop a t) ∷ k) h = undropped_loop (peel no_guards t) (breaks a + continues a) (core a (after_do a t (task_way k))) (task_core k)
+    (undropped k h)
 undropped (Loops (ForLoop t u a) ∷ k) h = refl
 undropped (Heads t u a ∷ k) h = refl
 undropped (EndsSection ∷ k) h = refl
@@ -217,7 +218,8 @@ module _ (Here : List ℕ → Tree → List Task → Type 0) where
     all_seek l f (Then x a) k h q =
         let r = all_items f a k h.1 q in
         all_or f (cond (is_goal l x) (Some (Runs x ∷ items a k)) (seek_in l x (items a k))) (seek l a k)
-        (either (AllFound f) (is_goal l x) (Some (Runs x ∷ items a k)) (seek_in l x (items a k)) (h.0, r) (all_seek_in l f x (items a k) h.0 r)) (all_seek l f a k h.1 q)
+        (either (AllFound f) (is_goal l x) (Some (Runs x ∷ items a k)) (seek_in l x (items a k)) (h.0, r) (all_seek_in l f x (items a k) h.0 r))
+        (all_seek l f a k h.1 q)
 
     all_seek_in : (l : Goal) (f : List ℕ) (x : Tree) (k : List Task) → AllOf f x k → Behind f k → AllFound f (seek_in l x k)
     all_seek_in l f (If t a b) k h q = all_or f (seek l a k) (seek l b k) (all_seek l f a k h.0 q) (all_seek l f b k h.1 q)
@@ -234,7 +236,8 @@ module _ (Here : List ℕ → Tree → List Task → Type 0) where
         let behind = end_of ends (tail_tasks c k) in
         let r = all_end f ends c k (all_tail f c k h.1 q) in
         all_or f (cond (is_section_goal l cases default) (Some (items a behind)) (seek l a behind)) (seek_sections l c k)
-        (either (AllFound f) (is_section_goal l cases default) (Some (items a behind)) (seek l a behind) (all_items f a behind h.0 r).1 (all_seek l f a behind h.0 r)) (all_seek_sections l f c k h.1 q)
+        (either (AllFound f) (is_section_goal l cases default) (Some (items a behind)) (seek l a behind) (all_items f a behind h.0 r).1
+        (all_seek l f a behind h.0 r)) (all_seek_sections l f c k h.1 q)
 
   -- ---- steps
 
@@ -269,7 +272,8 @@ module _ (Here : List ℕ → Tree → List Task → Type 0) where
     all_view f g (Loops (ForLoop t u a) ∷ k) h = all_dropped f u (Heads t u a ∷ k) h
     all_view f g (Runs (Switch s c) ∷ k) h = (h.0.1, h.1)
     all_view f g (Enters kind c ∷ k) h = λ v.
-        all_first f (seek_sections (ToCase kind (integer v)) c k) (seek_sections ToDefault c k) k (all_seek_sections (ToCase kind (integer v)) f c k h.0 h.1) (all_seek_sections ToDefault f c k h.0 h.1) h.1.1
+        all_first f (seek_sections (ToCase kind (integer v)) c k) (seek_sections ToDefault c k) k
+        (all_seek_sections (ToCase kind (integer v)) f c k h.0 h.1) (all_seek_sections ToDefault f c k h.0 h.1) h.1.1
     all_view f g (EndsSection ∷ k) h = (all_cut f k h.1.1).1
     all_view f g (Out ∷ k) h = h.1
     all_view f g (Runs (Block a) ∷ k) h = (all_items f a k h.0 h.1).1
@@ -295,7 +299,8 @@ module _ (Here : List ℕ → Tree → List Task → Type 0) where
     all_view f g (AsksSelector (Pick l n s) ∷ k) h = either (AllView f) (g l) (Yields n k) (Goes (AsksSelector s ∷ k)) h h
     all_view f g (Works o ∷ k) h = h
 
-    all_settle : (o : Outcome) (f : List ℕ) (g : Guards) (k : List Task) (v : List Value) (cs : List Frame) → AllTasks f k → AllFrames cs → AllState (settle o f g k v cs)
+    all_settle : (o : Outcome) (f : List ℕ) (g : Guards) (k : List Task) (v : List Value) (cs : List Frame) → AllTasks f k → AllFrames cs →
+        AllState (settle o f g k v cs)
     all_settle (Gives x w) f g k v cs h q = (h, q)
     all_settle (Traps t w) f g k v cs h q = tt
     all_settle (Exits n w) f g k v cs h q = tt
@@ -308,7 +313,8 @@ module _ (Here : List ℕ → Tree → List Task → Type 0) where
     all_begin m a (Ok w) cs w' i q = ((all_items m a [] i (tt, tt)).1, q)
     all_begin m a (Err t) cs w' i q = tt
 
-    all_invoke : (b : Option Forest) (h : FunctionTree) (m : List ℕ) (vs : List Value) (f : List ℕ) (g : Guards) (k : List Task) (v : List Value) (cs : List Frame) (w : World) → AllIn m (option_map_or (λ a. a) b Nil) [] → AllTasks f k → AllFrames cs → AllState (invoke b h m vs f g k v cs w)
+    all_invoke : (b : Option Forest) (h : FunctionTree) (m : List ℕ) (vs : List Value) (f : List ℕ) (g : Guards) (k : List Task) (v : List Value)
+        (cs : List Frame) (w : World) → AllIn m (option_map_or (λ a. a) b Nil) [] → AllTasks f k → AllFrames cs → AllState (invoke b h m vs f g k v cs w)
     all_invoke (Some a) h m vs f g k v cs w i r q = all_begin m a (push h vs w) (Waits f g k v ∷ cs) w i (r, q)
     all_invoke None h m vs f g k v cs w i r q = all_settle (call_without_body m h vs w) f g k v cs r q
 
@@ -336,7 +342,8 @@ module _ (Here : List ℕ → Tree → List Task → Type 0) where
 
     pub all_start : (m : List ℕ) (arguments : List ℤ) (input : List ℕ) (answers : List ℤ) → AllState (start p m arguments input answers)
     all_start m arguments input answers =
-        all_begin m (body_in p m) (push (p.functions m) (map Integer arguments) (world_at_start p input answers)) [] (world_at_start p input answers) (bodies m) tt
+        all_begin m (body_in p m) (push (p.functions m) (map Integer arguments) (world_at_start p input answers)) [] (world_at_start p input answers)
+        (bodies m) tt
 
   -- a caller's core drops the value of a call exactly if the caller does
   drop_seen : (f : List ℕ) (k : List Task) → AllTasks f k → is_dropped (task_core k) ≡ is_dropped k

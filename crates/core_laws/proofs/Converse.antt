@@ -60,14 +60,17 @@ past_tail : (l : ℕ) (c : Sections) (k : List Task) (v : List Value) → past_w
 past_tail l NoSection k v = refl
 past_tail l (Section cases default a ends c) k v = past_items l a (end_of ends (tail_tasks c k)) v ∙ past_end l ends (tail_tasks c k) v ∙ past_tail l c k v
 
-value_end : (l : ℕ) (ends : Bool) (c : Sections) (k : List Task) (v : List Value) → value_way l (tail_tasks c k) v ≡ tail_way l c ▷ value_way l k v → value_way l (end_of ends (tail_tasks c k)) v ≡ end_way ends (tail_way l c) ▷ value_way l k v
+value_end : (l : ℕ) (ends : Bool) (c : Sections) (k : List Task) (v : List Value) → value_way l (tail_tasks c k) v ≡ tail_way l c ▷ value_way l k v →
+    value_way l (end_of ends (tail_tasks c k)) v ≡ end_way ends (tail_way l c) ▷ value_way l k v
 value_end l true c k v h = past_tail l c k v
 value_end l false c k v h = h
 
-value_section : (l : ℕ) (a : Forest) (ends : Bool) (c : Sections) (k : List Task) (v : List Value) → value_way l (tail_tasks c k) v ≡ tail_way l c ▷ value_way l k v
+value_section : (l : ℕ) (a : Forest) (ends : Bool) (c : Sections) (k : List Task) (v : List Value) →
+    value_way l (tail_tasks c k) v ≡ tail_way l c ▷ value_way l k v
     → value_way l (items a (end_of ends (tail_tasks c k))) v ≡ (walks l a ▷ end_way ends (tail_way l c)) ▷ value_way l k v
 value_section l a ends c k v h =
-    items_value l a (end_of ends (tail_tasks c k)) v ∙ ap (λ r. walks l a ▷ r) (value_end l ends c k v h) ∙ sym (way_assoc (walks l a) (end_way ends (tail_way l c)) (value_way l k v))
+    items_value l a (end_of ends (tail_tasks c k)) v ∙ ap (λ r. walks l a ▷ r) (value_end l ends c k v h) ∙
+    sym (way_assoc (walks l a) (end_way ends (tail_way l c)) (value_way l k v))
 
 value_tail : (l : ℕ) (c : Sections) (k : List Task) (v : List Value) → value_way l (tail_tasks c k) v ≡ tail_way l c ▷ value_way l k v
 value_tail l NoSection k v = refl
@@ -100,7 +103,8 @@ lost_or : (l : ℕ) (v : List Value) (o p : Option (List Task)) → IsLost l v o
 lost_or l v (Some ts) p h k = h
 lost_or l v None p h k = k
 
-lost_if : (l : ℕ) (v : List Value) (b : Bool) (ts : List Task) (o : Option (List Task)) → (b ≡ true → value_way l ts v ≡ Lost) → IsLost l v o → IsLost l v (cond b (Some ts) o)
+lost_if : (l : ℕ) (v : List Value) (b : Bool) (ts : List Task) (o : Option (List Task)) → (b ≡ true → value_way l ts v ≡ Lost) → IsLost l v o →
+    IsLost l v (cond b (Some ts) o)
 lost_if l v true ts o h k = h refl
 lost_if l v false ts o h k = k
 
@@ -113,7 +117,8 @@ mutual
   inner_lost l goal e Nil k v = tt
   inner_lost l goal e (Then x a) k v =
       lost_or l v (cond (is_goal goal x) (Some (Runs x ∷ items a k)) (seek_in goal x (items a k))) (seek goal a k)
-      (lost_if l v (is_goal goal x) (Runs x ∷ items a k) (seek_in goal x (items a k)) (λ h. ap (λ y. y ▷ value_way l (items a k) v) (goal_lost l goal x e h)) (inner_lost_in l goal e x (items a k) v)) (inner_lost l goal e a k v)
+      (lost_if l v (is_goal goal x) (Runs x ∷ items a k) (seek_in goal x (items a k))
+      (λ h. ap (λ y. y ▷ value_way l (items a k) v) (goal_lost l goal x e h)) (inner_lost_in l goal e x (items a k) v)) (inner_lost l goal e a k v)
 
   inner_lost_in : (l : ℕ) (goal : Goal) → enters_switches goal ≡ false → (x : Tree) (k : List Task) (v : List Value) → IsLost l v (seek_in goal x k)
   inner_lost_in l goal e (If t a b) k v = lost_or l v (seek goal a k) (seek goal b k) (inner_lost l goal e a k v) (inner_lost l goal e b k v)
@@ -133,32 +138,39 @@ Enter l k v (Some y) (Some ts) = (value_way l ts v ≡ y ▷ value_way l k v) �
 Enter l k v None (Some ts) = value_way l ts v ≡ Lost
 Enter l k v (Some y) None = ⊥
 
-enter_inner : (l : ℕ) (k : List Task) (v : List Value) (a : Option Way) (inner o : Option (List Task)) → IsLost l v inner → Enter l k v a o → Enter l k v a (or_else inner o)
+enter_inner : (l : ℕ) (k : List Task) (v : List Value) (a : Option Way) (inner o : Option (List Task)) → IsLost l v inner → Enter l k v a o →
+    Enter l k v a (or_else inner o)
 enter_inner l k v a None o h q = q
 enter_inner l k v (Some y) (Some ts) o h q = inr h
 enter_inner l k v None (Some ts) o h q = h
 
-enter_here : (l : ℕ) (k : List Task) (v : List Value) (b : Bool) (y : Way) (ts : List Task) (inner : Option (List Task)) (a : Option Way) (o : Option (List Task)) → value_way l ts v ≡ y ▷ value_way l k v → IsLost l v inner → Enter l k v a o → Enter l k v (cond b (Some y) a) (or_else (cond b (Some ts) inner) o)
+enter_here : (l : ℕ) (k : List Task) (v : List Value) (b : Bool) (y : Way) (ts : List Task) (inner : Option (List Task)) (a : Option Way)
+    (o : Option (List Task)) → value_way l ts v ≡ y ▷ value_way l k v → IsLost l v inner → Enter l k v a o →
+    Enter l k v (cond b (Some y) a) (or_else (cond b (Some ts) inner) o)
 enter_here l k v true y ts inner a o h i q = inl h
 enter_here l k v false y ts inner a o h i q = enter_inner l k v a inner o i q
 
-pub enter_section : (l : ℕ) (goal : Goal) → enters_switches goal ≡ false → (c : Sections) (k : List Task) (v : List Value) → Enter l k v (section_way l goal c) (seek_sections goal c k)
+pub enter_section : (l : ℕ) (goal : Goal) → enters_switches goal ≡ false → (c : Sections) (k : List Task) (v : List Value) →
+    Enter l k v (section_way l goal c) (seek_sections goal c k)
 enter_section l goal e NoSection k v = tt
 enter_section l goal e (Section cases default a ends c) k v =
     let behind = end_of ends (tail_tasks c k) in
-    enter_here l k v (is_section_goal goal cases default) (walks l a ▷ end_way ends (tail_way l c)) (items a behind) (seek goal a behind) (section_way l goal c) (seek_sections goal c k)
+    enter_here l k v (is_section_goal goal cases default) (walks l a ▷ end_way ends (tail_way l c)) (items a behind) (seek goal a behind)
+    (section_way l goal c) (seek_sections goal c k)
     (value_section l a ends c k v (value_tail l c k v)) (inner_lost l goal e a behind v) (enter_section l goal e c k v)
 
 lost_lands : {A : Type 0} (y : Way) → y ≡ Lost → y ≡ Lands → A
 lost_lands y e h = cc
 
-enter_some : (l : ℕ) (k : List Task) (v : List Value) (y : Way) (ts : List Task) → Enter l k v (Some y) (Some ts) → value_way l ts v ≡ Lands → y ▷ value_way l k v ≡ Lands
+enter_some : (l : ℕ) (k : List Task) (v : List Value) (y : Way) (ts : List Task) → Enter l k v (Some y) (Some ts) → value_way l ts v ≡ Lands →
+    y ▷ value_way l k v ≡ Lands
 enter_some l k v y ts q h = elim q as (λ _. y ▷ value_way l k v ≡ Lands) [
   | inl e ↦ sym e ∙ h
   | inr e ↦ lost_lands (value_way l ts v) e h
 ]
 
-pub enter_lands : (l : ℕ) (k : List Task) (v : List Value) (a b : Option Way) (o q : Option (List Task)) → Enter l k v a o → Enter l k v b q → value_way l (first_of_three o q k) v ≡ Lands → first_of_three a b Past ▷ value_way l k v ≡ Lands
+pub enter_lands : (l : ℕ) (k : List Task) (v : List Value) (a b : Option Way) (o q : Option (List Task)) → Enter l k v a o → Enter l k v b q →
+    value_way l (first_of_three o q k) v ≡ Lands → first_of_three a b Past ▷ value_way l k v ≡ Lands
 enter_lands l k v (Some y) b (Some ts) q r s h = enter_some l k v y ts r h
 enter_lands l k v (Some y) b None q r s h = absurd r
 enter_lands l k v None b (Some ts) q r s h = lost_lands (value_way l ts v) r h

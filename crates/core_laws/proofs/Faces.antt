@@ -37,18 +37,21 @@ module _ {f h : FunctionTree} (same : HaveSameFace f h) where
   without_body_alike m vs w = ap₂ (λ r s. call_without_body m (parts r 0 s) vs w) same.result same.slots
 
 -- the same entries, where both have a body or none has
-pub same_entries : (p q : Code) (m : List ℕ) → HaveSameFace (p.functions m) (q.functions m) → IsSome (p.functions m).body ↔ IsSome (q.functions m).body → (arguments : List ℤ) → IsEntry p m arguments ↔ IsEntry q m arguments
+pub same_entries : (p q : Code) (m : List ℕ) → HaveSameFace (p.functions m) (q.functions m) →
+    IsSome (p.functions m).body ↔ IsSome (q.functions m).body → (arguments : List ℤ) → IsEntry p m arguments ↔ IsEntry q m arguments
 same_entries p q m h b arguments =
     let f = p.functions m in
     let f' = q.functions m in (
       (λ e. record {
         defined = b.0 e.defined;
-        numbers = subst (λ s. All (λ s. IsNone s.cells) (take f'.params s)) h.slots (subst (λ n. All (λ s. IsNone s.cells) (take n f.slots)) h.params e.numbers);
+        numbers = subst (λ s. All (λ s. IsNone s.cells) (take f'.params s)) h.slots
+            (subst (λ n. All (λ s. IsNone s.cells) (take n f.slots)) h.params e.numbers);
         given = e.given ∙ h.params;
       }),
       (λ e. record {
         defined = b.1 e.defined;
-        numbers = subst (λ s. All (λ s. IsNone s.cells) (take f.params s)) (sym h.slots) (subst (λ n. All (λ s. IsNone s.cells) (take n f'.slots)) (sym h.params) e.numbers);
+        numbers = subst (λ s. All (λ s. IsNone s.cells) (take f.params s)) (sym h.slots)
+            (subst (λ n. All (λ s. IsNone s.cells) (take n f'.slots)) (sym h.params) e.numbers);
         given = e.given ∙ sym h.params;
       }),
     )

@@ -31,14 +31,20 @@ SeesDrop (Waits f g k v ∷ cs) = is_dropped (task_core k) ≡ is_dropped k
 -- what an invariant of runs says at items
 pub record Lawful (p : Code) (Inv : State → Type 0) : Type 0 where
   pub next : (c : State) → Inv c → Inv (step p c)
-  pub at_leap : (l : ℕ) (f : List ℕ) (g : Guards) (k : List Task) (v : List Value) (cs : List Frame) (w : World) → Inv (At f g (Runs (Leap l) ∷ k) v cs w) → (k' : List Task) × (find l (body_in p f) ≡ Runs (Land l) ∷ k')
-  pub at_land : (l : ℕ) (f : List ℕ) (g : Guards) (k : List Task) (v : List Value) (cs : List Frame) (w : World) → Inv (At f g (Runs (Land l) ∷ k) v cs w) → IsLanded p f l → find l (body_in p f) ≡ Runs (Land l) ∷ k
-  pub at_switch : (s : SelectorTree) (c : Sections) (l : ℕ) (f : List ℕ) (g : Guards) (k : List Task) (v : List Value) (cs : List Frame) (w : World) → Inv (At f g (Runs (Switch s c) ∷ k) v cs w) → IsLanded p f l → HasNoInnerCase c
+  pub at_leap : (l : ℕ) (f : List ℕ) (g : Guards) (k : List Task) (v : List Value) (cs : List Frame) (w : World) →
+      Inv (At f g (Runs (Leap l) ∷ k) v cs w) → (k' : List Task) × (find l (body_in p f) ≡ Runs (Land l) ∷ k')
+  pub at_land : (l : ℕ) (f : List ℕ) (g : Guards) (k : List Task) (v : List Value) (cs : List Frame) (w : World) →
+      Inv (At f g (Runs (Land l) ∷ k) v cs w) → IsLanded p f l → find l (body_in p f) ≡ Runs (Land l) ∷ k
+  pub at_switch : (s : SelectorTree) (c : Sections) (l : ℕ) (f : List ℕ) (g : Guards) (k : List Task) (v : List Value) (cs : List Frame) (w : World) →
+      Inv (At f g (Runs (Switch s c) ∷ k) v cs w) → IsLanded p f l → HasNoInnerCase c
   pub at_break : (f : List ℕ) (g : Guards) (k : List Task) (v : List Value) (cs : List Frame) (w : World) → Inv (At f g (Runs Break ∷ k) v cs w) → HasKeptExit k
-  pub at_continue : (f : List ℕ) (g : Guards) (k : List Task) (v : List Value) (cs : List Frame) (w : World) → Inv (At f g (Runs Continue ∷ k) v cs w) → HasKeptLoop k
+  pub at_continue : (f : List ℕ) (g : Guards) (k : List Task) (v : List Value) (cs : List Frame) (w : World) →
+      Inv (At f g (Runs Continue ∷ k) v cs w) → HasKeptLoop k
   -- an Arm, and what takes the value of its condition
-  pub at_arm : (l : ℕ) (e : Option ExpressionTree) (f : List ℕ) (g : Guards) (k : List Task) (v : List Value) (cs : List Frame) (w : World) → Inv (At f g (Runs (Arm l e) ∷ k) v cs w) → IsLanded p f l
-  pub at_arms : (l : ℕ) (f : List ℕ) (g : Guards) (k : List Task) (v : List Value) (cs : List Frame) (w : World) → Inv (At f g (Arms l ∷ k) v cs w) → IsLanded p f l
+  pub at_arm : (l : ℕ) (e : Option ExpressionTree) (f : List ℕ) (g : Guards) (k : List Task) (v : List Value) (cs : List Frame) (w : World) →
+      Inv (At f g (Runs (Arm l e) ∷ k) v cs w) → IsLanded p f l
+  pub at_arms : (l : ℕ) (f : List ℕ) (g : Guards) (k : List Task) (v : List Value) (cs : List Frame) (w : World) → Inv (At f g (Arms l ∷ k) v cs w) →
+      IsLanded p f l
   pub at_end : (f : List ℕ) (g : Guards) (k : List Task) (v : List Value) (cs : List Frame) (w : World) → Inv (At f g (EndsSection ∷ k) v cs w) → HasKeptExit k
   -- the end of a call
   pub at_leave : (f : List ℕ) (g : Guards) (k : List Task) (v : List Value) (cs : List Frame) (w : World) → Inv (At f g k v cs w) → SeesDrop cs

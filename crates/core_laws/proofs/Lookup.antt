@@ -97,7 +97,8 @@ cut_to_core (Works o ∷ k) h = cut_to_core k h
 cut_to_core (Asks t ∷ k) h = cut_to_core k h
 cut_to_core (Branches a b ∷ k) h = cut_to_core k h
 cut_to_core (Turns (WhileLoop t a) ∷ k) h = cut_to_core k h
-cut_to_core (Turns (DoLoop a t) ∷ k) h = cut_to_do_turn (peel no_guards t) (breaks a + continues a) (core a (after_do a t (task_way k))) (task_core k) ∙ cut_to_core k h
+cut_to_core (Turns (DoLoop a t) ∷ k) h = cut_to_do_turn (peel no_guards t) (breaks a + continues a) (core a (after_do a t (task_way k)))
+    (task_core k) ∙ cut_to_core k h
 cut_to_core (Turns (ForLoop t u a) ∷ k) h = cut_to_core k h
 cut_to_core (Loops (WhileLoop t a) ∷ k) h = refl
 cut_to_core (Loops (DoLoop a t) ∷ k) h = cut_to_do_loop (peel no_guards t) (breaks a + continues a) (core a (after_do a t (task_way k))) (task_core k) h
@@ -153,7 +154,8 @@ seek_join l (Then x a) b k =
     ∙ sym (or_assoc (seek_of l x (items a (items b k))) (seek l a (items b k)) (seek l b k))
 
 -- an item that is no label, whatever is sought
-pub no_goal : (x : Tree) → ((m : ℕ) → is_goal (ToLabel m) x ≡ false) → ((kind : IntKind) (n : ℤ) → is_goal (ToCase kind n) x ≡ false) → is_goal ToDefault x ≡ false → (l : Goal) → is_goal l x ≡ false
+pub no_goal : (x : Tree) → ((m : ℕ) → is_goal (ToLabel m) x ≡ false) → ((kind : IntKind) (n : ℤ) → is_goal (ToCase kind n) x ≡ false) →
+    is_goal ToDefault x ≡ false → (l : Goal) → is_goal l x ≡ false
 no_goal x p q r (ToLabel m) = p m
 no_goal x p q r (ToCase kind n) = q kind n
 no_goal x p q r ToDefault = r
@@ -162,27 +164,35 @@ pub seek_of_inner : (l : Goal) (x : Tree) (k : List Task) → is_goal l x ≡ fa
 seek_of_inner l x k e = ap (λ b. cond b (Some (Runs x ∷ k)) (seek_in l x k)) e
 
 -- an item that holds others, and its core, one item too
-inner_core : (l : Goal) (x y : Tree) (k kk : List Task) → is_goal l x ≡ false → is_goal l y ≡ false → seek_in l y kk ≡ through (seek_in l x k) → seek l (one y) kk ≡ through (seek_of l x k)
+inner_core : (l : Goal) (x y : Tree) (k kk : List Task) → is_goal l x ≡ false → is_goal l y ≡ false → seek_in l y kk ≡ through (seek_in l x k) →
+    seek l (one y) kk ≡ through (seek_of l x k)
 inner_core l x y k kk e f h = or_none (seek_of l y kk) ∙ seek_of_inner l y kk f ∙ h ∙ ap through (sym (seek_of_inner l x k e))
 
 -- an item that is its own core, or a Land and its Mark
-leaf_core : (b c : Bool) (x y : Tree) (k kk : List Task) → c ≡ b → task_core (Runs x ∷ k) ≡ Runs y ∷ kk → or_else (cond c (Some (Runs y ∷ kk)) None) None ≡ through (cond b (Some (Runs x ∷ k)) None)
-leaf_core b c x y k kk e f = or_none (cond c (Some (Runs y ∷ kk)) None) ∙ ap (λ z. cond z (Some (Runs y ∷ kk)) None) e ∙ cond_mapped task_core b (Some (Runs x ∷ k)) None (Some (Runs y ∷ kk)) None (ap Some (sym f)) refl
+leaf_core : (b c : Bool) (x y : Tree) (k kk : List Task) → c ≡ b → task_core (Runs x ∷ k) ≡ Runs y ∷ kk →
+    or_else (cond c (Some (Runs y ∷ kk)) None) None ≡ through (cond b (Some (Runs x ∷ k)) None)
+leaf_core b c x y k kk e f = or_none (cond c (Some (Runs y ∷ kk)) None) ∙ ap (λ z. cond z (Some (Runs y ∷ kk)) None) e ∙
+    cond_mapped task_core b (Some (Runs x ∷ k)) None (Some (Runs y ∷ kk)) None (ap Some (sym f)) refl
 
-seek_if : (l : Goal) (p : Peeled) (a b : Forest) (k : List Task) (oa ob : Found) → seek l a k ≡ through oa → seek l b k ≡ through ob → seek l (core_if p a b) k ≡ through (or_else oa ob)
+seek_if : (l : Goal) (p : Peeled) (a b : Forest) (k : List Task) (oa ob : Found) → seek l a k ≡ through oa → seek l b k ≡ through ob →
+    seek l (core_if p a b) k ≡ through (or_else oa ob)
 seek_if l (Ask e) a b k oa ob ea eb =
-    or_none (seek_of l (If (Source e) a b) k) ∙ seek_of_inner l (If (Source e) a b) k (no_goal (If (Source e) a b) (λ m. refl) (λ kind n. refl) refl l) ∙ or_mapped task_core oa ob (seek l a k) (seek l b k) ea eb
+    or_none (seek_of l (If (Source e) a b) k) ∙ seek_of_inner l (If (Source e) a b) k
+    (no_goal (If (Source e) a b) (λ m. refl) (λ kind n. refl) refl l) ∙ or_mapped task_core oa ob (seek l a k) (seek l b k) ea eb
 seek_if l (Known true) a Nil k oa ob ea eb = sym (or_none (seek l a k)) ∙ or_mapped task_core oa ob (seek l a k) None ea eb
 seek_if l (Known true) a (Then y b) k oa ob ea eb =
-    or_none (seek_of l (If (Source (constant true)) a (Then y b)) k) ∙ seek_of_inner l (If (Source (constant true)) a (Then y b)) k (no_goal (If (Source (constant true)) a (Then y b)) (λ m. refl) (λ kind n. refl) refl l)
+    or_none (seek_of l (If (Source (constant true)) a (Then y b)) k) ∙
+    seek_of_inner l (If (Source (constant true)) a (Then y b)) k (no_goal (If (Source (constant true)) a (Then y b)) (λ m. refl) (λ kind n. refl) refl l)
     ∙ or_mapped task_core oa ob (seek l a k) (seek l (Then y b) k) ea eb
 seek_if l (Known false) Nil b k oa ob ea eb = or_mapped task_core oa ob None (seek l b k) ea eb
 seek_if l (Known false) (Then y a) b k oa ob ea eb =
-    or_none (seek_of l (If (Source (constant false)) (Then y a) b) k) ∙ seek_of_inner l (If (Source (constant false)) (Then y a) b) k (no_goal (If (Source (constant false)) (Then y a) b) (λ m. refl) (λ kind n. refl) refl l)
+    or_none (seek_of l (If (Source (constant false)) (Then y a) b) k) ∙
+    seek_of_inner l (If (Source (constant false)) (Then y a) b) k (no_goal (If (Source (constant false)) (Then y a) b) (λ m. refl) (λ kind n. refl) refl l)
     ∙ or_mapped task_core oa ob (seek l (Then y a) k) (seek l b k) ea eb
 
 seek_kept_do : (l : Goal) (a : Forest) (e : ExpressionTree) (k : List Task) → seek l (one (Do a (Source e))) k ≡ seek l a (Loops (DoLoop a (Source e)) ∷ k)
-seek_kept_do l a e k = or_none (seek_of l (Do a (Source e)) k) ∙ seek_of_inner l (Do a (Source e)) k (no_goal (Do a (Source e)) (λ m. refl) (λ kind n. refl) refl l)
+seek_kept_do l a e k = or_none (seek_of l (Do a (Source e)) k) ∙ seek_of_inner l (Do a (Source e)) k
+    (no_goal (Do a (Source e)) (λ m. refl) (λ kind n. refl) refl l)
 
 -- the list of a `do`, before what its end is in the core
 seek_do : (l : Goal) (p : Peeled) (n : ℕ) (a : Forest) (k : List Task) → seek l (core_do p n a) k ≡ seek l a (core_do_loop p n a k)
@@ -212,7 +222,8 @@ mutual
       seek_join l (core_of x (before a w)) (core a w) (task_core k)
       ∙ ap (λ r. or_else (seek l (core_of x (before a w)) r) (seek l (core a w) (task_core k))) (sym (core_items a k))
       ∙ ap (λ u. or_else (seek l (core_of x u) (task_core (items a k))) (seek l (core a w) (task_core k))) (sym (follow_items a k))
-      ∙ or_mapped task_core (seek_of l x (items a k)) (seek l a k) (seek l (core_of x (task_way (items a k))) (task_core (items a k))) (seek l (core a w) (task_core k)) (seek_of_core l x (items a k)) (seek_core l a k)
+      ∙ or_mapped task_core (seek_of l x (items a k)) (seek l a k) (seek l (core_of x (task_way (items a k))) (task_core (items a k)))
+      (seek l (core a w) (task_core k)) (seek_of_core l x (items a k)) (seek_core l a k)
 
   pub seek_of_core : (l : Goal) (x : Tree) (k : List Task) → seek l (core_of x (task_way k)) (task_core k) ≡ through (seek_of l x k)
   seek_of_core l (Evaluate e) k = leaf_core (is_goal l (Evaluate e)) (is_goal l (Evaluate e)) (Evaluate e) (Evaluate e) k (task_core k) refl refl
@@ -222,21 +233,25 @@ mutual
       ∙ ap through (sym (seek_of_inner l (If t a b) k (no_goal (If t a b) (λ m. refl) (λ kind n. refl) refl l)))
   seek_of_core l (While t a) k =
       let y = While (Source (source_of (peel no_guards t))) (core a (task_way (Loops (WhileLoop t a) ∷ k))) in
-      inner_core l (While t a) y k (task_core k) (no_goal (While t a) (λ m. refl) (λ kind n. refl) refl l) (no_goal y (λ m. refl) (λ kind n. refl) refl l) (seek_core l a (Loops (WhileLoop t a) ∷ k))
+      inner_core l (While t a) y k (task_core k) (no_goal (While t a) (λ m. refl) (λ kind n. refl) refl l)
+      (no_goal y (λ m. refl) (λ kind n. refl) refl l) (seek_core l a (Loops (WhileLoop t a) ∷ k))
   seek_of_core l (Do a t) k =
       seek_do l (peel no_guards t) (breaks a + continues a) (core a (task_way (Loops (DoLoop a t) ∷ k))) (task_core k)
       ∙ seek_core l a (Loops (DoLoop a t) ∷ k)
       ∙ ap through (sym (seek_of_inner l (Do a t) k (no_goal (Do a t) (λ m. refl) (λ kind n. refl) refl l)))
   seek_of_core l (For first t u a) k =
       let y = For (core first lost) t u (core a lost) in
-      inner_core l (For first t u a) y k (task_core k) (no_goal (For first t u a) (λ m. refl) (λ kind n. refl) refl l) (no_goal y (λ m. refl) (λ kind n. refl) refl l) (seek_core l a (Loops (ForLoop t u a) ∷ k))
+      inner_core l (For first t u a) y k (task_core k) (no_goal (For first t u a) (λ m. refl) (λ kind n. refl) refl l)
+      (no_goal y (λ m. refl) (λ kind n. refl) refl l) (seek_core l a (Loops (ForLoop t u a) ∷ k))
   seek_of_core l (Switch s c) k =
       let y = Switch (Selects (selector_source s)) (core_sections c (task_way k)) in
       inner_core l (Switch s c) y k (task_core k) (no_goal (Switch s c) (λ m. refl) (λ kind n. refl) refl l) (no_goal y (λ m. refl) (λ kind n. refl) refl l)
-      (cond_mapped task_core (enters_switches l) (seek_sections l c k) None (seek_sections l (core_sections c (task_way k)) (task_core k)) None (seek_sections_core l c k) refl)
+      (cond_mapped task_core (enters_switches l) (seek_sections l c k) None (seek_sections l (core_sections c (task_way k)) (task_core k)) None
+      (seek_sections_core l c k) refl)
   seek_of_core l (Block a) k =
       let y = Block (core a (task_way k)) in
-      inner_core l (Block a) y k (task_core k) (no_goal (Block a) (λ m. refl) (λ kind n. refl) refl l) (no_goal y (λ m. refl) (λ kind n. refl) refl l) (seek_core l a k)
+      inner_core l (Block a) y k (task_core k) (no_goal (Block a) (λ m. refl) (λ kind n. refl) refl l) (no_goal y (λ m. refl) (λ kind n. refl) refl l)
+      (seek_core l a k)
   seek_of_core l (Local x es) k = leaf_core (is_goal l (Local x es)) (is_goal l (Local x es)) (Local x es) (Local x es) k (task_core k) refl refl
   seek_of_core l Break k = leaf_core (is_goal l Break) (is_goal l Break) Break Break k (task_core k) refl refl
   seek_of_core l Continue k = leaf_core (is_goal l Continue) (is_goal l Continue) Continue Continue k (task_core k) refl refl
@@ -252,7 +267,8 @@ mutual
   seek_of_core l (Arrival e) k = leaf_core (is_goal l (Arrival e)) (is_goal l (Arrival e)) (Arrival e) (Arrival e) k (task_core k) refl refl
   seek_of_core l (Note bs) k = leaf_core (is_goal l (Note bs)) (is_goal l (Note bs)) (Note bs) (Note bs) k (task_core k) refl refl
 
-  pub seek_sections_core : (l : Goal) (c : Sections) (k : List Task) → seek_sections l (core_sections c (task_way k)) (task_core k) ≡ through (seek_sections l c k)
+  pub seek_sections_core : (l : Goal) (c : Sections) (k : List Task) →
+      seek_sections l (core_sections c (task_way k)) (task_core k) ≡ through (seek_sections l c k)
   seek_sections_core l NoSection k = refl
   seek_sections_core l (Section cases default a ends c) k =
       let behind = end_of ends (tail_tasks c k) in
@@ -277,7 +293,8 @@ find_in_core l h = at_body h.body
     at_body (Some a) = find_core l a
     at_body None = find_core l Nil
 
-pub entry_core : (kind : IntKind) (n : ℤ) (c : Sections) (k : List Task) → entry kind n (core_sections c (task_way k)) (task_core k) ≡ task_core (entry kind n c k)
+pub entry_core : (kind : IntKind) (n : ℤ) (c : Sections) (k : List Task) →
+    entry kind n (core_sections c (task_way k)) (task_core k) ≡ task_core (entry kind n c k)
 entry_core kind n c k =
     ap₂ (λ o p. first_of_three o p (task_core k)) (seek_sections_core (ToCase kind n) c k) (seek_sections_core ToDefault c k)
     ∙ first_mapped task_core (seek_sections (ToCase kind n) c k) (seek_sections ToDefault c k) k

@@ -40,7 +40,8 @@ module _ (goal : Goal) (e : enters_switches goal ≡ false) where
     no_case Nil h k = refl
     no_case (Then x a) h k =
         both_none (seek_of goal x (items a k)) (seek goal a k)
-        (neither (is_goal goal x) (Some (Runs x ∷ items a k)) (seek_in goal x (items a k)) (no_case_goal goal e x (itself x h.0)) (no_case_in x h.0 (items a k))) (no_case a h.1 k)
+        (neither (is_goal goal x) (Some (Runs x ∷ items a k)) (seek_in goal x (items a k)) (no_case_goal goal e x (itself x h.0))
+        (no_case_in x h.0 (items a k))) (no_case a h.1 k)
 
     itself : (x : Tree) → EverywhereOf IsConverted x → IsConverted x
     itself (If t a b) h = h.0
@@ -188,6 +189,7 @@ pub placed : (p : Code) → HasMadeBodies p → Placed p
 placed p made = record {
   body = λ f. elim (made f) as (λ _. AllIn (Here p) f (body_in p f) []) [
     | inl w ↦ placed_body p f (owes (body_in p f) (body_in p f) w.converted w.loops w.landed) (made_once (body_in p f) w)
-    | inr u ↦ placed_body p f (everywhere_map IsUnarmed (Owes (body_in p f)) (unarmed_owes (body_in p f) u) (body_in p f) u) (λ l d. unlanded (body_in p f) u l d)
+    | inr u ↦ placed_body p f (everywhere_map IsUnarmed (Owes (body_in p f)) (unarmed_owes (body_in p f) u) (body_in p f) u)
+        (λ l d. unlanded (body_in p f) u l d)
   ];
 }

@@ -43,10 +43,12 @@ pub data LeTasks : List Task → List Task → Type 0 where
 
 pub data LeFrames : List Frame → List Frame → Type 0 where
   le_no_frame : LeFrames [] []
-  le_frame : (f : List ℕ) (g : Guards) (v : List Value) {k k' : List Task} {cs cs' : List Frame} → LeTasks k k' → LeFrames cs cs' → LeFrames (Waits f g k v ∷ cs) (Waits f g k' v ∷ cs')
+  le_frame : (f : List ℕ) (g : Guards) (v : List Value) {k k' : List Task} {cs cs' : List Frame} → LeTasks k k' → LeFrames cs cs' →
+      LeFrames (Waits f g k v ∷ cs) (Waits f g k' v ∷ cs')
 
 pub data LeState : State → State → Type 0 where
-  le_at : (f : List ℕ) (g : Guards) (v : List Value) (w : World) {k k' : List Task} {cs cs' : List Frame} → LeTasks k k' → LeFrames cs cs' → LeState (At f g k v cs w) (At f g k' v cs' w)
+  le_at : (f : List ℕ) (g : Guards) (v : List Value) (w : World) {k k' : List Task} {cs cs' : List Frame} → LeTasks k k' → LeFrames cs cs' →
+      LeState (At f g k v cs w) (At f g k' v cs' w)
   le_ended : (n : ℤ) (es : List Event) → LeState (HasEnded n es) (HasEnded n es)
   le_trapped : (t : Trap) (es : List Event) → LeState (HasTrapped t es) (HasTrapped t es)
 
@@ -123,14 +125,17 @@ cond_found : (c : Bool) {a a' b b' : Option (List Task)} → LeFound a a' → Le
 cond_found true p q = p
 cond_found false p q = q
 
-first_le : {a a' b b' : Option (List Task)} {k k' : List Task} → LeFound a a' → LeFound b b' → LeTasks k k' → LeTasks (first_of_three a b k) (first_of_three a' b' k')
+first_le : {a a' b b' : Option (List Task)} {k k' : List Task} → LeFound a a' → LeFound b b' → LeTasks k k' →
+    LeTasks (first_of_three a b k) (first_of_three a' b' k')
 first_le (le_some h) q i = h
 first_le le_none (le_some h) i = h
 first_le le_none le_none i = i
 
 -- an item that is no label, and holds others
-inner_le : (l : Goal) (x x' : Tree) (k k' : List Task) → is_goal l x ≡ false → is_goal l x' ≡ false → LeFound (seek_in l x k) (seek_in l x' k') → LeFound (seek_of l x k) (seek_of l x' k')
-inner_le l x x' k k' e f h = subst (λ z. LeFound z (seek_of l x' k')) (sym (seek_of_inner l x k e)) (subst (λ z. LeFound (seek_in l x k) z) (sym (seek_of_inner l x' k' f)) h)
+inner_le : (l : Goal) (x x' : Tree) (k k' : List Task) → is_goal l x ≡ false → is_goal l x' ≡ false → LeFound (seek_in l x k) (seek_in l x' k') →
+    LeFound (seek_of l x k) (seek_of l x' k')
+inner_le l x x' k k' e f h = subst (λ z. LeFound z (seek_of l x' k')) (sym (seek_of_inner l x k e))
+    (subst (λ z. LeFound (seek_in l x k) z) (sym (seek_of_inner l x' k' f)) h)
 
 leaf_in : (l : Goal) (x : Tree) → IsLeaf x → (k k' : List Task) → LeFound (seek_in l x k) (seek_in l x k')
 leaf_in l (Evaluate e) h k k' = le_none
@@ -159,19 +164,26 @@ mutual
 
   seek_of_le : (l : Goal) {x x' : Tree} → LeTree x x' → {k k' : List Task} → LeTasks k k' → LeFound (seek_of l x k) (seek_of l x' k')
   seek_of_le l (le_leaf x h) q = cond_found (is_goal l x) (le_some (le_task (le_runs (le_leaf x h)) q)) (leaf_in l x h _ _)
-  seek_of_le l (le_arm m) q = inner_le l (Arm m None) (Goto m) _ _ (no_goal (Arm m None) (λ n. refl) (λ kind n. refl) refl l) (no_goal (Goto m) (λ n. refl) (λ kind n. refl) refl l) le_none
+  seek_of_le l (le_arm m) q = inner_le l (Arm m None) (Goto m) _ _ (no_goal (Arm m None) (λ n. refl) (λ kind n. refl) refl l)
+      (no_goal (Goto m) (λ n. refl) (λ kind n. refl) refl l) le_none
   seek_of_le l (le_if t {a = a} {a' = a'} {b = b} {b' = b'} p r) q =
-      inner_le l (If t a b) (If t a' b') _ _ (no_goal (If t a b) (λ n. refl) (λ kind n. refl) refl l) (no_goal (If t a' b') (λ n. refl) (λ kind n. refl) refl l) (or_le (seek_le l p q) (seek_le l r q))
+      inner_le l (If t a b) (If t a' b') _ _ (no_goal (If t a b) (λ n. refl) (λ kind n. refl) refl l)
+      (no_goal (If t a' b') (λ n. refl) (λ kind n. refl) refl l) (or_le (seek_le l p q) (seek_le l r q))
   seek_of_le l (le_while t {a = a} {a' = a'} p) q =
-      inner_le l (While t a) (While t a') _ _ (no_goal (While t a) (λ n. refl) (λ kind n. refl) refl l) (no_goal (While t a') (λ n. refl) (λ kind n. refl) refl l) (seek_le l p (le_task (le_loops (le_while_loop t p)) q))
+      inner_le l (While t a) (While t a') _ _ (no_goal (While t a) (λ n. refl) (λ kind n. refl) refl l)
+      (no_goal (While t a') (λ n. refl) (λ kind n. refl) refl l) (seek_le l p (le_task (le_loops (le_while_loop t p)) q))
   seek_of_le l (le_do t {a = a} {a' = a'} p) q =
-      inner_le l (Do a t) (Do a' t) _ _ (no_goal (Do a t) (λ n. refl) (λ kind n. refl) refl l) (no_goal (Do a' t) (λ n. refl) (λ kind n. refl) refl l) (seek_le l p (le_task (le_loops (le_do_loop t p)) q))
+      inner_le l (Do a t) (Do a' t) _ _ (no_goal (Do a t) (λ n. refl) (λ kind n. refl) refl l) (no_goal (Do a' t) (λ n. refl) (λ kind n. refl) refl l)
+      (seek_le l p (le_task (le_loops (le_do_loop t p)) q))
   seek_of_le l (le_for t u {first = i} {first' = i'} {a = a} {a' = a'} r p) q =
-      inner_le l (For i t u a) (For i' t u a') _ _ (no_goal (For i t u a) (λ n. refl) (λ kind n. refl) refl l) (no_goal (For i' t u a') (λ n. refl) (λ kind n. refl) refl l) (seek_le l p (le_task (le_loops (le_for_loop t u p)) q))
+      inner_le l (For i t u a) (For i' t u a') _ _ (no_goal (For i t u a) (λ n. refl) (λ kind n. refl) refl l)
+      (no_goal (For i' t u a') (λ n. refl) (λ kind n. refl) refl l) (seek_le l p (le_task (le_loops (le_for_loop t u p)) q))
   seek_of_le l (le_switch s {c = c} {c' = c'} p) q =
-      inner_le l (Switch s c) (Switch s c') _ _ (no_goal (Switch s c) (λ n. refl) (λ kind n. refl) refl l) (no_goal (Switch s c') (λ n. refl) (λ kind n. refl) refl l) (cond_found (enters_switches l) (seek_sections_le l p q) le_none)
+      inner_le l (Switch s c) (Switch s c') _ _ (no_goal (Switch s c) (λ n. refl) (λ kind n. refl) refl l)
+      (no_goal (Switch s c') (λ n. refl) (λ kind n. refl) refl l) (cond_found (enters_switches l) (seek_sections_le l p q) le_none)
   seek_of_le l (le_block {a = a} {a' = a'} p) q =
-      inner_le l (Block a) (Block a') _ _ (no_goal (Block a) (λ n. refl) (λ kind n. refl) refl l) (no_goal (Block a') (λ n. refl) (λ kind n. refl) refl l) (seek_le l p q)
+      inner_le l (Block a) (Block a') _ _ (no_goal (Block a) (λ n. refl) (λ kind n. refl) refl l)
+      (no_goal (Block a') (λ n. refl) (λ kind n. refl) refl l) (seek_le l p q)
 
   seek_sections_le : (l : Goal) {c c' : Sections} → LeSections c c' → {k k' : List Task} → LeTasks k k' → LeFound (seek_sections l c k) (seek_sections l c' k')
   seek_sections_le l le_no_section q = le_none
@@ -262,7 +274,8 @@ module _ {b b' : Forest} (le : LeAll b b') (g : Guards) where
 
 -- ---- steps
 
-pub settle_le : (o : Outcome) (f : List ℕ) (g : Guards) (v : List Value) {k k' : List Task} {cs cs' : List Frame} → LeTasks k k' → LeFrames cs cs' → LeState (settle o f g k v cs) (settle o f g k' v cs')
+pub settle_le : (o : Outcome) (f : List ℕ) (g : Guards) (v : List Value) {k k' : List Task} {cs cs' : List Frame} → LeTasks k k' → LeFrames cs cs' →
+    LeState (settle o f g k v cs) (settle o f g k' v cs')
 settle_le (Gives x w) f g v q r = le_at f g (x ∷ v) w q r
 settle_le (Traps t w) f g v q r = le_trapped t w.events
 settle_le (Exits n w) f g v q r = le_ended n w.events

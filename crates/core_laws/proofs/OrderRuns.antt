@@ -28,21 +28,28 @@ face le = record { result = le.result; params = le.params; slots = le.slots }
 
 module _ {f h : FunctionTree} (le : LeFunction f h) where
   leave_le : (x : Value) (w : World) {cs cs' : List Frame} → LeFrames cs cs' → LeState (leave f x cs w) (leave h x cs' w)
-  leave_le x w le_no_frame = subst (λ o. LeState (leave f x [] w) (settle o [] no_guards [] [] [])) (entry_alike (face le) x w) (settle_le (leave_entry f x w) [] no_guards [] le_no_task le_no_frame)
+  leave_le x w le_no_frame = subst (λ o. LeState (leave f x [] w) (settle o [] no_guards [] [] [])) (entry_alike (face le) x w)
+      (settle_le (leave_entry f x w) [] no_guards [] le_no_task le_no_frame)
   leave_le x w (le_frame m g v {k = k} {k' = k'} {cs = cs} {cs' = cs'} p q) =
-      subst (λ o. LeState (leave f x (Waits m g k v ∷ cs) w) (settle o m g k' v cs')) (ap (λ d. leave_call d f x w) (dropped_alike p) ∙ call_alike (face le) (is_dropped k') x w)
+      subst (λ o. LeState (leave f x (Waits m g k v ∷ cs) w) (settle o m g k' v cs'))
+      (ap (λ d. leave_call d f x w) (dropped_alike p) ∙ call_alike (face le) (is_dropped k') x w)
       (settle_le (leave_call (is_dropped k) f x w) m g v p q)
 
-begin_le : (m : List ℕ) (r : Result World Trap) (w : World) {a a' : Forest} {cs cs' : List Frame} → LeAll a a' → LeFrames cs cs' → LeState (begin_call m a r cs w) (begin_call m a' r cs' w)
+begin_le : (m : List ℕ) (r : Result World Trap) (w : World) {a a' : Forest} {cs cs' : List Frame} → LeAll a a' → LeFrames cs cs' →
+    LeState (begin_call m a r cs w) (begin_call m a' r cs' w)
 begin_le m (Ok w) w' p q = le_at m no_guards [] w (items_le p le_no_task) q
 begin_le m (Err t) w' p q = le_trapped t w'.events
 
-invoke_le : {b b' : Option Forest} → LeBody b b' → {h h' : FunctionTree} → LeFunction h h' → (m : List ℕ) (vs : List Value) (f : List ℕ) (g : Guards) (v : List Value) (w : World) {k k' : List Task} {cs cs' : List Frame} → LeTasks k k' → LeFrames cs cs'
+invoke_le : {b b' : Option Forest} → LeBody b b' → {h h' : FunctionTree} → LeFunction h h' →
+    (m : List ℕ) (vs : List Value) (f : List ℕ) (g : Guards) (v : List Value) (w : World) {k k' : List Task} {cs cs' : List Frame} → LeTasks k k' →
+    LeFrames cs cs'
     → LeState (invoke b h m vs f g k v cs w) (invoke b' h' m vs f g k' v cs' w)
 invoke_le (le_body {a = a} {a' = a'} e) {h = h} {h' = h'} le m vs f g v w {k = k} {k' = k'} {cs = cs} {cs' = cs'} p q =
-    subst (λ r. LeState (invoke (Some a) h m vs f g k v cs w) (begin_call m a' r (Waits f g k' v ∷ cs') w)) (push_alike (face le) vs w) (begin_le m (push h vs w) w e (le_frame f g v p q))
+    subst (λ r. LeState (invoke (Some a) h m vs f g k v cs w) (begin_call m a' r (Waits f g k' v ∷ cs') w)) (push_alike (face le) vs w)
+    (begin_le m (push h vs w) w e (le_frame f g v p q))
 invoke_le le_no_body {h = h} {h' = h'} le m vs f g v w {k = k} {k' = k'} {cs = cs} {cs' = cs'} p q =
-    subst (λ o. LeState (invoke None h m vs f g k v cs w) (settle o f g k' v cs')) (without_body_alike (face le) m vs w) (settle_le (call_without_body m h vs w) f g v p q)
+    subst (λ o. LeState (invoke None h m vs f g k v cs w) (settle o f g k' v cs')) (without_body_alike (face le) m vs w)
+    (settle_le (call_without_body m h vs w) f g v p q)
 
 body_le : {b b' : Option Forest} → LeBody b b' → LeAll (option_map_or (λ a. a) b Nil) (option_map_or (λ a. a) b' Nil)
 body_le (le_body e) = e
@@ -55,16 +62,19 @@ some_le le_no_body = ((λ h. h), (λ h. h))
 -- ---- steps and runs
 
 module _ (p q : Code) (le : LeCode p q) where
-  perform_le : (x : Effect) (f : List ℕ) (g : Guards) {k k' : List Task} {cs cs' : List Frame} → LeTasks k k' → LeFrames cs cs' → LeState (perform p x f g k cs) (perform q x f g k' cs')
+  perform_le : (x : Effect) (f : List ℕ) (g : Guards) {k k' : List Task} {cs cs' : List Frame} → LeTasks k k' → LeFrames cs cs' →
+      LeState (perform p x f g k cs) (perform q x f g k' cs')
   perform_le (Does os v w) f g r s = le_at f g v w (works_le os r) s
   perform_le (Fails t w) f g r s = le_trapped t w.events
   perform_le (Stops n w) f g r s = le_ended n w.events
   perform_le (Invokes m vs v w) f g r s = invoke_le (le.functions m).body (le.functions m) m vs f g v w r s
   perform_le (Leaves (Some x) w) f g {cs = cs} {cs' = cs'} r s =
-      subst (λ y. LeState (leave (p.functions f) (returned (p.functions f) x) cs w) (leave (q.functions f) y cs' w)) (returned_alike (face (le.functions f)) x) (leave_le (le.functions f) (returned (p.functions f) x) w s)
+      subst (λ y. LeState (leave (p.functions f) (returned (p.functions f) x) cs w) (leave (q.functions f) y cs' w))
+      (returned_alike (face (le.functions f)) x) (leave_le (le.functions f) (returned (p.functions f) x) w s)
   perform_le (Leaves None w) f g r s = leave_le (le.functions f) (fallen f) w s
 
-  move_le : {x x' : View} → LeView x x' → (f : List ℕ) (g : Guards) (v : List Value) (w : World) {cs cs' : List Frame} → LeFrames cs cs' → LeState (move p x f g v cs w) (move q x' f g v cs' w)
+  move_le : {x x' : View} → LeView x x' → (f : List ℕ) (g : Guards) (v : List Value) (w : World) {cs cs' : List Frame} → LeFrames cs cs' →
+      LeState (move p x f g v cs w) (move q x' f g v cs' w)
   move_le le_finishes f g v w s = leave_le (le.functions f) (fallen f) w s
   move_le (le_goes r) f g v w s = le_at f g v w r s
   move_le (le_guarding l b r) f g v w s = le_at f (with_guard l b g) v w r s
@@ -82,7 +92,8 @@ module _ (p q : Code) (le : LeCode p q) where
   run_le zero h z = h
   run_le (suc n) h z = run_le n (step_le h (z 0)) (λ i. z (suc i))
 
-  start_le : (m : List ℕ) (arguments : List ℤ) (input : List ℕ) (answers : List ℤ) → LeState (start p m arguments input answers) (start q m arguments input answers)
+  start_le : (m : List ℕ) (arguments : List ℤ) (input : List ℕ) (answers : List ℤ) →
+      LeState (start p m arguments input answers) (start q m arguments input answers)
   start_le m arguments input answers =
       let vs = map Integer arguments in
       let w = world_at_start p input answers in
@@ -103,7 +114,8 @@ module _ (p q : Code) (le : LeCode p q) where
   IsSafeFrom m arguments input answers = (n : ℕ) → SafeAt (run p n (start p m arguments input answers))
 
   module _ (safe : (m : List ℕ) (arguments : List ℤ) → IsEntry p m arguments → (input : List ℕ) (answers : List ℤ) → IsSafeFrom m arguments input answers) where
-    runs_le : (m : List ℕ) (arguments : List ℤ) → IsEntry p m arguments → (input : List ℕ) (answers : List ℤ) (n : ℕ) → LeState (run p n (start p m arguments input answers)) (run q n (start q m arguments input answers))
+    runs_le : (m : List ℕ) (arguments : List ℤ) → IsEntry p m arguments → (input : List ℕ) (answers : List ℤ) (n : ℕ) →
+        LeState (run p n (start p m arguments input answers)) (run q n (start q m arguments input answers))
     runs_le m arguments e input answers n = run_le n (start_le m arguments input answers) (safe m arguments e input answers)
 
     pub same_le : SameBehaviour p q
@@ -113,7 +125,11 @@ module _ (p q : Code) (le : LeCode p q) where
           let alike = λ (n : ℕ). shows_le (runs_le m arguments e input answers n) in
           record {
             forth = λ n. (n, subst (λ z. Covers (jump_run p m arguments input answers n) z) (alike n) (covers_refl (jump_run p m arguments input answers n)));
-            back = λ n. (n, subst (λ z. Covers (jump_run q m arguments input answers n) z) (sym (alike n)) (covers_refl (jump_run q m arguments input answers n)));
+            back = λ n. (
+              n,
+              subst (λ z. Covers (jump_run q m arguments input answers n) z) (sym (alike n))
+                  (covers_refl (jump_run q m arguments input answers n)),
+            );
           };
     }
 
@@ -133,5 +149,7 @@ module _ (p q : Code) (le : LeCode p q) where
     safe_state (le_trapped t es) z = tt
 
     -- the second meets no Arm either
-    pub safe_on : (m : List ℕ) (arguments : List ℤ) → IsEntry q m arguments → (input : List ℕ) (answers : List ℤ) (n : ℕ) → SafeAt (run q n (start q m arguments input answers))
-    safe_on m arguments e input answers n = let e' = (entries_le m arguments).1 e in safe_state (runs_le m arguments e' input answers n) (safe m arguments e' input answers n)
+    pub safe_on : (m : List ℕ) (arguments : List ℤ) → IsEntry q m arguments → (input : List ℕ) (answers : List ℤ) (n : ℕ) →
+        SafeAt (run q n (start q m arguments input answers))
+    safe_on m arguments e input answers n = let e' = (entries_le m arguments).1 e in
+        safe_state (runs_le m arguments e' input answers n) (safe m arguments e' input answers n)

@@ -49,10 +49,12 @@ both_none a b p q = ap (λ o. or_else o b) p ∙ q
 mutual
   seek_none : (l : ℕ) (a : Forest) (k : List Task) → spots l a ≡ 0 → seek (ToLabel l) a k ≡ None
   seek_none l Nil k e = refl
-  seek_none l (Then x a) k e = both_none (seek_of (ToLabel l) x (items a k)) (seek (ToLabel l) a k) (seek_none_of l x (items a k) (omega (arith, e))) (seek_none l a k (omega (arith, e)))
+  seek_none l (Then x a) k e = both_none (seek_of (ToLabel l) x (items a k)) (seek (ToLabel l) a k) (seek_none_of l x (items a k) (omega (arith, e)))
+      (seek_none l a k (omega (arith, e)))
 
   seek_none_of : (l : ℕ) (x : Tree) (k : List Task) → total_of (spot_of l) x ≡ 0 → seek_of (ToLabel l) x k ≡ None
-  seek_none_of l (If t a b) k e = both_none (seek (ToLabel l) a k) (seek (ToLabel l) b k) (seek_none l a k (omega (arith, e))) (seek_none l b k (omega (arith, e)))
+  seek_none_of l (If t a b) k e = both_none (seek (ToLabel l) a k) (seek (ToLabel l) b k) (seek_none l a k (omega (arith, e)))
+      (seek_none l b k (omega (arith, e)))
   seek_none_of l (While t a) k e = seek_none l a (Loops (WhileLoop t a) ∷ k) (omega (arith, e))
   seek_none_of l (Do a t) k e = seek_none l a (Loops (DoLoop a t) ∷ k) (omega (arith, e))
   seek_none_of l (For first t u a) k e = seek_none l a (Loops (ForLoop t u a) ∷ k) (omega (arith, e))
@@ -65,7 +67,8 @@ mutual
   seek_none_in : (l : ℕ) (c : Sections) (k : List Task) → total_in (spot_of l) c ≡ 0 → seek_sections (ToLabel l) c k ≡ None
   seek_none_in l NoSection k e = refl
   seek_none_in l (Section cases default a ends c) k e =
-      both_none (seek (ToLabel l) a (end_of ends (tail_tasks c k))) (seek_sections (ToLabel l) c k) (seek_none l a (end_of ends (tail_tasks c k)) (omega (arith, e))) (seek_none_in l c k (omega (arith, e)))
+      both_none (seek (ToLabel l) a (end_of ends (tail_tasks c k))) (seek_sections (ToLabel l) c k)
+      (seek_none l a (end_of ends (tail_tasks c k)) (omega (arith, e))) (seek_none_in l c k (omega (arith, e)))
 
 abbrev SomeLand : ℕ → Option (List Task) → Type 0
 SomeLand l o = (k' : List Task) × (o ≡ Some (Runs (Land l) ∷ k'))
@@ -159,13 +162,15 @@ module _ (b : Forest) (l : ℕ) (d : lands l b ≡ 1) where
     seek_land (Then x a) k o n e =
         split (lands_of l x) (lands l a) e
         (λ h. or_land l (seek_of (ToLabel l) x (items a k)) (seek (ToLabel l) a k) (seek_land_of x (items a k) o.0 (omega (arith, n)) h))
-        (λ h i. let j = lands_spots l a in none_land l (seek_of (ToLabel l) x (items a k)) (seek (ToLabel l) a k) (seek_none_of l x (items a k) (omega (arith, n, i, j))) (seek_land a k o.1 (omega (arith, n)) i))
+        (λ h i. let j = lands_spots l a in none_land l (seek_of (ToLabel l) x (items a k)) (seek (ToLabel l) a k)
+        (seek_none_of l x (items a k) (omega (arith, n, i, j))) (seek_land a k o.1 (omega (arith, n)) i))
 
     seek_land_of : (x : Tree) (k : List Task) → EverywhereOf (Owes b) x → total_of (spot_of l) x ≤ 1 → lands_of l x ≡ 1 → SomeLand l (seek_of (ToLabel l) x k)
     seek_land_of (If t a c) k o n e =
         split (lands l a) (lands l c) (omega (arith, e))
         (λ h. or_land l (seek (ToLabel l) a k) (seek (ToLabel l) c k) (seek_land a k o.1 (omega (arith, n)) h))
-        (λ h i. let j = lands_spots l c in none_land l (seek (ToLabel l) a k) (seek (ToLabel l) c k) (seek_none l a k (omega (arith, n, i, j))) (seek_land c k o.2 (omega (arith, n)) i))
+        (λ h i. let j = lands_spots l c in none_land l (seek (ToLabel l) a k) (seek (ToLabel l) c k) (seek_none l a k (omega (arith, n, i, j)))
+        (seek_land c k o.2 (omega (arith, n)) i))
     seek_land_of (While t a) k o n e = seek_land a (Loops (WhileLoop t a) ∷ k) o.1 (omega (arith, n)) (omega (arith, e))
     seek_land_of (Do a t) k o n e = seek_land a (Loops (DoLoop a t) ∷ k) o.1 (omega (arith, n)) (omega (arith, e))
     seek_land_of (For first t u a) k o n e =
@@ -187,13 +192,15 @@ module _ (b : Forest) (l : ℕ) (d : lands l b ≡ 1) where
     seek_land_of (Arrival x) k o n e = absurd (omega (arith, e))
     seek_land_of (Note bs) k o n e = absurd (omega (arith, e))
 
-    seek_land_in : (c : Sections) (k : List Task) → EverywhereIn (Owes b) c → total_in (spot_of l) c ≤ 1 → total_in (land_of l) c ≡ 1 → SomeLand l (seek_sections (ToLabel l) c k)
+    seek_land_in : (c : Sections) (k : List Task) → EverywhereIn (Owes b) c → total_in (spot_of l) c ≤ 1 → total_in (land_of l) c ≡ 1 →
+        SomeLand l (seek_sections (ToLabel l) c k)
     seek_land_in NoSection k o n e = absurd (omega (arith, e))
     seek_land_in (Section cases default a ends c) k o n e =
         let behind = end_of ends (tail_tasks c k) in
         split (lands l a) (total_in (land_of l) c) e
         (λ h. or_land l (seek (ToLabel l) a behind) (seek_sections (ToLabel l) c k) (seek_land a behind o.0 (omega (arith, n)) h))
-        (λ h i. let j = lands_spots_in l c in none_land l (seek (ToLabel l) a behind) (seek_sections (ToLabel l) c k) (seek_none l a behind (omega (arith, n, i, j))) (seek_land_in c k o.1 (omega (arith, n)) i))
+        (λ h i. let j = lands_spots_in l c in none_land l (seek (ToLabel l) a behind) (seek_sections (ToLabel l) c k)
+        (seek_none l a behind (omega (arith, n, i, j))) (seek_land_in c k o.1 (omega (arith, n)) i))
 
 -- ---- loops behind sections
 
@@ -217,7 +224,8 @@ stays (Known false) (suc n) h = tt
 
 -- ---- each item in its place
 
-module _ (p : Code) (f : List ℕ) (all : Everywhere (Owes (body_in p f)) (body_in p f)) (once : (l : ℕ) → lands l (body_in p f) ≡ 1 → spots l (body_in p f) ≤ 1) where
+module _ (p : Code) (f : List ℕ) (all : Everywhere (Owes (body_in p f)) (body_in p f))
+    (once : (l : ℕ) → lands l (body_in p f) ≡ 1 → spots l (body_in p f) ≤ 1) where
   abbrev body : Forest
   body = body_in p f
 
@@ -233,19 +241,22 @@ module _ (p : Code) (f : List ℕ) (all : Everywhere (Owes (body_in p f)) (body_
   or_none (Some k) = refl
   or_none None = refl
 
-  left_home : (m n : ℕ → ℕ) (s t : ℕ → Option (List Task)) → Once (λ l. m l + n l) → ((l : ℕ) → n l ≡ 0 → t l ≡ None) → Home (λ l. m l + n l) (λ l. or_else (s l) (t l)) → Home m s
+  left_home : (m n : ℕ → ℕ) (s t : ℕ → Option (List Task)) → Once (λ l. m l + n l) → ((l : ℕ) → n l ≡ 0 → t l ≡ None) →
+      Home (λ l. m l + n l) (λ l. or_else (s l) (t l)) → Home m s
   left_home m n s t o z h l d i =
       let j = o l d in
       let e = z l (omega (arith, i, j)) in
       sym (or_none (s l)) ∙ ap (λ r. or_else (s l) r) (sym e) ∙ h l d (omega (arith, i))
 
-  right_home : (m n : ℕ → ℕ) (s t : ℕ → Option (List Task)) → Once (λ l. m l + n l) → ((l : ℕ) → m l ≡ 0 → s l ≡ None) → Home (λ l. m l + n l) (λ l. or_else (s l) (t l)) → Home n t
+  right_home : (m n : ℕ → ℕ) (s t : ℕ → Option (List Task)) → Once (λ l. m l + n l) → ((l : ℕ) → m l ≡ 0 → s l ≡ None) →
+      Home (λ l. m l + n l) (λ l. or_else (s l) (t l)) → Home n t
   right_home m n s t o z h l d i =
       let j = o l d in
       let e = z l (omega (arith, i, j)) in
       ap (λ r. or_else r (t l)) (sym e) ∙ h l d (omega (arith, i))
 
-  land_home : (m : ℕ) (b : Bool) (k : List Task) → eqb m m ≡ b → cond b (Some (Runs (Land m) ∷ k)) None ≡ seek (ToLabel m) body [] → find m body ≡ Runs (Land m) ∷ k
+  land_home : (m : ℕ) (b : Bool) (k : List Task) → eqb m m ≡ b → cond b (Some (Runs (Land m) ∷ k)) None ≡ seek (ToLabel m) body [] →
+      find m body ≡ Runs (Land m) ∷ k
   land_home m true k e h = ap (λ o. first_of_three o None []) (sym h)
   land_home m false k e h = absurd (true≢false (sym (eq-eqb m m refl) ∙ e))
 
@@ -254,16 +265,21 @@ module _ (p : Code) (f : List ℕ) (all : Everywhere (Owes (body_in p f)) (body_
   one_here m false e = absurd (true≢false (sym (eq-eqb m m refl) ∙ e))
 
   mutual
-    place : (a : Forest) (k : List Task) → Everywhere (Owes body) a → (0 < breaks a → HasKeptExit k) → (0 < continues a → HasKeptLoop k) → Once (λ l. spots l a) → Home (λ l. spots l a) (λ l. seek (ToLabel l) a k) → AllIn (Here p) f a k
+    place : (a : Forest) (k : List Task) → Everywhere (Owes body) a → (0 < breaks a → HasKeptExit k) → (0 < continues a → HasKeptLoop k) →
+        Once (λ l. spots l a) → Home (λ l. spots l a) (λ l. seek (ToLabel l) a k) → AllIn (Here p) f a k
     place Nil k o x c n h = tt
     place (Then y a) k o x c n h = (
-      place_of y (items a k) o.0 (λ z. kept_items a k (x (omega (arith, z)))) (λ z. loop_items a k (c (omega (arith, z)))) (λ l d. let z = n l d in omega (arith, z))
-          (left_home (λ l. total_of (spot_of l) y) (λ l. spots l a) (λ l. seek_of (ToLabel l) y (items a k)) (λ l. seek (ToLabel l) a k) n (λ l e. seek_none l a k e) h),
+      place_of y (items a k) o.0 (λ z. kept_items a k (x (omega (arith, z)))) (λ z. loop_items a k (c (omega (arith, z))))
+          (λ l d. let z = n l d in omega (arith, z))
+          (left_home (λ l. total_of (spot_of l) y) (λ l. spots l a) (λ l. seek_of (ToLabel l) y (items a k)) (λ l. seek (ToLabel l) a k) n
+          (λ l e. seek_none l a k e) h),
       place a k o.1 (λ z. x (omega (arith, z))) (λ z. c (omega (arith, z))) (λ l d. let z = n l d in omega (arith, z))
-          (right_home (λ l. total_of (spot_of l) y) (λ l. spots l a) (λ l. seek_of (ToLabel l) y (items a k)) (λ l. seek (ToLabel l) a k) n (λ l e. seek_none_of l y (items a k) e) h),
+          (right_home (λ l. total_of (spot_of l) y) (λ l. spots l a) (λ l. seek_of (ToLabel l) y (items a k)) (λ l. seek (ToLabel l) a k) n
+          (λ l e. seek_none_of l y (items a k) e) h),
     )
 
-    place_of : (y : Tree) (k : List Task) → EverywhereOf (Owes body) y → (0 < breaks_of y → HasKeptExit k) → (0 < continues_of y → HasKeptLoop k) → Once (λ l. total_of (spot_of l) y) → Home (λ l. total_of (spot_of l) y) (λ l. seek_of (ToLabel l) y k) → AllOf (Here p) f y k
+    place_of : (y : Tree) (k : List Task) → EverywhereOf (Owes body) y → (0 < breaks_of y → HasKeptExit k) → (0 < continues_of y → HasKeptLoop k) →
+        Once (λ l. total_of (spot_of l) y) → Home (λ l. total_of (spot_of l) y) (λ l. seek_of (ToLabel l) y k) → AllOf (Here p) f y k
     place_of (If t a b) k o x c n h =
         let n' : Once (λ l. spots l a + spots l b) = λ l d. let z = n l d in omega (arith, z) in
         let h' : Home (λ l. spots l a + spots l b) (λ l. or_else (seek (ToLabel l) a k) (seek (ToLabel l) b k)) = λ l d z. h l d (omega (arith, z)) in (
@@ -272,9 +288,11 @@ module _ (p : Code) (f : List ℕ) (all : Everywhere (Owes (body_in p f)) (body_
           place b k o.2 (λ z. x (omega (arith, z))) (λ z. c (omega (arith, z))) (λ l d. let z = n l d in omega (arith, z))
               (right_home (λ l. spots l a) (λ l. spots l b) (λ l. seek (ToLabel l) a k) (λ l. seek (ToLabel l) b k) n' (λ l e. seek_none l a k e) h'),
         )
-    place_of (While t a) k o x c n h = place a (Loops (WhileLoop t a) ∷ k) o.1 (λ z. tt) (λ z. tt) (λ l d. let z = n l d in omega (arith, z)) (λ l d z. h l d (omega (arith, z)))
+    place_of (While t a) k o x c n h = place a (Loops (WhileLoop t a) ∷ k) o.1 (λ z. tt) (λ z. tt) (λ l d. let z = n l d in omega (arith, z))
+        (λ l d z. h l d (omega (arith, z)))
     place_of (Do a t) k o x c n h =
-        place a (Loops (DoLoop a t) ∷ k) o.1 (λ z. stays (peel no_guards t) (breaks a + continues a) (omega (arith, z))) (λ z. stays (peel no_guards t) (breaks a + continues a) (omega (arith, z)))
+        place a (Loops (DoLoop a t) ∷ k) o.1 (λ z. stays (peel no_guards t) (breaks a + continues a) (omega (arith, z)))
+        (λ z. stays (peel no_guards t) (breaks a + continues a) (omega (arith, z)))
         (λ l d. let z = n l d in omega (arith, z)) (λ l d z. h l d (omega (arith, z)))
     place_of (For first t u a) k o x c n h = (
       place first (Heads t u a ∷ k) o.1 x c (λ l d. let z = n l d in omega (arith, z)) (λ l d z. let e = o.0 l d in absurd (omega (arith, z, e))),
@@ -295,14 +313,18 @@ module _ (p : Code) (f : List ℕ) (all : Everywhere (Owes (body_in p f)) (body_
     place_of (Arrival e) k o x c n h = tt
     place_of (Note bs) k o x c n h = tt
 
-    place_in : (y : Sections) (k : List Task) → EverywhereIn (Owes body) y → (0 < continues_in y → HasKeptLoop k) → Once (λ l. total_in (spot_of l) y) → Home (λ l. total_in (spot_of l) y) (λ l. seek_sections (ToLabel l) y k) → AllSections (Here p) f y k
+    place_in : (y : Sections) (k : List Task) → EverywhereIn (Owes body) y → (0 < continues_in y → HasKeptLoop k) →
+        Once (λ l. total_in (spot_of l) y) → Home (λ l. total_in (spot_of l) y) (λ l. seek_sections (ToLabel l) y k) → AllSections (Here p) f y k
     place_in NoSection k o c n h = tt
     place_in (Section cases default a ends y) k o c n h =
         let behind = end_of ends (tail_tasks y k) in (
-          place a behind o.0 (λ z. kept_end ends (tail_tasks y k) (kept_tail y k)) (λ z. loop_end ends (tail_tasks y k) (loop_tail y k (c (omega (arith, z))))) (λ l d. let z = n l d in omega (arith, z))
-              (left_home (λ l. spots l a) (λ l. total_in (spot_of l) y) (λ l. seek (ToLabel l) a behind) (λ l. seek_sections (ToLabel l) y k) n (λ l e. seek_none_in l y k e) h),
+          place a behind o.0 (λ z. kept_end ends (tail_tasks y k) (kept_tail y k))
+              (λ z. loop_end ends (tail_tasks y k) (loop_tail y k (c (omega (arith, z))))) (λ l d. let z = n l d in omega (arith, z))
+              (left_home (λ l. spots l a) (λ l. total_in (spot_of l) y) (λ l. seek (ToLabel l) a behind) (λ l. seek_sections (ToLabel l) y k) n
+              (λ l e. seek_none_in l y k e) h),
           place_in y k o.1 (λ z. c (omega (arith, z))) (λ l d. let z = n l d in omega (arith, z))
-              (right_home (λ l. spots l a) (λ l. total_in (spot_of l) y) (λ l. seek (ToLabel l) a behind) (λ l. seek_sections (ToLabel l) y k) n (λ l e. seek_none l a behind e) h),
+              (right_home (λ l. spots l a) (λ l. total_in (spot_of l) y) (λ l. seek (ToLabel l) a behind) (λ l. seek_sections (ToLabel l) y k) n
+              (λ l e. seek_none l a behind e) h),
         )
 
   pub placed_body : AllIn (Here p) f body []

@@ -82,7 +82,8 @@ made_items (Some xs) h = h
 
 found_made : (p : Function → Bool) (m : List ℕ) (ts : List Top) → AllByRecursion IsTopMadeWell ts → IsFoundMade (function_in p m ts)
 found_made p m [] h = tt
-found_made p m (T.Function f ∷ ts) h = either IsFoundMade (bytes_eq f.name m && p f) (Some (function_tree f)) (function_in p m ts) (made_items f.body (made_body f h.0)) (found_made p m ts h.1)
+found_made p m (T.Function f ∷ ts) h = either IsFoundMade (bytes_eq f.name m && p f) (Some (function_tree f)) (function_in p m ts)
+    (made_items f.body (made_body f h.0)) (found_made p m ts h.1)
 found_made p m (_ ∷ ts) h = found_made p m ts h.1
 
 first_made : (o p : Option FunctionTree) → IsFoundMade o → IsFoundMade p → IsMadeBody (items_of (first_of o p undeclared))
@@ -93,14 +94,16 @@ first_made None None h k = inr tt
 pub made_bodies : (p : Program) → All IsTopMadeWell p.tops → HasMadeBodies (code_of p)
 made_bodies p h m =
     let r = recursion_from_All IsTopMadeWell p.tops h in
-    first_made (function_in (λ f. is_some f.body) m p.tops) (function_in (λ f. true) m p.tops) (found_made (λ f. is_some f.body) m p.tops r) (found_made (λ f. true) m p.tops r)
+    first_made (function_in (λ f. is_some f.body) m p.tops) (function_in (λ f. true) m p.tops) (found_made (λ f. is_some f.body) m p.tops r)
+    (found_made (λ f. true) m p.tops r)
 
 -- ---- the law
 
 of_codes : (p q : Code) → HasMadeBodies p → HasMadeBodies q → LeCode (core_code p) (core_code q) → IsSteadyCode p → IsSteadyCode q × SameBehaviour p q
 of_codes p q b d le st = rewritten p q (placed p b) (placed q d) le st
 
-pub same_cores : (p q : Program) → IsProgramInRange q → All IsTopMadeWell q.tops → LeCode (core_code (code_of p)) (core_code (code_of q)) → IsSteady p → IsSteady q × BehaveTheSame p q
+pub same_cores : (p q : Program) → IsProgramInRange q → All IsTopMadeWell q.tops → LeCode (core_code (code_of p)) (core_code (code_of q)) →
+    IsSteady p → IsSteady q × BehaveTheSame p q
 same_cores p q ranged made le st =
     let r = of_codes (code_of p) (code_of q) (made_bodies p st.made) (made_bodies q made) le st.states in
     (record { ranged = ranged; made = made; states = r.0 }, record { codes = r.1 })

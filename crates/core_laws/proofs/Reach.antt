@@ -41,7 +41,8 @@ body_in p f = items_of (p.functions f)
 -- the run goes silently to the Land of the label, whose guard alone is set
 pub data Walks (p : Code) (l : ℕ) (f : List ℕ) (v : List Value) (cs : List Frame) (w : World) : State → Type 0 where
   landed : (g : Guards) (k : List Task) → Agree g (only l) → find l (body_in p f) ≡ Runs (Land l) ∷ k → Walks p l f v cs w (At f g (Runs (Land l) ∷ k) v cs w)
-  onward : (g : Guards) (k : List Task) (u : List Value) → Agree g (only l) → IsSilentTask l k → Walks p l f v cs w (step p (At f g k u cs w)) → Walks p l f v cs w (At f g k u cs w)
+  onward : (g : Guards) (k : List Task) (u : List Value) → Agree g (only l) → IsSilentTask l k → Walks p l f v cs w (step p (At f g k u cs w)) →
+      Walks p l f v cs w (At f g k u cs w)
 
 -- no step, or more, each from a state with Ok
 pub data Reach (p : Code) (Ok : State → Type 0) : State → State → Type 0 where
@@ -64,7 +65,8 @@ pub record Landing (p : Code) (l : ℕ) (f : List ℕ) (v : List Value) (cs : Li
   pub is : find l (body_in p f) ≡ Runs (Land l) ∷ tasks
   pub way : Reach p (Good p) c (At f guards (Runs (Land l) ∷ tasks) v cs w)
 
-pub landing : {p : Code} {l : ℕ} {f : List ℕ} {v : List Value} {cs : List Frame} {w : World} {c : State} → CalmFrames cs → Walks p l f v cs w c → Landing p l f v cs w c
+pub landing : {p : Code} {l : ℕ} {f : List ℕ} {v : List Value} {cs : List Frame} {w : World} {c : State} → CalmFrames cs → Walks p l f v cs w c →
+    Landing p l f v cs w c
 landing cf (landed g k a e) = record { guards = g; tasks = k; agrees = a; is = e; way = stay }
 landing {l = l} {f = f} {v = v} {cs = cs} {w = w} cf (onward g k u a q r') =
     let r = landing cf r' in
@@ -84,12 +86,14 @@ module _ (p : Code) (f : List ℕ) (g h : Guards) (agree : Agree g h) (cs : List
   known_is : (b c : Bool) → Known b ≡ Known c → b ≡ c
   known_is b c e = cc
 
-  and_quiet : (t : TestTree) (k : List Task) (v : List Value) (b y : Bool) → cond y (Known false) (peel h t) ≡ Known b → LeftAt k v b → (peel h t ≡ Known b → R (At f g (Asks t ∷ k) v cs w))
+  and_quiet : (t : TestTree) (k : List Task) (v : List Value) (b y : Bool) → cond y (Known false) (peel h t) ≡ Known b → LeftAt k v b →
+      (peel h t ≡ Known b → R (At f g (Asks t ∷ k) v cs w))
       → R (move p (cond y (Yields (pos 0) k) (Goes (Asks t ∷ k))) f g v cs w)
   and_quiet t k v b true e r go = subst (λ c. LeftAt k v c) (sym (known_is false b e)) r
   and_quiet t k v b false e r go = go e
 
-  or_quiet : (t : TestTree) (k : List Task) (v : List Value) (b y : Bool) → cond y (Known true) (peel h t) ≡ Known b → LeftAt k v b → (peel h t ≡ Known b → R (At f g (Asks t ∷ k) v cs w))
+  or_quiet : (t : TestTree) (k : List Task) (v : List Value) (b y : Bool) → cond y (Known true) (peel h t) ≡ Known b → LeftAt k v b →
+      (peel h t ≡ Known b → R (At f g (Asks t ∷ k) v cs w))
       → R (move p (cond y (Yields (pos 1) k) (Goes (Asks t ∷ k))) f g v cs w)
   or_quiet t k v b true e r go = subst (λ c. LeftAt k v c) (sym (known_is true b e)) r
   or_quiet t k v b false e r go = go e
@@ -111,17 +115,21 @@ IsMadeSelector (Selects e) = ⊥
 IsMadeSelector _ = Unit {0}
 
 module _ (p : Code) (f : List ℕ) (g h : Guards) (agree : Agree g h) (cs : List Frame) (w : World) (R : State → Type 0)
-    (back : (s : SelectorTree) (k : List Task) (v : List Value) → IsMadeSelector s → R (step p (At f g (AsksSelector s ∷ k) v cs w)) → R (At f g (AsksSelector s ∷ k) v cs w)) where
+    (back : (s : SelectorTree) (k : List Task) (v : List Value) → IsMadeSelector s → R (step p (At f g (AsksSelector s ∷ k) v cs w)) →
+    R (At f g (AsksSelector s ∷ k) v cs w)) where
   known_number : (m n : ℤ) → KnownSelector m ≡ KnownSelector n → m ≡ n
   known_number m n e = cc
 
-  pick_quiet : (m : ℤ) (s : SelectorTree) (k : List Task) (v : List Value) (n : ℤ) (y : Bool) → cond y (KnownSelector m) (peel_selector h s) ≡ KnownSelector n → R (At f g k (Integer n ∷ v) cs w)
+  pick_quiet : (m : ℤ) (s : SelectorTree) (k : List Task) (v : List Value) (n : ℤ) (y : Bool) →
+      cond y (KnownSelector m) (peel_selector h s) ≡ KnownSelector n → R (At f g k (Integer n ∷ v) cs w)
       → (peel_selector h s ≡ KnownSelector n → R (At f g (AsksSelector s ∷ k) v cs w)) → R (move p (cond y (Yields m k) (Goes (AsksSelector s ∷ k))) f g v cs w)
   pick_quiet m s k v n true e r go = subst (λ c. R (At f g k (Integer c ∷ v) cs w)) (sym (known_number m n e)) r
   pick_quiet m s k v n false e r go = go e
 
   -- a selector that the guards decide leaves its number
-  pub quiet_selector : (s : SelectorTree) (k : List Task) (v : List Value) (n : ℤ) → peel_selector h s ≡ KnownSelector n → R (At f g k (Integer n ∷ v) cs w) → R (At f g (AsksSelector s ∷ k) v cs w)
+  pub quiet_selector : (s : SelectorTree) (k : List Task) (v : List Value) (n : ℤ) → peel_selector h s ≡ KnownSelector n →
+      R (At f g k (Integer n ∷ v) cs w) → R (At f g (AsksSelector s ∷ k) v cs w)
   quiet_selector (Selects e) k v n q r = cc
   quiet_selector (Pick l m s) k v n q r =
-      back (Pick l m s) k v tt (pick_quiet m s k v n (g l) (ap (λ y. cond y (KnownSelector m) (peel_selector h s)) (agree l) ∙ q) r (λ z. quiet_selector s k v n z r))
+      back (Pick l m s) k v tt (pick_quiet m s k v n (g l) (ap (λ y. cond y (KnownSelector m) (peel_selector h s)) (agree l) ∙ q) r
+      (λ z. quiet_selector s k v n z r))

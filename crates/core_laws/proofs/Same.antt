@@ -19,7 +19,8 @@ use Rattle.core_laws.proofs.Pairs.{count, ends, each, Pair, pairs}
 -- ---- starts
 
 -- two programs with the same variables of file scope
-pub same_world : (p q : Code) → ((m : List ℕ) → p.globals m ≡ q.globals m) → p.cells ≡ q.cells → (input : List ℕ) (answers : List ℤ) → world_at_start p input answers ≡ world_at_start q input answers
+pub same_world : (p q : Code) → ((m : List ℕ) → p.globals m ≡ q.globals m) → p.cells ≡ q.cells → (input : List ℕ) (answers : List ℤ) →
+    world_at_start p input answers ≡ world_at_start q input answers
 same_world p q e c input answers = ap₂ (λ s n. record { variables = s; calls = 0; cells = n; input = input; answers = answers; events = [] }) (fun_ext at) c
   where
     at : (o : Owner) → variables_at_start p o ≡ variables_at_start q o
@@ -36,7 +37,8 @@ core_body h = at h.body
     at (Some a) = refl
     at None = refl
 
-pub start_core : (p : Code) (m : List ℕ) (arguments : List ℤ) (input : List ℕ) (answers : List ℤ) → core_state (start p m arguments input answers) ≡ start (core_code p) m arguments input answers
+pub start_core : (p : Code) (m : List ℕ) (arguments : List ℤ) (input : List ℕ) (answers : List ℤ) →
+    core_state (start p m arguments input answers) ≡ start (core_code p) m arguments input answers
 start_core p m arguments input answers =
     let h = p.functions m in
     let w = world_at_start p input answers in
@@ -45,7 +47,8 @@ start_core p m arguments input answers =
     ∙ ap (λ u. begin_call m (items_of (core_function h)) (push (core_function h) (map Integer arguments) u) [] u) (sym (core_world p input answers))
 
 pub start_calm : (p : Code) (m : List ℕ) (arguments : List ℤ) (input : List ℕ) (answers : List ℤ) → Calm (start p m arguments input answers)
-start_calm p m arguments input answers = begin_calm m (items_of (p.functions m)) (push (p.functions m) (map Integer arguments) (world_at_start p input answers)) [] (world_at_start p input answers) tt
+start_calm p m arguments input answers = begin_calm m (items_of (p.functions m))
+    (push (p.functions m) (map Integer arguments) (world_at_start p input answers)) [] (world_at_start p input answers) tt
 
 some_core : (b : Option Forest) → IsSome b → IsSome (option_map body_core b)
 some_core (Some a) h = refl
@@ -84,15 +87,19 @@ module _ (p : Code) (Inv : State → Type 0) (law : Lawful p Inv) (H : State →
     -- both show the same where they meet
     meet : {N : ℕ} (b : Pair p N from (core_state from)) → shows (run p (count b.real) from) ≡ shows (run (core_code p) (count b.core_way) core_from)
     meet b =
-        ap shows (ends b.real) ∙ sym (shows_core b.upto) ∙ ap shows (sym (ends b.core_way)) ∙ ap (λ c. shows (run (core_code p) (count b.core_way) c)) (start_core p m arguments input answers)
+        ap shows (ends b.real) ∙ sym (shows_core b.upto) ∙ ap shows (sym (ends b.core_way)) ∙
+        ap (λ c. shows (run (core_code p) (count b.core_way) c)) (start_core p m arguments input answers)
 
     forth : (n : ℕ) → (i : ℕ) × Covers (jump_run p m arguments input answers n) (jump_run (core_code p) m arguments input answers i)
     forth n = let b = paired n in
         (count b.core_way, subst (λ z. Covers (jump_run p m arguments input answers n) z) (meet b) (run_grows p n (count b.real) from b.real_far))
 
     back : (n : ℕ) → (i : ℕ) × Covers (jump_run (core_code p) m arguments input answers n) (jump_run p m arguments input answers i)
-    back n = let b = paired n in
-        (count b.real, subst (λ z. Covers (jump_run (core_code p) m arguments input answers n) z) (sym (meet b)) (run_grows (core_code p) n (count b.core_way) core_from b.core_far))
+    back n = let b = paired n in (
+      count b.real,
+      subst (λ z. Covers (jump_run (core_code p) m arguments input answers n) z) (sym (meet b))
+          (run_grows (core_code p) n (count b.core_way) core_from b.core_far),
+    )
 
     -- each state that the run reaches is good
     pub all_good : (n : ℕ) → Good p (run p n from)
@@ -100,7 +107,8 @@ module _ (p : Code) (Inv : State → Type 0) (law : Lawful p Inv) (H : State →
 
     -- no state that the core's run reaches is at an Arm
     pub all_safe : (n : ℕ) → SafeAt (run (core_code p) n core_from)
-    all_safe n = let b = paired (suc n) in let h = b.core_far in subst (λ c. SafeAt (run (core_code p) n c)) (start_core p m arguments input answers) (each b.core_way n (omega arith))
+    all_safe n = let b = paired (suc n) in let h = b.core_far in subst (λ c. SafeAt (run (core_code p) n c)) (start_core p m arguments input answers)
+        (each b.core_way n (omega arith))
 
   pub as_core : SameBehaviour p (core_code p)
   as_core = record {

@@ -43,5 +43,6 @@ module _ (p : Code) where
   core_safe = record {
     later = λ c d r q h. later_all SafeAt q h;
     at_arm = λ l f g k v cs w h. jump_safe (task_way k l) l (task_core k) (h 0);
-    at_arms = λ l f g k v cs w e h. jump_safe (task_way k l) l (task_core k) (subst (λ b. IsNoArm (cond b (Runs (jump_if (task_way k l) l) ∷ task_core k) (task_core k))) e (h 1));
+    at_arms = λ l f g k v cs w e h. jump_safe (task_way k l) l (task_core k)
+        (subst (λ b. IsNoArm (cond b (Runs (jump_if (task_way k l) l) ∷ task_core k) (task_core k))) e (h 1));
   }

@@ -57,8 +57,10 @@ core_end true k = refl
 core_end false k = refl
 
 -- the list of a section, and what is behind it
-pub core_section : (a : Forest) (ends : Bool) (c : Sections) (k : List Task) → task_core (tail_tasks c k) ≡ tail_tasks (core_sections c (task_way k)) (task_core k)
-    → task_core (items a (end_of ends (tail_tasks c k))) ≡ items (core a (after_section ends c (task_way k))) (end_of ends (tail_tasks (core_sections c (task_way k)) (task_core k)))
+pub core_section : (a : Forest) (ends : Bool) (c : Sections) (k : List Task) →
+    task_core (tail_tasks c k) ≡ tail_tasks (core_sections c (task_way k)) (task_core k)
+    → task_core (items a (end_of ends (tail_tasks c k))) ≡ items (core a (after_section ends c (task_way k)))
+    (end_of ends (tail_tasks (core_sections c (task_way k)) (task_core k)))
 core_section a ends c k h =
     core_items a (end_of ends (tail_tasks c k))
     ∙ ap (λ w. items (core a w) (task_core (end_of ends (tail_tasks c k)))) (follow_section ends c k)

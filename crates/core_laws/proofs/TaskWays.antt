@@ -49,7 +49,8 @@ exit_tail : (l : ℕ) (c : Sections) (k : List Task) → exit_way (tail_tasks c 
 exit_tail l NoSection k = refl
 exit_tail l (Section cases default a ends c) k = exit_items l a (end_of ends (tail_tasks c k)) ∙ exit_end l ends (tail_tasks c k) ∙ exit_tail l c k
 
-end_tasks_way : (l : ℕ) (ends : Bool) (c : Sections) (k : List Task) → task_way (tail_tasks c k) l ≡ tail_way l c ▷ task_way k l → task_way (end_of ends (tail_tasks c k)) l ≡ end_way ends (tail_way l c) ▷ task_way k l
+end_tasks_way : (l : ℕ) (ends : Bool) (c : Sections) (k : List Task) → task_way (tail_tasks c k) l ≡ tail_way l c ▷ task_way k l →
+    task_way (end_of ends (tail_tasks c k)) l ≡ end_way ends (tail_way l c) ▷ task_way k l
 end_tasks_way l true c k h = exit_tail l c k
 end_tasks_way l false c k h = h
 

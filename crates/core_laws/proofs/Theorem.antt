@@ -77,7 +77,8 @@ alone l g s h x = at_x (g x) refl (eqb l x) refl
 set_here : (l : ℕ) (g : Guards) → with_guard l true g l ≡ true
 set_here l g = ap (λ b. cond b true (g l)) (eq-eqb l l refl)
 
-arm_led : (p : Code) (l : ℕ) (f : List ℕ) (g : Guards) (k : List Task) (v : List Value) (cs : List Frame) (w : World) → Plain k → IsSteadyState p (At f (with_guard l true g) k v cs w) → task_way k l ≡ Lands
+arm_led : (p : Code) (l : ℕ) (f : List ℕ) (g : Guards) (k : List Task) (v : List Value) (cs : List Frame) (w : World) → Plain k →
+    IsSteadyState p (At f (with_guard l true g) k v cs w) → task_way k l ≡ Lands
 arm_led p l f g k v cs w h st = led k h (alone l (with_guard l true g) st.0.single (set_here l g)) (st.0.leads l (set_here l g))
 
 sure_at : (p : Code) (c : State) → AllState (Here p) c → IsSteadyState p (step p c) → SureAt c
@@ -86,10 +87,12 @@ sure_at p (At f g (Arms l ∷ k) v cs w) h st =
     λ e. arm_led p l f g k (rest v) cs w h.0.1.0 (subst (λ b. IsSteadyState p (At f (with_guard l b g) k (rest v) cs w)) e st)
 sure_at p _ h st = tt
 
-pub real_sures : (p : Code) → Placed p → IsSteadyCode p → (m : List ℕ) (arguments : List ℤ) → IsEntry p m arguments → (input : List ℕ) (answers : List ℤ) → RealSure p (start p m arguments input answers)
+pub real_sures : (p : Code) → Placed p → IsSteadyCode p → (m : List ℕ) (arguments : List ℤ) → IsEntry p m arguments →
+    (input : List ℕ) (answers : List ℤ) → RealSure p (start p m arguments input answers)
 real_sures p b st m arguments e input answers i =
     let c = start p m arguments input answers in
-    sure_at p (run p i c) (all_run p b i c (all_start (Here p) p b.body m arguments input answers)) (subst (IsSteadyState p) (run_suc p i c) (st.at m arguments e input answers (suc i)))
+    sure_at p (run p i c) (all_run p b i c (all_start (Here p) p b.body m arguments input answers))
+    (subst (IsSteadyState p) (run_suc p i c) (st.at m arguments e input answers (suc i)))
 
 -- ---- good states are steady
 
@@ -100,7 +103,8 @@ record Lead (p : Code) (l : ℕ) (f : List ℕ) (cs : List Frame) (w : World) (c
   pub eventless : events_of (shows (run p steps c)) ≡ w.events
   pub landed : HasLanded p f cs l (run p steps c)
 
-one_more : (p : Code) (l : ℕ) (n : ℕ) (c : State) → IsSilent l c → ((i : ℕ) → i < n → IsSilent l (run p i (step p c))) → (i : ℕ) → i < suc n → IsSilent l (run p i c)
+one_more : (p : Code) (l : ℕ) (n : ℕ) (c : State) → IsSilent l c → ((i : ℕ) → i < n → IsSilent l (run p i (step p c))) → (i : ℕ) → i < suc n →
+    IsSilent l (run p i c)
 one_more p l n c q s zero h = q
 one_more p l n c q s (suc i) h = s i (omega arith)
 
@@ -132,11 +136,13 @@ calm_state p (HasTrapped t es) h = tt
 only_one : (l : ℕ) (g : Guards) → Agree g (only l) → AtMostOneSet g
 only_one l g ag a b p q = sym (eqb-true l a (sym (ag a) ∙ p)) ∙ eqb-true l b (sym (ag b) ∙ q)
 
-walking_call : (p : Code) (l : ℕ) (f : List ℕ) (g : Guards) (k : List Task) (u : List Value) (cs : List Frame) (w : World) → Agree g (only l) → (IsSourceTask k → ⊥) → Lead p l f cs w (At f g k u cs w) → IsSteadyCall p (At f g k u cs w) f g k cs
+walking_call : (p : Code) (l : ℕ) (f : List ℕ) (g : Guards) (k : List Task) (u : List Value) (cs : List Frame) (w : World) → Agree g (only l) →
+    (IsSourceTask k → ⊥) → Lead p l f cs w (At f g k u cs w) → IsSteadyCall p (At f g k u cs w) f g k cs
 walking_call p l f g k u cs w a n s = record {
   single = only_one l g a;
   reset = λ h. absurd (n h);
-  leads = λ m e. subst (λ m. LeadsTo p f cs m (At f g k u cs w)) (eqb-true l m (sym (a m) ∙ e)) (record { steps = s.steps; silent = s.silent; eventless = s.eventless; landed = s.landed });
+  leads = λ m e. subst (λ m. LeadsTo p f cs m (At f g k u cs w)) (eqb-true l m (sym (a m) ∙ e))
+      (record { steps = s.steps; silent = s.silent; eventless = s.eventless; landed = s.landed });
 }
 
 silent_no_source : (l : ℕ) (k : List Task) → IsSilentTask l k → IsSourceTask k → ⊥
@@ -150,7 +156,8 @@ silent_no_source l (Runs _ ∷ k) q h = q
 silent_no_source l (Works o ∷ k) q h = q
 silent_no_source l _ q h = h
 
-walking_state : (p : Code) (l : ℕ) (f : List ℕ) (v : List Value) (cs : List Frame) (w : World) {c : State} → CalmFrames cs → Walks p l f v cs w c → IsSteadyState p c
+walking_state : (p : Code) (l : ℕ) (f : List ℕ) (v : List Value) (cs : List Frame) (w : World) {c : State} → CalmFrames cs → Walks p l f v cs w c →
+    IsSteadyState p c
 walking_state p l f v cs w cf (landed g k a e) =
     (walking_call p l f g (Runs (Land l) ∷ k) v cs w a (λ h. h) (lead (landed g k a e)), calm_frames p (At f g (Runs (Land l) ∷ k) v cs w) cs cf)
 walking_state p l f v cs w cf (onward g k u a q r) =
@@ -161,30 +168,40 @@ good_steady p (calmly {c = c} h) = calm_state p c h
 good_steady p (walking l f v cs w cf s) = walking_state p l f v cs w cf s
 
 -- a program whose Arms all have ways that land is steady
-pub sure_steady : (p : Code) → Placed p → ((m : List ℕ) (arguments : List ℤ) → IsEntry p m arguments → (input : List ℕ) (answers : List ℤ) → RealSure p (start p m arguments input answers)) → IsSteadyCode p
+pub sure_steady : (p : Code) → Placed p → ((m : List ℕ) (arguments : List ℤ) → IsEntry p m arguments → (input : List ℕ) (answers : List ℤ) →
+    RealSure p (start p m arguments input answers)) → IsSteadyCode p
 sure_steady p b sures = record {
-  at = λ m arguments e input answers n. good_steady p (all_good p (AllState (Here p)) (lawful p b) (RealSure p) (real_sure p) (all_start (Here p) p b.body) sures m arguments e input answers n);
+  at = λ m arguments e input answers n. good_steady p (all_good p (AllState (Here p)) (lawful p b) (RealSure p) (real_sure p)
+      (all_start (Here p) p b.body) sures m arguments e input answers n);
 }
 
 -- ---- the theorem
 
 -- no run of the program meets an Arm
 abbrev pub MeetsNoArm : Code → Type 0
-MeetsNoArm p = (m : List ℕ) (arguments : List ℤ) → IsEntry p m arguments → (input : List ℕ) (answers : List ℤ) (n : ℕ) → SafeAt (run p n (start p m arguments input answers))
+MeetsNoArm p = (m : List ℕ) (arguments : List ℤ) → IsEntry p m arguments → (input : List ℕ) (answers : List ℤ) (n : ℕ) →
+    SafeAt (run p n (start p m arguments input answers))
 
 -- whatever keeps the behaviour of a core that meets no Arm, and the fact that it meets none, keeps that of the program
-pub between : (p q : Code) → Placed p → Placed q → (MeetsNoArm (core_code p) → SameBehaviour (core_code p) (core_code q)) → (MeetsNoArm (core_code p) → MeetsNoArm (core_code q)) → IsSteadyCode p → IsSteadyCode q × SameBehaviour p q
+pub between : (p q : Code) → Placed p → Placed q → (MeetsNoArm (core_code p) → SameBehaviour (core_code p) (core_code q)) →
+    (MeetsNoArm (core_code p) → MeetsNoArm (core_code q)) → IsSteadyCode p → IsSteadyCode q × SameBehaviour p q
 between p q b d same keep st =
     let starts_p = all_start (Here p) p b.body in
     let starts_q = all_start (Here q) q d.body in
     let sures_p = real_sures p b st in
     let same_p = as_core p (AllState (Here p)) (lawful p b) (RealSure p) (real_sure p) starts_p sures_p in
-    let safe_p : MeetsNoArm (core_code p) = λ m arguments e input answers. all_safe p (AllState (Here p)) (lawful p b) (RealSure p) (real_sure p) starts_p sures_p m arguments ((entry_core p m arguments).1 e) input answers in
+    let safe_p : MeetsNoArm (core_code p) = λ m arguments e input answers. all_safe p (AllState (Here p)) (lawful p b) (RealSure p) (real_sure p)
+    starts_p sures_p m arguments ((entry_core p m arguments).1 e) input answers in
     let safe_q = keep safe_p in
-    let sures_q : (m : List ℕ) (arguments : List ℤ) → IsEntry q m arguments → (input : List ℕ) (answers : List ℤ) → CoreSafe q (start q m arguments input answers) =
-    λ m arguments e input answers i. subst (λ c. SafeAt (run (core_code q) i c)) (sym (start_core q m arguments input answers)) (safe_q m arguments ((entry_core q m arguments).0 e) input answers i) in
+    let sures_q : (m : List ℕ) (arguments : List ℤ) → IsEntry q m arguments → (input : List ℕ) (answers : List ℤ) →
+    CoreSafe q (start q m arguments input answers) =
+    λ m arguments e input answers i. subst (λ c. SafeAt (run (core_code q) i c)) (sym (start_core q m arguments input answers))
+    (safe_q m arguments ((entry_core q m arguments).0 e) input answers i) in
     let same_q = as_core q (AllState (Here q)) (lawful q d) (CoreSafe q) (core_safe q) starts_q sures_q in (
-      record { at = λ m arguments e input answers n. good_steady q (all_good q (AllState (Here q)) (lawful q d) (CoreSafe q) (core_safe q) starts_q sures_q m arguments e input answers n) },
+      record {
+        at = λ m arguments e input answers n. good_steady q
+            (all_good q (AllState (Here q)) (lawful q d) (CoreSafe q) (core_safe q) starts_q sures_q m arguments e input answers n);
+      },
       same_trans p (core_code p) q same_p (same_trans (core_code p) (core_code q) q (same safe_p) (same_sym q (core_code q) same_q)),
     )
 

@@ -38,24 +38,30 @@ module _ (p : Code) (l : ℕ) (f : List ℕ) (cs : List Frame) (w : World) where
   abbrev asked : Peeled → List Task → List Value → Way
   asked q k v = on_peeled q Lost (value_way l k (Integer (pos 1) ∷ v)) (value_way l k (Integer (pos 0) ∷ v))
 
-  way_if : (q : Peeled) (t : TestTree) (a b : Forest) (k : List Task) (v : List Value) → asked (peel (only l) t) (Branches a b ∷ k) v ≡ Lands → peel (only l) t ≡ q → on_peeled q Lost (walks l a) (walks l b) ▷ value_way l k v ≡ Lands
+  way_if : (q : Peeled) (t : TestTree) (a b : Forest) (k : List Task) (v : List Value) → asked (peel (only l) t) (Branches a b ∷ k) v ≡ Lands →
+      peel (only l) t ≡ q → on_peeled q Lost (walks l a) (walks l b) ▷ value_way l k v ≡ Lands
   way_if (Ask e) t a b k v h q = ap (λ z. asked z (Branches a b ∷ k) v) (sym q) ∙ h
   way_if (Known true) t a b k v h q = ap (λ z. asked z (Branches a b ∷ k) v) (sym q) ∙ h
   way_if (Known false) t a b k v h q = ap (λ z. asked z (Branches a b ∷ k) v) (sym q) ∙ h
 
-  way_while : (q : Peeled) (t : TestTree) (a : Forest) (k : List Task) (v : List Value) → asked (peel (only l) t) (Turns (WhileLoop t a) ∷ k) v ≡ Lands → peel (only l) t ≡ q → on_peeled q Lost (walks l a ▷ Lost) Past ▷ value_way l k v ≡ Lands
+  way_while : (q : Peeled) (t : TestTree) (a : Forest) (k : List Task) (v : List Value) →
+      asked (peel (only l) t) (Turns (WhileLoop t a) ∷ k) v ≡ Lands → peel (only l) t ≡ q → on_peeled q Lost (walks l a ▷ Lost) Past ▷ value_way l k v ≡ Lands
   way_while (Ask e) t a k v h q = ap (λ z. asked z (Turns (WhileLoop t a) ∷ k) v) (sym q) ∙ h
   way_while (Known true) t a k v h q =
-      ap (λ r. r ▷ value_way l k v) (sym (again_lost (walks l a)) ∙ ap (λ z. walks l a ▷ on_peeled z Lost (walks l a ▷ Lost) Past) (sym q)) ∙ ap (λ z. asked z (Turns (WhileLoop t a) ∷ k) v) (sym q) ∙ h
+      ap (λ r. r ▷ value_way l k v) (sym (again_lost (walks l a)) ∙ ap (λ z. walks l a ▷ on_peeled z Lost (walks l a ▷ Lost) Past) (sym q)) ∙
+      ap (λ z. asked z (Turns (WhileLoop t a) ∷ k) v) (sym q) ∙ h
   way_while (Known false) t a k v h q = ap (λ z. asked z (Turns (WhileLoop t a) ∷ k) v) (sym q) ∙ h
 
-  way_do : (q : Peeled) (t : TestTree) (a : Forest) (k : List Task) (v : List Value) → asked (peel (only l) t) (Turns (DoLoop a t) ∷ k) v ≡ Lands → peel (only l) t ≡ q → on_peeled q Lost (walks l a ▷ Lost) Past ▷ value_way l k v ≡ Lands
+  way_do : (q : Peeled) (t : TestTree) (a : Forest) (k : List Task) (v : List Value) → asked (peel (only l) t) (Turns (DoLoop a t) ∷ k) v ≡ Lands →
+      peel (only l) t ≡ q → on_peeled q Lost (walks l a ▷ Lost) Past ▷ value_way l k v ≡ Lands
   way_do (Ask e) t a k v h q = ap (λ z. asked z (Turns (DoLoop a t) ∷ k) v) (sym q) ∙ h
   way_do (Known true) t a k v h q =
-      ap (λ r. r ▷ value_way l k v) (sym (again_lost (walks l a)) ∙ ap (λ z. walks l a ▷ on_peeled z Lost (walks l a ▷ Lost) Past) (sym q)) ∙ ap (λ z. asked z (Turns (DoLoop a t) ∷ k) v) (sym q) ∙ h
+      ap (λ r. r ▷ value_way l k v) (sym (again_lost (walks l a)) ∙ ap (λ z. walks l a ▷ on_peeled z Lost (walks l a ▷ Lost) Past) (sym q)) ∙
+      ap (λ z. asked z (Turns (DoLoop a t) ∷ k) v) (sym q) ∙ h
   way_do (Known false) t a k v h q = ap (λ z. asked z (Turns (DoLoop a t) ∷ k) v) (sym q) ∙ h
 
-  way_switch : (q : PeeledSelector) (s : SelectorTree) (c : Sections) (k : List Task) (v : List Value) → value_way l (AsksSelector s ∷ Enters (switch_kind s) c ∷ k) v ≡ Lands → peel_selector (only l) s ≡ q
+  way_switch : (q : PeeledSelector) (s : SelectorTree) (c : Sections) (k : List Task) (v : List Value) →
+      value_way l (AsksSelector s ∷ Enters (switch_kind s) c ∷ k) v ≡ Lands → peel_selector (only l) s ≡ q
       → on_selector q Lost (λ n. first_of_three (section_way l (ToCase (switch_kind s) n) c) (section_way l ToDefault c) Past) ▷ value_way l k v ≡ Lands
   way_switch (AskSelector e) s c k v h q = ap (λ z. on_selector z Lost (λ n. value_way l (Enters (switch_kind s) c ∷ k) (Integer n ∷ v))) (sym q) ∙ h
   way_switch (KnownSelector n) s c k v h q = ap (λ z. on_selector z Lost (λ n. value_way l (Enters (switch_kind s) c ∷ k) (Integer n ∷ v))) (sym q) ∙ h
@@ -64,24 +70,29 @@ module _ (p : Code) (l : ℕ) (f : List ℕ) (cs : List Frame) (w : World) where
   known_way true k v = refl
   known_way false k v = refl
 
-  way_and : (y : Bool) (t : TestTree) (g : Guards) (k : List Task) (v : List Value) → state_way l (move p (cond y (Yields (pos 0) k) (Goes (Asks t ∷ k))) f g v cs w) ≡ Lands → asked (cond y (Known false) (peel (only l) t)) k v ≡ Lands
+  way_and : (y : Bool) (t : TestTree) (g : Guards) (k : List Task) (v : List Value) →
+      state_way l (move p (cond y (Yields (pos 0) k) (Goes (Asks t ∷ k))) f g v cs w) ≡ Lands → asked (cond y (Known false) (peel (only l) t)) k v ≡ Lands
   way_and true t g k v h = h
   way_and false t g k v h = h
 
-  way_or : (y : Bool) (t : TestTree) (g : Guards) (k : List Task) (v : List Value) → state_way l (move p (cond y (Yields (pos 1) k) (Goes (Asks t ∷ k))) f g v cs w) ≡ Lands → asked (cond y (Known true) (peel (only l) t)) k v ≡ Lands
+  way_or : (y : Bool) (t : TestTree) (g : Guards) (k : List Task) (v : List Value) →
+      state_way l (move p (cond y (Yields (pos 1) k) (Goes (Asks t ∷ k))) f g v cs w) ≡ Lands → asked (cond y (Known true) (peel (only l) t)) k v ≡ Lands
   way_or true t g k v h = h
   way_or false t g k v h = h
 
-  way_pick : (y : Bool) (n : ℤ) (s : SelectorTree) (g : Guards) (k : List Task) (v : List Value) → state_way l (move p (cond y (Yields n k) (Goes (AsksSelector s ∷ k))) f g v cs w) ≡ Lands
+  way_pick : (y : Bool) (n : ℤ) (s : SelectorTree) (g : Guards) (k : List Task) (v : List Value) →
+      state_way l (move p (cond y (Yields n k) (Goes (AsksSelector s ∷ k))) f g v cs w) ≡ Lands
       → on_selector (cond y (KnownSelector n) (peel_selector (only l) s)) Lost (λ n. value_way l k (Integer n ∷ v)) ≡ Lands
   way_pick true n s g k v h = h
   way_pick false n s g k v h = h
 
-  way_leap : (y : Bool) (m : ℕ) (g : Guards) (k : List Task) (v : List Value) → state_way l (move p (cond y (Goes (find m (body_in p f))) (Goes k)) f g v cs w) ≡ Lands → cond y Lands Past ▷ value_way l k v ≡ Lands
+  way_leap : (y : Bool) (m : ℕ) (g : Guards) (k : List Task) (v : List Value) →
+      state_way l (move p (cond y (Goes (find m (body_in p f))) (Goes k)) f g v cs w) ≡ Lands → cond y Lands Past ▷ value_way l k v ≡ Lands
   way_leap true m g k v h = refl
   way_leap false m g k v h = h
 
-  way_branches : (b : Bool) (x y : Forest) (k : List Task) (v : List Value) → value_way l (cond b (items x k) (items y k)) v ≡ Lands → cond b (walks l x) (walks l y) ▷ value_way l k v ≡ Lands
+  way_branches : (b : Bool) (x y : Forest) (k : List Task) (v : List Value) → value_way l (cond b (items x k) (items y k)) v ≡ Lands →
+      cond b (walks l x) (walks l y) ▷ value_way l k v ≡ Lands
   way_branches true x y k v h = sym (items_value l x k v) ∙ h
   way_branches false x y k v h = sym (items_value l y k v) ∙ h
 
@@ -90,7 +101,8 @@ module _ (p : Code) (l : ℕ) (f : List ℕ) (cs : List Frame) (w : World) where
   way_turn (DoLoop a t) k v h = h
   way_turn (ForLoop t u a) k v h = way_assoc (walks l a) Lost (value_way l k v) ∙ sym (items_value l a (Loops (ForLoop t u a) ∷ k) v) ∙ h
 
-  way_turns : (b : Bool) (x : Loop) (k : List Task) (v : List Value) → value_way l (cond b (turn x k) k) v ≡ Lands → cond b (turn_way l x) Past ▷ value_way l k v ≡ Lands
+  way_turns : (b : Bool) (x : Loop) (k : List Task) (v : List Value) → value_way l (cond b (turn x k) k) v ≡ Lands →
+      cond b (turn_way l x) Past ▷ value_way l k v ≡ Lands
   way_turns true x k v h = way_turn x k v h
   way_turns false x k v h = h
 
@@ -98,20 +110,25 @@ module _ (p : Code) (l : ℕ) (f : List ℕ) (cs : List Frame) (w : World) where
   way_for t None a k v h = h
   way_for t (Some e) a k v h = h
 
-  one_back : (g : Guards) (k : List Task) (v : List Value) → Agree g (only l) → IsSilentTask l k → state_way l (step p (At f g k v cs w)) ≡ Lands → value_way l k v ≡ Lands
+  one_back : (g : Guards) (k : List Task) (v : List Value) → Agree g (only l) → IsSilentTask l k → state_way l (step p (At f g k v cs w)) ≡ Lands →
+      value_way l k v ≡ Lands
   one_back g (Runs (If t a b) ∷ k) v ag q h = way_if (peel (only l) t) t a b k v h refl
   one_back g (Runs (While t a) ∷ k) v ag q h = way_while (peel (only l) t) t a k v h refl
   one_back g (Runs (Do a t) ∷ k) v ag q h = way_assoc (walks l a) (do_end_way l a t) (value_way l k v) ∙ sym (items_value l a (Loops (DoLoop a t) ∷ k) v) ∙ h
   one_back g (Runs (Switch s c) ∷ k) v ag q h = way_switch (peel_selector (only l) s) s c k v h refl
-  one_back g (Runs (Leap m) ∷ k) v ag q h = way_leap (only l m) m g k v (ap (λ y. state_way l (move p (cond y (Goes (find m (body_in p f))) (Goes k)) f g v cs w)) (sym (ag m)) ∙ h)
+  one_back g (Runs (Leap m) ∷ k) v ag q h = way_leap (only l m) m g k v
+      (ap (λ y. state_way l (move p (cond y (Goes (find m (body_in p f))) (Goes k)) f g v cs w)) (sym (ag m)) ∙ h)
   one_back g (Runs (Land m) ∷ k) v ag q h = ap (λ y. cond y Lands Past ▷ value_way l k v) (ne_eqb l m q) ∙ h
   one_back g (Asks (Source e) ∷ k) v ag q h = absurd q
   one_back g (Asks (On m) ∷ k) v ag q h = known_way (only l m) k v ∙ ap (λ y. value_way l k (Integer (truth y) ∷ v)) (sym (ag m)) ∙ h
   one_back g (Asks (Off m) ∷ k) v ag q h = known_way (not (only l m)) k v ∙ ap (λ y. value_way l k (Integer (truth (not y)) ∷ v)) (sym (ag m)) ∙ h
-  one_back g (Asks (AndOff m t) ∷ k) v ag q h = way_and (only l m) t g k v (ap (λ y. state_way l (move p (cond y (Yields (pos 0) k) (Goes (Asks t ∷ k))) f g v cs w)) (sym (ag m)) ∙ h)
-  one_back g (Asks (OrOn m t) ∷ k) v ag q h = way_or (only l m) t g k v (ap (λ y. state_way l (move p (cond y (Yields (pos 1) k) (Goes (Asks t ∷ k))) f g v cs w)) (sym (ag m)) ∙ h)
+  one_back g (Asks (AndOff m t) ∷ k) v ag q h = way_and (only l m) t g k v
+      (ap (λ y. state_way l (move p (cond y (Yields (pos 0) k) (Goes (Asks t ∷ k))) f g v cs w)) (sym (ag m)) ∙ h)
+  one_back g (Asks (OrOn m t) ∷ k) v ag q h = way_or (only l m) t g k v
+      (ap (λ y. state_way l (move p (cond y (Yields (pos 1) k) (Goes (Asks t ∷ k))) f g v cs w)) (sym (ag m)) ∙ h)
   one_back g (AsksSelector (Selects e) ∷ k) v ag q h = absurd q
-  one_back g (AsksSelector (Pick m n s) ∷ k) v ag q h = way_pick (only l m) n s g k v (ap (λ y. state_way l (move p (cond y (Yields n k) (Goes (AsksSelector s ∷ k))) f g v cs w)) (sym (ag m)) ∙ h)
+  one_back g (AsksSelector (Pick m n s) ∷ k) v ag q h = way_pick (only l m) n s g k v
+      (ap (λ y. state_way l (move p (cond y (Yields n k) (Goes (AsksSelector s ∷ k))) f g v cs w)) (sym (ag m)) ∙ h)
   one_back g (EndsSection ∷ k) v ag q h = past_cut l k v ∙ h
   one_back g (Branches a b ∷ k) v ag q h = way_branches (holds (top v)) a b k (rest v) h
   one_back g (Turns x ∷ k) v ag q h = way_turns (holds (top v)) x k (rest v) h
@@ -166,7 +183,8 @@ landed_way : (p : Code) (m : List ℕ) (ds : List Frame) (l : ℕ) (c : State) �
 landed_way p m ds l (At f g (Runs (Land n) ∷ k) v cs w) h = ap (λ y. cond y Lands Past ▷ value_way l k v) (eq-eqb l n (sym h.2))
 landed_way p m ds l _ h = absurd h
 
-lead_way : (p : Code) (m : List ℕ) (ds : List Frame) (l : ℕ) (n : ℕ) (c : State) → AgreesAt l c → ((i : ℕ) → i < n → IsSilent l (run p i c)) → HasLanded p m ds l (run p n c) → state_way l c ≡ Lands
+lead_way : (p : Code) (m : List ℕ) (ds : List Frame) (l : ℕ) (n : ℕ) (c : State) → AgreesAt l c → ((i : ℕ) → i < n → IsSilent l (run p i c)) →
+    HasLanded p m ds l (run p n c) → state_way l c ≡ Lands
 lead_way p m ds l zero c ag s h = landed_way p m ds l c h
 lead_way p m ds l (suc n) (At f g k v cs w) ag s h =
     let q = s 0 (omega arith) in
@@ -194,5 +212,7 @@ mutual
   plain_past l (_ ∷ k) v h = absurd h
 
 -- the way of a guard that leads to its Land, where items alone are to come
-pub led : {p : Code} {m : List ℕ} {ds : List Frame} {l : ℕ} {f : List ℕ} {g : Guards} (k : List Task) {v : List Value} {cs : List Frame} {w : World} → Plain k → Agree g (only l) → LeadsTo p m ds l (At f g k v cs w) → task_way k l ≡ Lands
-led {p = p} {m = m} {ds = ds} {l = l} {f = f} {g = g} k {v = v} {cs = cs} {w = w} h ag s = sym (plain_value l k v h) ∙ lead_way p m ds l s.steps (At f g k v cs w) ag s.silent s.landed
+pub led : {p : Code} {m : List ℕ} {ds : List Frame} {l : ℕ} {f : List ℕ} {g : Guards} (k : List Task) {v : List Value} {cs : List Frame} {w : World} →
+    Plain k → Agree g (only l) → LeadsTo p m ds l (At f g k v cs w) → task_way k l ≡ Lands
+led {p = p} {m = m} {ds = ds} {l = l} {f = f} {g = g} k {v = v} {cs = cs} {w = w} h ag s =
+    sym (plain_value l k v h) ∙ lead_way p m ds l s.steps (At f g k v cs w) ag s.silent s.landed

@@ -52,7 +52,8 @@ mutual
   -- the sections of two switches are
   pub data LeSections : Sections → Sections → Type 0 where
     le_no_section : LeSections NoSection NoSection
-    le_section : (cases : List ExpressionTree) (default ends : Bool) {a a' : Forest} {c c' : Sections} → LeAll a a' → LeSections c c' → LeSections (Section cases default a ends c) (Section cases default a' ends c')
+    le_section : (cases : List ExpressionTree) (default ends : Bool) {a a' : Forest} {c c' : Sections} → LeAll a a' → LeSections c c' →
+        LeSections (Section cases default a ends c) (Section cases default a' ends c')
 
 -- two functions have no body, or bodies that are
 pub data LeBody : Option Forest → Option Forest → Type 0 where

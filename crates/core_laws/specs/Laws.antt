@@ -22,4 +22,5 @@ HasMadeBodies p = (m : List ℕ) → IsMadeBody (items_of (p.functions m))
 -- where a program is steady, one whose cores are the same, but for Arms that are gotos, is steady too and behaves the same
 pub record CoreLaws : Type 0 where
   pub of_codes : (p q : Code) → HasMadeBodies p → HasMadeBodies q → LeCode (core_code p) (core_code q) → IsSteadyCode p → IsSteadyCode q × SameBehaviour p q
-  pub of_programs : (p q : Program) → IsProgramInRange q → All IsTopMadeWell q.tops → LeCode (core_code (code_of p)) (core_code (code_of q)) → IsSteady p → IsSteady q × BehaveTheSame p q
+  pub of_programs : (p q : Program) → IsProgramInRange q → All IsTopMadeWell q.tops → LeCode (core_code (code_of p)) (core_code (code_of q)) →
+      IsSteady p → IsSteady q × BehaveTheSame p q

@@ -76,7 +76,8 @@ abbrev mutual
   walk l (If t a b) = on_peeled (peel (only l) t) Lost (walks l a) (walks l b)
   walk l (While t a) = on_peeled (peel (only l) t) Lost (walks l a ▷ Lost) Past
   walk l (Do a t) = walks l a ▷ on_peeled (peel (only l) t) Lost (walks l a ▷ Lost) Past
-  walk l (Switch s c) = on_selector (peel_selector (only l) s) Lost (λ n. first_of_three (section_way l (ToCase (switch_kind s) n) c) (section_way l ToDefault c) Past)
+  walk l (Switch s c) = on_selector (peel_selector (only l) s) Lost
+      (λ n. first_of_three (section_way l (ToCase (switch_kind s) n) c) (section_way l ToDefault c) Past)
   walk l (Leap m) = cond (eqb l m) Lands Past
   walk l (Land m) = cond (eqb l m) Lands Past
   walk l _ = Lost
@@ -89,7 +90,8 @@ abbrev mutual
   -- from the section on that has the case or the default, if one has
   pub section_way : ℕ → Goal → Sections → Option Way
   section_way l goal NoSection = None
-  section_way l goal (Section cases default a ends c) = cond (is_section_goal goal cases default) (Some (walks l a ▷ end_way ends (tail_way l c))) (section_way l goal c)
+  section_way l goal (Section cases default a ends c) = cond (is_section_goal goal cases default) (Some (walks l a ▷ end_way ends (tail_way l c)))
+      (section_way l goal c)
 
 -- from the end of the list of a `do` on
 abbrev pub do_end_way : ℕ → Forest → TestTree → Way

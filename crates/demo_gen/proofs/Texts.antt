@@ -19,5 +19,6 @@ one_call a b c k e f = f ∙ ap (λ xs. xs ++ call_text k) e ∙ append_assoc a 
 
 pub call_line : (a b c d : List ℕ) (k : ℕ) → b ≡ a ++ codes "    t = t + f" → c ≡ b ++ decimal k → d ≡ c ++ codes "(3);\n" → d ≡ a ++ call_text k
 call_line a b c d k e f g =
-    g ∙ ap (λ xs. xs ++ codes "(3);\n") (f ∙ ap (λ xs. xs ++ decimal k) e) ∙ ap (λ xs. xs ++ codes "(3);\n") (append_assoc a (codes "    t = t + f") (decimal k))
+    g ∙ ap (λ xs. xs ++ codes "(3);\n") (f ∙ ap (λ xs. xs ++ decimal k) e) ∙
+    ap (λ xs. xs ++ codes "(3);\n") (append_assoc a (codes "    t = t + f") (decimal k))
     ∙ append_assoc a (codes "    t = t + f" ++ decimal k) (codes "(3);\n")

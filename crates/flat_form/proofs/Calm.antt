@@ -18,7 +18,8 @@ FormBy used taken f form o = elim o [ None ↦ form ≡ Same | Some body ↦ IsB
 abbrev jumps_by : Option (List Item) → Bool
 jumps_by o = elim o [ None ↦ false | Some body ↦ has_jumps (trees_of body) ]
 
-pub calm_flattened : (used taken : List (List ℕ)) (f : Function) (body new : List Item) (labels : List (List ℕ)) → f.body ≡ Some body → jumps_in f ≡ false → trees_of new ≡ unlabelled (trees_of body) → labels ≡ []
+pub calm_flattened : (used taken : List (List ℕ)) (f : Function) (body new : List Item) (labels : List (List ℕ)) → f.body ≡ Some body →
+    jumps_in f ≡ false → trees_of new ≡ unlabelled (trees_of body) → labels ≡ []
     → IsFlattenedBeside used taken f (record f { labels = labels; body = Some new })
 calm_flattened used taken f body new labels e h made none = record {
   form = Calm new;
@@ -26,13 +27,19 @@ calm_flattened used taken f body new labels e h made none = record {
   whole = ap (λ (z : List (List ℕ)). record f { labels = z; body = Some new }) none;
 }
 
-pub prototype_flattened : (used taken : List (List ℕ)) (f : Function) (o : Option (List Item)) → f.body ≡ None → o ≡ None → IsFlattenedBeside used taken f (record f { body = o })
+pub prototype_flattened : (used taken : List (List ℕ)) (f : Function) (o : Option (List Item)) → f.body ≡ None → o ≡ None →
+    IsFlattenedBeside used taken f (record f { body = o })
 prototype_flattened used taken f o e none = record {
   form = Same;
   is = subst (FormBy used taken f Same) (sym e) refl;
   whole = ap (λ (z : Option (List Item)). record f { body = z }) (none ∙ sym e);
 }
 
-pub flat_flattened : (used taken : List (List ℕ)) (f g : Function) (o : Option Made) (made : Made) → o ≡ Some made → IfSome o (λ m. IsFormBeside used taken f (Flat m)) → g ≡ applied (Flat made) f
+pub flat_flattened : (used taken : List (List ℕ)) (f g : Function) (o : Option Made) (made : Made) → o ≡ Some made →
+    IfSome o (λ m. IsFormBeside used taken f (Flat m)) → g ≡ applied (Flat made) f
     → IsFlattenedBeside used taken f g
-flat_flattened used taken f g o made e h whole = record { form = Flat made; is = subst (λ z. IfSome z (λ m. IsFormBeside used taken f (Flat m))) e h; whole = whole }
+flat_flattened used taken f g o made e h whole = record {
+  form = Flat made;
+  is = subst (λ z. IfSome z (λ m. IsFormBeside used taken f (Flat m))) e h;
+  whole = whole;
+}

@@ -16,7 +16,8 @@ labels_gone : (a : Forest) → kept false (each_inside false a) ≡ unlabelled a
 labels_gone Nil = refl
 labels_gone (Then x xs) = by x (labels_gone xs)
   where
-    by : (x : Tree) → kept false (each_inside false xs) ≡ unlabelled xs → kept false (Then (inside false x) (each_inside false xs)) ≡ join (unlabelled_item x) (unlabelled xs)
+    by : (x : Tree) → kept false (each_inside false xs) ≡ unlabelled xs →
+        kept false (Then (inside false x) (each_inside false xs)) ≡ join (unlabelled_item x) (unlabelled xs)
     by (Mark l) e = e
     by (If t a b) e = ap (Then (inside false (If t a b))) e
     by (While t a) e = ap (Then (inside false (While t a))) e
@@ -30,7 +31,8 @@ strays_gone : (a : Forest) → kept true (each_inside true a) ≡ without_strays
 strays_gone Nil = refl
 strays_gone (Then x xs) = by x (strays_gone xs)
   where
-    by : (x : Tree) → kept true (each_inside true xs) ≡ without_strays xs → kept true (Then (inside true x) (each_inside true xs)) ≡ join (without_stray x) (without_strays xs)
+    by : (x : Tree) → kept true (each_inside true xs) ≡ without_strays xs →
+        kept true (Then (inside true x) (each_inside true xs)) ≡ join (without_stray x) (without_strays xs)
     by (Arrival e) g = g
     by (If t a b) e = ap (Then (inside true (If t a b))) e
     by (While t a) e = ap (Then (inside true (While t a))) e
@@ -52,7 +54,8 @@ kept_items strays (x ∷ xs) = by (goes strays (tree_at x)) (kept_items strays x
     left : List Item
     left = filter (λ x. not (goes strays (tree_at x))) xs
 
-    by : (b : Bool) → trees_of left ≡ kept strays (trees_of xs) → trees_of (cond (not b) (x ∷ left) left) ≡ cond b (kept strays (trees_of xs)) (Then (tree_at x) (kept strays (trees_of xs)))
+    by : (b : Bool) → trees_of left ≡ kept strays (trees_of xs) → trees_of (cond (not b) (x ∷ left) left) ≡ cond b (kept strays (trees_of xs))
+        (Then (tree_at x) (kept strays (trees_of xs)))
     by true e = e
     by false e = trees-first x left ∙ ap (Then (tree_at x)) e
 
@@ -60,4 +63,5 @@ kept_items strays (x ∷ xs) = by (goes strays (tree_at x)) (kept_items strays x
 pub refilled_same : (old lent new : List Item) → lent ≡ old → length new ≡ length lent → refilled old new ≡ new
 refilled_same old lent new e h =
     let same : length new ≡ length old = h ∙ ap length e in
-    ap (λ z. take (length old) (new ++ z)) (drop_all (length new) old (omega (arith, same))) ∙ ap (take (length old)) (append-nil new) ∙ take_all (length old) new (omega (arith, same))
+    ap (λ z. take (length old) (new ++ z)) (drop_all (length new) old (omega (arith, same))) ∙ ap (take (length old)) (append-nil new) ∙
+    take_all (length old) new (omega (arith, same))

@@ -123,7 +123,8 @@ labels_first named ls = first_ones named [] ls ∙ (λ i. labels_named (λ m. al
 -- ---- the loop
 
 pub labels_step : (named : ℕ → Bool) (ls : List ℕ) (i : ℕ) → i < length ls
-    → labels_from named ls i (drop i ls) ≡ cond (named (get_or ls i 0) && (place_in ls (get_or ls i 0) == i)) 1 0 + labels_from named ls (i + 1) (drop (i + 1) ls)
+    → labels_from named ls i (drop i ls) ≡ cond (named (get_or ls i 0) && (place_in ls (get_or ls i 0) == i)) 1 0 + labels_from named ls (i + 1)
+    (drop (i + 1) ls)
 labels_step named ls i h =
     ap (labels_from named ls i) (drop-cons ls i 0 h)
     ∙ ap (λ j. cond (named (get_or ls i 0) && (place_in ls (get_or ls i 0) == i)) 1 0 + labels_from named ls (i + 1) (drop j ls)) (sym (add-one i))

@@ -20,7 +20,8 @@ shifted : (c n : ℕ) (o : Option ℕ) → option_map_or (λ n. n) (option_map s
 shifted c n None = omega arith
 shifted c n (Some p) = refl
 
-first : (y : Bool) (c n : ℕ) (o : Option ℕ) (m : ℕ) → option_map_or (λ n. n) o (c + n) ≡ m → option_map_or (λ n. n) (cond y (Some 0) (option_map suc o)) (c + suc n) ≡ cond y 0 (suc m)
+first : (y : Bool) (c n : ℕ) (o : Option ℕ) (m : ℕ) → option_map_or (λ n. n) o (c + n) ≡ m →
+    option_map_or (λ n. n) (cond y (Some 0) (option_map suc o)) (c + suc n) ≡ cond y 0 (suc m)
 first true c n o m e = refl
 first false c n o m e = shifted c n o ∙ ap suc e
 
@@ -28,7 +29,8 @@ pub place_is : (ms : List ℕ) (c : ℕ) → option_map_or (λ n. n) (place_if m
 place_is [] c = omega arith
 place_is (m ∷ ms) c = first (eqb m c) c (length ms) (place_if ms c) (place_in ms c) (place_is ms c)
 
-later : (o : Option ℕ) (y : Bool) (n : ℕ) → (z : Option ℕ) → z ≡ cond y (Some n) None → option_map suc (option_or o z) ≡ option_or (option_map suc o) (cond y (Some (suc n)) None)
+later : (o : Option ℕ) (y : Bool) (n : ℕ) → (z : Option ℕ) → z ≡ cond y (Some n) None →
+    option_map suc (option_or o z) ≡ option_or (option_map suc o) (cond y (Some (suc n)) None)
 later None true n z e = ap (option_map suc) e
 later None false n z e = ap (option_map suc) e
 later (Some p) y n z e = refl
@@ -37,7 +39,8 @@ with_is : (o : Option ℕ) (d p c : ℕ) → with_place o d p c ≡ option_or o 
 with_is None d p c = refl
 with_is (Some q) d p c = refl
 
-pushed : (y : Bool) (a o : Option ℕ) (m n c : ℕ) → a ≡ with_place o m n c → cond y (Some 0) (option_map suc a) ≡ with_place (cond y (Some 0) (option_map suc o)) m (suc n) c
+pushed : (y : Bool) (a o : Option ℕ) (m n c : ℕ) → a ≡ with_place o m n c →
+    cond y (Some 0) (option_map suc a) ≡ with_place (cond y (Some 0) (option_map suc o)) m (suc n) c
 pushed true a o m n c e = refl
 pushed false a o m n c e =
     ap (option_map suc) (e ∙ with_is o m n c) ∙ later o (eqb m c) n (cond (eqb m c) (Some n) None) refl ∙ sym (with_is (option_map suc o) m (suc n) c)
@@ -51,11 +54,13 @@ place_push [] m c = none_yet (eqb m c)
 place_push (x ∷ xs) m c = pushed (eqb x c) (place_if (xs ++ m ∷ []) c) (place_if xs c) m (length xs) c (place_push xs m c)
 
 -- an entry where there was none
-pub enter_none : (t : List (Option ℕ)) (d p : ℕ) → d < length t → get_or t d None ≡ None → (c : ℕ) → get_or (set t d (Some p)) c None ≡ with_place (get_or t c None) d p c
+pub enter_none : (t : List (Option ℕ)) (d p : ℕ) → d < length t → get_or t d None ≡ None → (c : ℕ) →
+    get_or (set t d (Some p)) c None ≡ with_place (get_or t c None) d p c
 enter_none t d p h e c = elim (eqb d c) as (λ y. eqb d c ≡ y → get_or (set t d (Some p)) c None ≡ with_place (get_or t c None) d p c) [
   | true ↦ λ q.
       let s : d ≡ c = eqb-true d c q in
-      ap (λ x. get_or (set t d (Some p)) x None) (sym s) ∙ get_or-set_same t d (Some p) None h ∙ sym (ap (λ x. with_place (get_or t x None) d p x) (sym s) ∙ ap (λ o. with_place o d p d) e ∙ ap (λ y. cond y (Some p) None) (eq-eqb d d refl))
+      ap (λ x. get_or (set t d (Some p)) x None) (sym s) ∙ get_or-set_same t d (Some p) None h ∙
+      sym (ap (λ x. with_place (get_or t x None) d p x) (sym s) ∙ ap (λ o. with_place o d p d) e ∙ ap (λ y. cond y (Some p) None) (eq-eqb d d refl))
   | false ↦ λ q.
       get_or-set_other t d c (Some p) None (λ s. eqb-false d c q (sym s)) ∙ sym (kept (get_or t c None) d p c q)
 ] refl where

@@ -13,7 +13,8 @@ use Rattle.flat_questions.specs.Reading.{is_flagged}
 use Rattle.flat_items.specs.declared.plans.Plan as L
 use Rattle.flat_items.specs.Plans.{number_at, plan_of}
 
-plan_equal : {a a' : ℕ → Bool} {b b' c c' d d' e e' f f' : ℕ → ℕ} {g g' : List Slot} {n n' : IntKind → ℤ → ExpressionTree} → a ≡ a' → b ≡ b' → c ≡ c' → d ≡ d' → e ≡ e' → f ≡ f' → g ≡ g' → n ≡ n'
+plan_equal : {a a' : ℕ → Bool} {b b' c c' d d' e e' f f' : ℕ → ℕ} {g g' : List Slot} {n n' : IntKind → ℤ → ExpressionTree} → a ≡ a' → b ≡ b' →
+    c ≡ c' → d ≡ d' → e ≡ e' → f ≡ f' → g ≡ g' → n ≡ n'
     → (let p : Plan = record { live = a; source = b; break_label = c; continue_label = d; default_label = e; case_label = f; slots = g; number = n } in p)
     ≡ record { live = a'; source = b'; break_label = c'; continue_label = d'; default_label = e'; case_label = f'; slots = g'; number = n' }
 plan_equal a b c d e f g h = cc

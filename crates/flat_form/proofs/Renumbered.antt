@@ -29,7 +29,8 @@ module _ (change : Tree → Tree) (all : Forest → Forest) (none : all Nil ≡ 
       ∙ sym (ap all (trees-first x xs) ∙ more (tree_at x) (trees_of xs))
 
 -- and sections so
-module _ (all : Sections → Sections) (none : all NoSection ≡ NoSection) (more : (c : Real.Section) (d : Sections) → all (before c d) ≡ behind (all (alone c)) (all d)) where
+module _ (all : Sections → Sections) (none : all NoSection ≡ NoSection)
+    (more : (c : Real.Section) (d : Sections) → all (before c d) ≡ behind (all (alone c)) (all d)) where
   pub sections_done : (xs ys : List Real.Section) → length ys ≡ length xs
       → ((k : ℕ) (d : Real.Section) → k < length ys → alone (get_or ys k d) ≡ all (alone (get_or xs k d)))
       → sections_of ys ≡ all (sections_of xs)

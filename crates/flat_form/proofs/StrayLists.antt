@@ -18,10 +18,13 @@ empty_right (x ∷ xs) ys h = cc
 mutual
   none_stray : (a : Forest) → is_empty (arrivals a) ≡ true → without_strays a ≡ a
   none_stray Nil h = refl
-  none_stray (Then x a) h = none_behind x (without_strays a) (empty_left (arrivals_in x) (arrivals a) h) ∙ ap (Then x) (none_stray a (empty_right (arrivals_in x) (arrivals a) h))
+  none_stray (Then x a) h = none_behind x (without_strays a) (empty_left (arrivals_in x) (arrivals a) h) ∙
+      ap (Then x) (none_stray a (empty_right (arrivals_in x) (arrivals a) h))
 
   none_behind : (x : Tree) (b : Forest) → is_empty (arrivals_in x) ≡ true → join (without_stray x) b ≡ Then x b
-  none_behind (If t c d) b h = let k = none_stray c (empty_left (arrivals c) (arrivals d) h) in let l = none_stray d (empty_right (arrivals c) (arrivals d) h) in λ i. Then (If t (k i) (l i)) b
+  none_behind (If t c d) b h = let k = none_stray c (empty_left (arrivals c) (arrivals d) h) in let l =
+      none_stray d
+      (empty_right (arrivals c) (arrivals d) h) in λ i. Then (If t (k i) (l i)) b
   none_behind (While t c) b h = λ i. Then (While t (none_stray c h i)) b
   none_behind (Do c t) b h = λ i. Then (Do (none_stray c h i) t) b
   none_behind (For first t u c) b h = λ i. Then (For first t u (none_stray c h i)) b
@@ -36,6 +39,7 @@ is_true false h = cc
 pub none_stray_counts : (a : Forest) → not (is_empty (arrivals a)) ≡ false → bound_counts a ≡ flat_counts a
 none_stray_counts a h = ap bound_counts (sym (none_stray a (is_true (is_empty (arrivals a)) h)))
 
-pub none_stray_answer : {E : Type 0} (r : Result (Option (ℕ × ℕ)) E) (a : Forest) → not (is_empty (arrivals a)) ≡ false → IfOk r (λ it. it ≡ bound_counts a) → IfOk r (λ it. it ≡ flat_counts a)
+pub none_stray_answer : {E : Type 0} (r : Result (Option (ℕ × ℕ)) E) (a : Forest) → not (is_empty (arrivals a)) ≡ false →
+    IfOk r (λ it. it ≡ bound_counts a) → IfOk r (λ it. it ≡ flat_counts a)
 none_stray_answer (Ok x) a h p = p ∙ none_stray_counts a h
 none_stray_answer (Err e) a h p = tt

@@ -9,13 +9,15 @@ use Rattle.c_tree.specs.Views.{tree_at}
 use Rattle.c_tree.proofs.Views.{trees-at, trees-end, sections-at, sections-end}
 use Rattle.c_resolved_laws.specs.Counts.{summed, summed_of, summed_in}
 
-pub total_more : (f : Tree → ℕ) (xs : List Item) (i : ℕ) (x : Item) → i < length xs → x ≡ get_or xs i x → total f (trees_of (drop i xs)) ≡ total_of f (tree_at x) + total f (trees_of (drop (i + 1) xs))
+pub total_more : (f : Tree → ℕ) (xs : List Item) (i : ℕ) (x : Item) → i < length xs → x ≡ get_or xs i x →
+    total f (trees_of (drop i xs)) ≡ total_of f (tree_at x) + total f (trees_of (drop (i + 1) xs))
 total_more f xs i x l e = ap (total f) (trees-at xs i x l e)
 
 pub total_end : (f : Tree → ℕ) (xs : List Item) (i : ℕ) → length xs ≤ i → total f (trees_of (drop i xs)) ≡ 0
 total_end f xs i l = ap (total f) (trees-end xs i l)
 
-pub total_more_in : (f : Tree → ℕ) (cs : List Section) (i : ℕ) (c : Section) → i < length cs → c ≡ get_or cs i c → total_in f (sections_of (drop i cs)) ≡ total f (trees_of (list_of c)) + total_in f (sections_of (drop (i + 1) cs))
+pub total_more_in : (f : Tree → ℕ) (cs : List Section) (i : ℕ) (c : Section) → i < length cs → c ≡ get_or cs i c →
+    total_in f (sections_of (drop i cs)) ≡ total f (trees_of (list_of c)) + total_in f (sections_of (drop (i + 1) cs))
 total_more_in f cs i c l e = ap (total_in f) (sections-at cs i c l e)
 
 pub total_end_in : (f : Tree → ℕ) (cs : List Section) (i : ℕ) → length cs ≤ i → total_in f (sections_of (drop i cs)) ≡ 0
@@ -34,5 +36,6 @@ pub summed_more_in : (f : Bool → Tree → ℕ) (named : ℕ → Bool) (j : Boo
     → summed_in f named j (sections_of (drop i cs)) ≡ summed f named j (trees_of (list_of c)) + summed_in f named j (sections_of (drop (i + 1) cs))
 summed_more_in f named j cs i c l e = ap (summed_in f named j) (sections-at cs i c l e)
 
-pub summed_end_in : (f : Bool → Tree → ℕ) (named : ℕ → Bool) (j : Bool) (cs : List Section) (i : ℕ) → length cs ≤ i → summed_in f named j (sections_of (drop i cs)) ≡ 0
+pub summed_end_in : (f : Bool → Tree → ℕ) (named : ℕ → Bool) (j : Bool) (cs : List Section) (i : ℕ) → length cs ≤ i →
+    summed_in f named j (sections_of (drop i cs)) ≡ 0
 summed_end_in f named j cs i l = ap (summed_in f named j) (sections-end cs i l)

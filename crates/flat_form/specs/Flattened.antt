@@ -18,7 +18,8 @@ abbrev pub IsBodyForm : List (List ℕ) → List (List ℕ) → Function → Lis
 IsBodyForm used taken f body Same = ⊥
 IsBodyForm used taken f body (Calm new) = (has_jumps (trees_of body) ≡ false) × (trees_of new ≡ unlabelled (trees_of body))
 IsBodyForm used taken f body (Flat m) =
-    (has_jumps (trees_of body) ≡ true) × (trees_of m.body ≡ flat_body constant f.slots (length f.labels) (trees_of body)) × (m.names ≡ flat_names_beside used taken f (trees_of body) (label_codes f (trees_of body)))
+    (has_jumps (trees_of body) ≡ true) × (trees_of m.body ≡ flat_body constant f.slots (length f.labels) (trees_of body)) ×
+    (m.names ≡ flat_names_beside used taken f (trees_of body) (label_codes f (trees_of body)))
 
 -- what becomes of a function, which may be a prototype, where these names are used and taken
 abbrev pub IsFormBeside : List (List ℕ) → List (List ℕ) → Function → Form → Type 0

@@ -43,7 +43,8 @@ record IsGoodExchange (t u : Top) : Type 0 where
   pub convertible : IsConversionMade u
 
 conversion_made : (g : Function) (new : List Item) → g.body ≡ Some new → IsWellMade (convert (body_of g)) → IsWellMade (body_of (converted g))
-conversion_made g new e h = subst IsWellMade (ap convert (body_is g new e) ∙ sym (converted_trees new) ∙ sym (ap (λ o. option_map_or trees_of (option_map converted_list o) Nil) e)) h
+conversion_made g new e h = subst IsWellMade (ap convert (body_is g new e) ∙ sym (converted_trees new) ∙
+    sym (ap (λ o. option_map_or trees_of (option_map converted_list o) Nil) e)) h
 
 no_conversion : (t : Top) → IsNoFunction t → IsConversionMade t
 no_conversion (T.Function f) n = absurd n
@@ -65,13 +66,19 @@ good_exchange s (ft_unlabelled {f = f} {g = g} free w) = record {
   made = λ m. left_made f g s free w;
   convertible = λ e. absurd (true≢false (sym e ∙ w.flat));
 }
-good_exchange s (ft_declared f e) = record { looser = lt_same refl; ranged = λ r. r; made = λ m. m; convertible = λ flat. absurd (true≢false (sym flat ∙ s.unflat)) }
+good_exchange s (ft_declared f e) = record {
+  looser = lt_same refl;
+  ranged = λ r. r;
+  made = λ m. m;
+  convertible = λ flat. absurd (true≢false (sym flat ∙ s.unflat));
+}
 good_exchange s (ft_other t n) = record { looser = lt_same refl; ranged = λ r. r; made = λ m. m; convertible = no_conversion t n }
 
 -- ---- all that stands at file scope
 
 module _ (f g : Function) where
-  exchanged : (P : Top → Type 0) → (P (T.Function f) → P (T.Function g)) → {ts us : List Top} → OneFunctionExchanged f g ts us → AllByRecursion P ts → AllByRecursion P us
+  exchanged : (P : Top → Type 0) → (P (T.Function f) → P (T.Function g)) → {ts us : List Top} → OneFunctionExchanged f g ts us → AllByRecursion P ts →
+      AllByRecursion P us
   exchanged P k (this_function ts) h = (k h.0, h.1)
   exchanged P k (later_function t r) h = (h.0, exchanged P k r h.1)
 
@@ -83,7 +90,8 @@ module _ (f g : Function) where
   looser_tops w (this_function ts) = lt_more w (same_tops ts)
   looser_tops w (later_function t r) = lt_more (lt_same refl) (looser_tops w r)
 
-  programs_kept : IsGoodExchange (T.Function f) (T.Function g) → (p q : Program) → OneFunctionExchanged f g p.tops q.tops → IsSteady p → IsSteady q × BehaveTheSame p q
+  programs_kept : IsGoodExchange (T.Function f) (T.Function g) → (p q : Program) → OneFunctionExchanged f g p.tops q.tops → IsSteady p →
+      IsSteady q × BehaveTheSame p q
   programs_kept h p q x s =
       loose_laws.of_programs p q
       (All-from_recursion IsTopInRange q.tops (exchanged IsTopInRange h.ranged x (recursion_from_All IsTopInRange p.tops s.ranged)))
@@ -97,7 +105,8 @@ resolved_function f r =
     let P = IsResolvedTop flat_counts r.program.tops in
     All-contains P r.program.tops (T.Function f) (All-from_recursion P r.program.tops r.resolved.tops) r.there
 
-flattened_good : (used taken : List (List ℕ)) (f g : Function) → IsFlattenedBeside used taken f g → IsOfResolved f → IsGoodExchange (T.Function f) (T.Function g)
+flattened_good : (used taken : List (List ℕ)) (f g : Function) → IsFlattenedBeside used taken f g → IsOfResolved f →
+    IsGoodExchange (T.Function f) (T.Function g)
 flattened_good used taken f g w r =
     let h = resolved_function f r in
     let s : IsSourceTop (T.Function f) = source_function flat_counts r.program r.resolved f h in

@@ -44,7 +44,8 @@ AreNumbers [] [] = Unit {0}
 AreNumbers (k ∷ ks) (s ∷ ss) = (s.kind ≡ k) × (s.cells ≡ None) × (s.constant ≡ false) × AreNumbers ks ss
 AreNumbers _ _ = ⊥
 
-numbers_more : (ks : List IntKind) (ss : List Slot) (k : IntKind) (s : Slot) → AreNumbers ks ss → (s.kind ≡ k) × (s.cells ≡ None) × (s.constant ≡ false) → AreNumbers (ks ++ k ∷ []) (ss ++ s ∷ [])
+numbers_more : (ks : List IntKind) (ss : List Slot) (k : IntKind) (s : Slot) → AreNumbers ks ss →
+    (s.kind ≡ k) × (s.cells ≡ None) × (s.constant ≡ false) → AreNumbers (ks ++ k ∷ []) (ss ++ s ∷ [])
 numbers_more [] [] k s h e = (e.0, e.1, e.2, tt)
 numbers_more [] (t ∷ ss) k s h e = absurd h
 numbers_more (j ∷ ks) [] k s h e = absurd h
@@ -62,13 +63,15 @@ pub cases_same : (k i n : ℕ) (g : Given) → (name_cases k i n g).variables �
 cases_same k i zero g = refl
 cases_same k i (suc n) g = cases_same k (i + 1) n (name_case k i g)
 
-pub numbers_named : (i : ℕ) (cs : List Construct) (g : Given) (ks : List IntKind) → AreNumbers ks g.variables → AreNumbers (ks ++ kinds cs) (name_constructs i cs g).variables
+pub numbers_named : (i : ℕ) (cs : List Construct) (g : Given) (ks : List IntKind) → AreNumbers ks g.variables →
+    AreNumbers (ks ++ kinds cs) (name_constructs i cs g).variables
 numbers_named i [] g ks h = subst (λ z. AreNumbers z g.variables) (sym (append-nil ks)) h
 numbers_named i (c.Stays ∷ cs) g ks h = numbers_named (i + 1) cs (name_construct i c.Stays g) ks h
 numbers_named i (c.Scattered k n d l ∷ cs) g ks h =
     let one = name_variable i k g in
     let all = name_cases i 1 n one in
-    let e : (name_construct i (c.Scattered k n d l) g).variables ≡ one.variables = break_same i l (name_default i d all) ∙ default_same i d all ∙ cases_same i 1 n one in
+    let e : (name_construct i (c.Scattered k n d l) g).variables ≡ one.variables =
+    break_same i l (name_default i d all) ∙ default_same i d all ∙ cases_same i 1 n one in
     let more = numbers_more ks g.variables k _ h (refl, refl, refl) in
     subst (λ z. AreNumbers z (name_constructs (i + 1) cs (name_construct i (c.Scattered k n d l) g)).variables) (append_assoc ks (k ∷ []) (kinds cs))
     (numbers_named (i + 1) cs (name_construct i (c.Scattered k n d l) g) (ks ++ k ∷ []) (subst (AreNumbers (ks ++ k ∷ [])) (sym e) more))
@@ -87,7 +90,8 @@ kinds_append (c.Scattered k n d l ∷ a) b = ap (λ z. k ∷ z) (kinds_append a 
 kinds_length : (a b : List Construct) → length (kinds (a ++ b)) ≡ length (kinds a) + length (kinds b)
 kinds_length a b = ap length (kinds_append a b) ∙ length-append (kinds a) (kinds b)
 
-switch_length : (b : Bool) (k : IntKind) (n : ℕ) (d l : Bool) (cs : List Construct) → length (kinds (cond b (c.Scattered k n d l) c.Stays ∷ cs)) ≡ cond b 1 0 + length (kinds cs)
+switch_length : (b : Bool) (k : IntKind) (n : ℕ) (d l : Bool) (cs : List Construct) →
+    length (kinds (cond b (c.Scattered k n d l) c.Stays ∷ cs)) ≡ cond b 1 0 + length (kinds cs)
 switch_length true k n d l cs = omega arith
 switch_length false k n d l cs = omega arith
 
@@ -103,7 +107,8 @@ mutual
   counted_in (For first t u a) = let e = kinds_length (constructs first) (constructs a) in let i = counted first in let j = counted a in omega (arith, e, i, j)
   counted_in (Block a) = let i = counted a in omega (arith, i)
   counted_in (Switch s d) =
-      let e = switch_length (is_scattered d) (switch_kind s) (length (cases_among (switch_labels d))) (has_default (switch_labels d)) (leaves d) (constructs_among d) in
+      let e = switch_length (is_scattered d) (switch_kind s) (length (cases_among (switch_labels d))) (has_default (switch_labels d)) (leaves d)
+      (constructs_among d) in
       let i = counted_among d in
       omega (arith, e, i)
   counted_in (Evaluate e) = refl
@@ -121,7 +126,9 @@ mutual
 
   counted_among : (d : Sections) → length (kinds (constructs_among d)) ≡ total_in variables_of d
   counted_among NoSection = refl
-  counted_among (Section cases default a ends d) = let e = kinds_length (constructs a) (constructs_among d) in let i = counted a in let j = counted_among d in omega (arith, e, i, j)
+  counted_among (Section cases default a ends d) = let e = kinds_length (constructs a) (constructs_among d) in let i = counted a in let j =
+      counted_among d in
+      omega (arith, e, i, j)
 
 -- ---- each scattered switch has its variable
 
@@ -141,7 +148,8 @@ module _ (s : Setting) where
   split : (v : ℕ) (a b : List Construct) → At v (kinds (a ++ b)) → At v (kinds a) × At (v + length (kinds a)) (kinds b)
   split v a b h = at_split v (kinds a) (kinds b) (subst (At v) (kinds_append a b) h)
 
-  switch_split : (b : Bool) (k : IntKind) (n : ℕ) (d l : Bool) (cs : List Construct) (v : ℕ) → At v (kinds (cond b (c.Scattered k n d l) c.Stays ∷ cs)) → IfTrue b (IsVariable s v k) × At (v + cond b 1 0) (kinds cs)
+  switch_split : (b : Bool) (k : IntKind) (n : ℕ) (d l : Bool) (cs : List Construct) (v : ℕ) →
+      At v (kinds (cond b (c.Scattered k n d l) c.Stays ∷ cs)) → IfTrue b (IsVariable s v k) × At (v + cond b 1 0) (kinds cs)
   switch_split true k n d l cs v h = (h.0, (let e : suc v ≡ v + 1 = omega arith in subst (λ w. At w (kinds cs)) e h.1))
   switch_split false k n d l cs v h = (tt, (let e : v ≡ v + 0 = omega arith in subst (λ w. At w (kinds cs)) e h))
 
@@ -167,8 +175,11 @@ module _ (s : Setting) where
         (have s v first (omega (arith, e)) j.0, have (past first s) (v + length (kinds (constructs first))) a (omega (arith, e, n)) j.1)
     has h v (Block a) e i = have h v a e i
     has h v (Switch t d) e i =
-        let j = switch_split (is_scattered d) (switch_kind t) (length (cases_among (switch_labels d))) (has_default (switch_labels d)) (leaves d) (constructs_among d) v i in
-        (subst (λ w. IfTrue (is_scattered d) (IsVariable s w (switch_kind t))) (sym e) j.0, have_among (inside (Switch t d) h) (v + cond (is_scattered d) 1 0) d (omega (arith, e)) j.1)
+        let j = switch_split (is_scattered d) (switch_kind t) (length (cases_among (switch_labels d))) (has_default (switch_labels d)) (leaves d)
+        (constructs_among d) v i in (
+          subst (λ w. IfTrue (is_scattered d) (IsVariable s w (switch_kind t))) (sym e) j.0,
+          have_among (inside (Switch t d) h) (v + cond (is_scattered d) 1 0) d (omega (arith, e)) j.1,
+        )
     has h v (Evaluate x) e i = tt
     has h v (Return x) e i = tt
     has h v (Local x es) e i = tt
@@ -193,7 +204,8 @@ module _ (s : Setting) where
   entry_at [] t more = refl
   entry_at (x ∷ olds) t more = entry_at olds t more
 
-  at_numbers : (olds vs : List Slot) (ks : List IntKind) → AreNumbers ks vs → s.new ≡ olds ++ vs → s.params ≤ length olds → length s.old ≤ length olds → At (length olds) ks
+  at_numbers : (olds vs : List Slot) (ks : List IntKind) → AreNumbers ks vs → s.new ≡ olds ++ vs → s.params ≤ length olds →
+      length s.old ≤ length olds → At (length olds) ks
   at_numbers olds vs [] h e p o = tt
   at_numbers olds [] (k ∷ ks) h e p o = absurd h
   at_numbers olds (t ∷ vs) (k ∷ ks) h e p o =
@@ -229,20 +241,23 @@ module _ (vs : List Slot) (ks : List IntKind) (numbers : AreNumbers ks vs) where
       let e = named_kind b taken used s in
       (e.0, e.1, extended (n - 1) (slot_taken b taken used s) (slot_used b taken used s) ss)
 
-  all_free : (n : ℕ) (taken used : List (List ℕ)) (ss : List Slot) → n ≡ 0 → AllByRecursion (λ (s : Slot). s.constant ≡ false) ((named_slots n taken used ss).slots ++ vs)
+  all_free : (n : ℕ) (taken used : List (List ℕ)) (ss : List Slot) → n ≡ 0 →
+      AllByRecursion (λ (s : Slot). s.constant ≡ false) ((named_slots n taken used ss).slots ++ vs)
   all_free n taken used [] e = no_constants ks vs numbers
   all_free n taken used (s ∷ ss) e =
       let b = nat_lt 0 n in
       let f : b ≡ false = le-ltb 0 n (omega (arith, e)) in
       (ap (λ z. (slot_named z taken used s).constant) f, all_free (n - 1) (slot_taken b taken used s) (slot_used b taken used s) ss (omega (arith, e)))
 
-  free_behind : (n : ℕ) (taken used : List (List ℕ)) (ss : List Slot) → n ≤ length ss → AllByRecursion (λ (s : Slot). s.constant ≡ false) (drop n ((named_slots n taken used ss).slots ++ vs))
+  free_behind : (n : ℕ) (taken used : List (List ℕ)) (ss : List Slot) → n ≤ length ss →
+      AllByRecursion (λ (s : Slot). s.constant ≡ false) (drop n ((named_slots n taken used ss).slots ++ vs))
   free_behind zero taken used ss h = all_free 0 taken used ss refl
   free_behind (suc n) taken used [] h = absurd (omega (arith, h))
   free_behind (suc n) taken used (s ∷ ss) h =
       let b = nat_lt 0 (suc n) in
       let e : suc n - 1 ≡ n = omega arith in
-      subst (λ m. AllByRecursion (λ (r : Slot). r.constant ≡ false) (drop n ((named_slots m (slot_taken b taken used s) (slot_used b taken used s) ss).slots ++ vs))) (sym e)
+      subst (λ m. AllByRecursion (λ (r : Slot). r.constant ≡ false)
+      (drop n ((named_slots m (slot_taken b taken used s) (slot_used b taken used s) ss).slots ++ vs))) (sym e)
       (free_behind n (slot_taken b taken used s) (slot_used b taken used s) ss (omega (arith, h)))
 
   pub first_same : (n : ℕ) (taken used : List (List ℕ)) (ss : List Slot) → n ≤ length ss → take n ((named_slots n taken used ss).slots ++ vs) ≡ take n ss
@@ -254,7 +269,8 @@ module _ (vs : List Slot) (ks : List IntKind) (numbers : AreNumbers ks vs) where
       let e : suc n - 1 ≡ n = omega arith in
       let rest = subst (λ m. take n ((named_slots m (slot_taken b taken used s) (slot_used b taken used s) ss).slots ++ vs) ≡ take n ss) (sym e)
       (first_same n (slot_taken b taken used s) (slot_used b taken used s) ss (omega (arith, h))) in
-      ap (λ z. slot_named z taken used s ∷ take n ((named_slots (suc n - 1) (slot_taken b taken used s) (slot_used b taken used s) ss).slots ++ vs)) f ∙ ap (λ l. s ∷ l) rest
+      ap (λ z. slot_named z taken used s ∷ take n ((named_slots (suc n - 1) (slot_taken b taken used s) (slot_used b taken used s) ss).slots ++ vs))
+      f ∙ ap (λ l. s ∷ l) rest
 
 pub named_length : (n : ℕ) (taken used : List (List ℕ)) (ss : List Slot) → length (named_slots n taken used ss).slots ≡ length ss
 named_length n taken used [] = refl
@@ -302,7 +318,8 @@ forms used taken f old new there params trees =
 -- ---- what a function is flattened to
 
 module _ (used taken : List (List ℕ)) (f g : Function) (unflat : f.flat ≡ false) (params : f.params ≤ length f.slots) where
-  by_body : (o : Option (List Item)) → f.body ≡ o → (form : Form) → IsFormBeside used taken (record f { body = o }) form → g ≡ applied form f → FlatTop (T.Function f) (T.Function g)
+  by_body : (o : Option (List Item)) → f.body ≡ o → (form : Form) → IsFormBeside used taken (record f { body = o }) form → g ≡ applied form f →
+      FlatTop (T.Function f) (T.Function g)
   by_body None e form i w = subst (λ k. FlatTop (T.Function f) (T.Function k)) (sym (w ∙ ap (λ m. applied m f) i)) (ft_declared f e)
   by_body (Some body) e Same i w = absurd i
   by_body (Some body) e (Calm new) i w =
@@ -322,7 +339,8 @@ module _ (used taken : List (List ℕ)) (f g : Function) (unflat : f.flat ≡ fa
       } in
       ft_unlabelled (ap has_jumps (body_is f body e) ∙ i.0) (subst (IsUnlabelledForm f) (sym w) form)
   by_body (Some body) e (Flat m) i w =
-      let whole : g ≡ named_beside used taken f body m.body = w ∙ ap (λ (n : FlatNames). record f { slots = n.slots; labels = n.labels; body = Some m.body; flat = true }) i.2 in
+      let whole : g ≡ named_beside used taken f body m.body = w ∙
+      ap (λ (n : FlatNames). record f { slots = n.slots; labels = n.labels; body = Some m.body; flat = true }) i.2 in
       ft_flat (ap has_jumps (body_is f body e) ∙ i.0) (subst (IsFlatForm f) (sym whole) (forms used taken f body m.body e params i.1))
 
 pub flattened : FlattenedAreForms

@@ -63,7 +63,8 @@ not_any (k ∷ ks) w e h = at (λ i. not_any ks w i h) (bytes_eq k w) refl
     neither true b i = cc
     neither false b i = (refl, i)
 
-    at : (list_any last_digit ks ≡ false → list_any (λ j. bytes_eq j w) ks ≡ false) → (b : Bool) → bytes_eq k w ≡ b → (bytes_eq k w || list_any (λ j. bytes_eq j w) ks) ≡ false
+    at : (list_any last_digit ks ≡ false → list_any (λ j. bytes_eq j w) ks ≡ false) → (b : Bool) → bytes_eq k w ≡ b →
+        (bytes_eq k w || list_any (λ j. bytes_eq j w) ks) ≡ false
     at rest true i = let same = (bytes_eq-Decides k w).0 i in absurd (true≢false (sym (ap last_digit same ∙ h) ∙ (neither (last_digit k) _ e).0))
     at rest false i = ap (λ b. b || list_any (λ j. bytes_eq j w) ks) i ∙ rest (neither (last_digit k) _ e).1
 
@@ -74,7 +75,8 @@ no_keyword w h = not_any keywords w refl h
 
 word_more : (w t : List ℕ) → is_word w ≡ true → IsTail t → is_word (w ++ t) ≡ true
 word_more [] t e h = cc
-word_more (c ∷ w) t e h = and_both (is_letter c) (list_all is_word_byte (w ++ t)) (and_first (is_letter c) _ e) (tail_append w t (and_second (is_letter c) _ e) h)
+word_more (c ∷ w) t e h = and_both (is_letter c) (list_all is_word_byte (w ++ t)) (and_first (is_letter c) _ e)
+    (tail_append w t (and_second (is_letter c) _ e) h)
 
 pub numbered_name : (w : List ℕ) (n : ℕ) → is_word w ≡ true → IsName (numbered w n)
 numbered_name w n e = (
@@ -88,7 +90,8 @@ name_cond false v w h k = k
 
 free_name : (used : List (List ℕ)) (w : List ℕ) (n k : ℕ) → is_word w ≡ true → IsName (first_free used w n k)
 free_name used w n zero e = numbered_name w n e
-free_name used w n (suc k) e = name_cond (has_name used (numbered w n)) (first_free used w (n + 1) k) (numbered w n) (free_name used w (n + 1) k e) (numbered_name w n e)
+free_name used w n (suc k) e = name_cond (has_name used (numbered w n)) (first_free used w (n + 1) k) (numbered w n) (free_name used w (n + 1) k e)
+    (numbered_name w n e)
 
 pub fresh_name : (used : List (List ℕ)) (w : List ℕ) → IsName w → IsName (fresh w used)
 fresh_name used w h = name_cond (has_name used w) (first_free used w 2 (length used)) w (free_name used w 2 (length used) h.0) h
@@ -119,7 +122,8 @@ or_first : (a b : Bool) → a ≡ true → (a || b) ≡ true
 or_first true b e = refl
 or_first false b e = cc
 
-longer_at : (o : Ordering) (n x : List ℕ) (xs more : List (List ℕ)) → length xs ≤ length more → length (x ∷ xs) ≤ length (match_ordering o (n ∷ x ∷ xs) (x ∷ xs) (x ∷ more))
+longer_at : (o : Ordering) (n x : List ℕ) (xs more : List (List ℕ)) → length xs ≤ length more →
+    length (x ∷ xs) ≤ length (match_ordering o (n ∷ x ∷ xs) (x ∷ xs) (x ∷ more))
 longer_at Less n x xs more h = omega arith
 longer_at Equal n x xs more h = omega arith
 longer_at Greater n x xs more h = omega (arith, h)

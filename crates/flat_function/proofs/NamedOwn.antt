@@ -85,7 +85,8 @@ turn (b ∷ bs) ms h = (first_turned b bs ms h, turn bs ms (each_map (λ m. Each
 
 -- ---- the whole
 
-module _ (p : Program) (names file : List (List ℕ)) (f : Function) (old new : List Item) (params : f.params ≤ length f.slots) (n : IsNamedIn p names file f (trees_of old)) where
+module _ (p : Program) (names file : List (List ℕ)) (f : Function) (old new : List Item) (params : f.params ≤ length f.slots)
+    (n : IsNamedIn p names file f (trees_of old)) where
   abbrev Clear : List ℕ → Type 0
   Clear m = (is_known m ≡ false) × IsFreeIn p.tops m
 
@@ -98,8 +99,10 @@ module _ (p : Program) (names file : List (List ℕ)) (f : Function) (old new : 
   start : Giving names Clear taken used
   start = record {
     named = λ m h. with_known names m ∙ or_first (has_name names m) (has_name known_functions m) h;
-    clear_taken = λ m h. (let k = or_neither (has_name file m) (has_name known_functions m) (sym (with_known file m) ∙ h) in (all_turned m known_functions k.1, tops_scope m p.tops (sym (n.scope m) ∙ k.0)));
-    clear_used = λ m h. (let k = or_neither (has_name names m) (has_name known_functions m) (sym (with_known names m) ∙ h) in (all_turned m known_functions k.1, tops_other m p.tops (sym (n.all m) ∙ k.0)));
+    clear_taken = λ m h. (let k = or_neither (has_name file m) (has_name known_functions m) (sym (with_known file m) ∙ h) in
+        (all_turned m known_functions k.1, tops_scope m p.tops (sym (n.scope m) ∙ k.0)));
+    clear_used = λ m h. (let k = or_neither (has_name names m) (has_name known_functions m) (sym (with_known names m) ∙ h) in
+        (all_turned m known_functions k.1, tops_other m p.tops (sym (n.all m) ∙ k.0)));
   }
 
   abbrev cs : List Construct
@@ -120,7 +123,8 @@ module _ (p : Program) (names file : List (List ℕ)) (f : Function) (old new : 
   own : AreOwnSlots names Clear (map (λ (s : Slot). s.name) g.variables) f.params f.slots named.slots
   own =
       slots_own names Clear f.params (map (λ (s : Slot). s.name) g.variables) taken g.used f.slots params
-      (giving_more names Clear taken used taken g.used (grows_self taken) (constructs_grow names Clear 1 cs (none_given used)) start) (made_before names Clear taken g.used g.variables made) n.parameters n.variables n.few
+      (giving_more names Clear taken used taken g.used (grows_self taken) (constructs_grow names Clear 1 cs (none_given used)) start)
+      (made_before names Clear taken g.used g.variables made) n.parameters n.variables n.few
 
   abbrev blocks : List Slot
   blocks = drop f.params named.slots
@@ -131,10 +135,12 @@ module _ (p : Program) (names file : List (List ℕ)) (f : Function) (old new : 
   front : take f.params (named.slots ++ g.variables) ≡ take f.params f.slots
   front = first_same g.variables (kinds cs) (numbers_named 1 cs (none_given used) [] tt) f.params taken g.used f.slots params
 
-  each_own : (P : List ℕ → Type 0) → Each P (map (λ (s : Slot). s.name) blocks) → ((m : List ℕ) → IsMade names Clear g.used m → P m) → Each (λ (s : Slot). P s.name) (drop f.params (named.slots ++ g.variables))
+  each_own : (P : List ℕ → Type 0) → Each P (map (λ (s : Slot). s.name) blocks) → ((m : List ℕ) → IsMade names Clear g.used m → P m) →
+      Each (λ (s : Slot). P s.name) (drop f.params (named.slots ++ g.variables))
   each_own P h k =
       subst (Each (λ (s : Slot). P s.name)) (sym behind)
-      (each_append (λ (s : Slot). P s.name) blocks g.variables (each_slot P blocks h) (each_slot P g.variables (each_map (IsMade names Clear g.used) P k (map (λ (s : Slot). s.name) g.variables) made.each)))
+      (each_append (λ (s : Slot). P s.name) blocks g.variables (each_slot P blocks h)
+      (each_slot P g.variables (each_map (IsMade names Clear g.used) P k (map (λ (s : Slot). s.name) g.variables) made.each)))
 
   abbrev Beside : List Slot → List ℕ → Type 0
   Beside ts m = Each (λ (t : Slot). t.name ≢ m) ts
@@ -142,13 +148,16 @@ module _ (p : Program) (names file : List (List ℕ)) (f : Function) (old new : 
   named_own : HasOwnNames p.tops (named_flat names file f old new)
   named_own = record {
     words = each_own IsName own.own.words (λ m h. h.0.0);
-    unknown = each_own (λ m. is_known m ≡ false) (each_map Clear (λ m. is_known m ≡ false) (λ m h. h.0) (map (λ (s : Slot). s.name) blocks) own.own.clear) (λ m h. h.0.1.0);
+    unknown = each_own (λ m. is_known m ≡ false) (each_map Clear (λ m. is_known m ≡ false) (λ m h. h.0) (map (λ (s : Slot). s.name) blocks)
+        own.own.clear) (λ m h. h.0.1.0);
     free = each_own (IsFreeIn p.tops) (each_map Clear (IsFreeIn p.tops) (λ m h. h.1) (map (λ (s : Slot). s.name) blocks) own.own.clear) (λ m h. h.0.1.1);
     apart = subst AllDiffer (sym (ap (map (λ (s : Slot). s.name)) behind ∙ names_more blocks g.variables))
-        (differ_append (map (λ (s : Slot). s.name) blocks) (map (λ (s : Slot). s.name) g.variables) own.own.apart made.apart (turn (map (λ (s : Slot). s.name) g.variables) (map (λ (s : Slot). s.name) blocks) own.own.beside));
+        (differ_append (map (λ (s : Slot). s.name) blocks) (map (λ (s : Slot). s.name) g.variables) own.own.apart made.apart
+        (turn (map (λ (s : Slot). s.name) g.variables) (map (λ (s : Slot). s.name) blocks) own.own.beside));
     beside = subst (λ ts. Each (λ (s : Slot). Beside ts s.name) (drop f.params (named.slots ++ g.variables))) (sym front)
         (each_own (Beside (take f.params f.slots)) own.parameters
-        (λ m h. each_map (λ (s : Slot). (s.name ≡ []) ⊎ (has_name names s.name ≡ true)) (λ (t : Slot). t.name ≢ m) (λ t q. made_other names Clear m t h.0.0 h.1.1 q) (take f.params f.slots) n.parameters));
+        (λ m h. each_map (λ (s : Slot). (s.name ≡ []) ⊎ (has_name names s.name ≡ true)) (λ (t : Slot). t.name ≢ m)
+        (λ t q. made_other names Clear m t h.0.0 h.1.1 q) (take f.params f.slots) n.parameters));
   }
 
 pub flat_names_own : FlatNamesAreOwn

@@ -54,7 +54,8 @@ module _ (ns : List (List ℕ)) (Clear : List ℕ → Type 0) where
     clear_used = λ m h. g.clear_used m (out_of used used' u m h);
   }
 
-  before_more : (taken used taken' used' : List (List ℕ)) → Grows taken taken' → Grows used used' → (m : List ℕ) → IsBefore taken used m → IsBefore taken' used' m
+  before_more : (taken used taken' used' : List (List ℕ)) → Grows taken taken' → Grows used used' → (m : List ℕ) → IsBefore taken used m →
+      IsBefore taken' used' m
   before_more taken used taken' used' t u m (inl e) = inl e
   before_more taken used taken' used' t u m (inr (h, inl i)) = inr (u.0 m h, inl (t.0 m i))
   before_more taken used taken' used' t u m (inr (h, inr i)) = inr (u.0 m h, inr i)
@@ -115,24 +116,36 @@ module _ (ns : List (List ℕ)) (Clear : List ℕ → Type 0) where
     pub there : In (cond z (with_name used (fresh s.name used)) used) (cond z (fresh s.name used) s.name)
     pub grows : Grows used (cond z (with_name used (fresh s.name used)) used)
 
-  after : (before taken used : List (List ℕ)) (s : Slot) (z : Bool) → has_name taken s.name ≡ z → Giving taken used → Each (IsBefore taken used) before → IsSource s → 2 + length used < 2 ^ 64 → After before taken used s z
+  after : (before taken used : List (List ℕ)) (s : Slot) (z : Bool) → has_name taken s.name ≡ z → Giving taken used →
+      Each (IsBefore taken used) before → IsSource s → 2 + length used < 2 ^ 64 → After before taken used s z
   after before taken used s true e g b h f =
       let w = fresh s.name used in
       let n = fresh_name used s.name h.0 in
       let o = fresh_unused used s.name f in
       record {
-        own = record { word = n; clear = g.clear_used w o; beside = each_map (IsBefore taken used) (λ x. x ≢ w) (λ x i. fresh_other taken used w x n o i) before b };
+        own = record {
+          word = n;
+          clear = g.clear_used w o;
+          beside = each_map (IsBefore taken used) (λ x. x ≢ w)
+              (λ x i. fresh_other taken used w x n o i) before b;
+        };
         there = own_with used w;
         grows = grows_with used w;
       }
   after before taken used s false e g b h f =
       record {
-        own = record { word = h.0; clear = g.clear_taken s.name e; beside = each_map (IsBefore taken used) (λ x. x ≢ s.name) (λ x i. kept_other taken used s.name x h.0 h.1 e i) before b };
+        own = record {
+          word = h.0;
+          clear = g.clear_taken s.name e;
+          beside = each_map (IsBefore taken used) (λ x. x ≢ s.name)
+              (λ x i. kept_other taken used s.name x h.0 h.1 e i) before b;
+        };
         there = g.named s.name h.1;
         grows = grows_self used;
       }
 
-  block_own : (n : ℕ) (before taken used : List (List ℕ)) (ss : List Slot) → n ≡ 0 → Giving taken used → Each (IsBefore taken used) before → Each IsSource ss → 2 + length (named_slots n taken used ss).used < 2 ^ 64
+  block_own : (n : ℕ) (before taken used : List (List ℕ)) (ss : List Slot) → n ≡ 0 → Giving taken used → Each (IsBefore taken used) before →
+      Each IsSource ss → 2 + length (named_slots n taken used ss).used < 2 ^ 64
       → AreOwn before (names_of (named_slots n taken used ss).slots)
   block_own n before taken used [] none g b h f = record { words = tt; clear = tt; apart = tt; beside = tt }
   block_own n before taken used (s ∷ ss) none g b h f =
@@ -143,19 +156,29 @@ module _ (ns : List (List ℕ)) (Clear : List ℕ → Type 0) where
       let used' = slot_used false taken used s in
       let rest = named_slots (n - 1) taken' used' ss in
       let whole : named_slots n taken used (s ∷ ss) ≡ record { slots = slot_named false taken used s ∷ rest.slots; used = rest.used } =
-      ap (λ z. (let m = named_slots (n - 1) (slot_taken z taken used s) (slot_used z taken used s) ss in record { slots = slot_named z taken used s ∷ m.slots; used = m.used })) not in
+      ap (λ z. (let m = named_slots (n - 1) (slot_taken z taken used s) (slot_used z taken used s) ss in
+      record { slots = slot_named z taken used s ∷ m.slots; used = m.used })) not in
       let big : 2 + length rest.used < 2 ^ 64 = subst (λ (m : Named). 2 + length m.used < 2 ^ 64) whole f in
       let more = (slots_grow (n - 1) taken' used' ss).1 in
-      let step = after before taken used s (has_name taken s.name) refl g b h.0 (small used used' rest.used (grow_one taken used s) (slots_grow (n - 1) taken' used' ss) big) in
+      let step = after before taken used s (has_name taken s.name) refl g b h.0
+      (small used used' rest.used (grow_one taken used s) (slots_grow (n - 1) taken' used' ss) big) in
       let t : Grows taken taken' = grows_then taken (with_name taken s.name) taken' (grows_with taken s.name) (grows_with (with_name taken s.name) v) in
-      let now : Each (IsBefore taken' used') (v ∷ before) = (inr (step.there, inl (own_with (with_name taken s.name) v)), each_map (IsBefore taken used) (IsBefore taken' used') (λ x i. before_more taken used taken' used' t step.grows x i) before b) in
+      let now : Each (IsBefore taken' used') (v ∷ before) = (
+        inr (step.there, inl (own_with (with_name taken s.name) v)),
+        each_map
+            (IsBefore taken used) (IsBefore taken' used') (λ x i. before_more taken used taken' used' t step.grows x i) before b,
+      ) in
       let later = block_own (n - 1) (v ∷ before) taken' used' ss (omega (arith, none)) (giving_more taken used taken' used' t step.grows g) now h.1 big in
       subst (λ (m : Named). AreOwn before (names_of m.slots)) (sym whole)
       (record {
         words = (step.own.word, later.words);
         clear = (step.own.clear, later.clear);
         apart = (each_map (λ m. Each (λ x. x ≢ m) (v ∷ before)) (λ m. m ≢ v) (λ m i e. i.0 (sym e)) (names_of rest.slots) later.beside, later.apart);
-        beside = (step.own.beside, each_map (λ m. Each (λ x. x ≢ m) (v ∷ before)) (λ m. Each (λ x. x ≢ m) before) (λ m i. i.1) (names_of rest.slots) later.beside);
+        beside = (
+          step.own.beside,
+          each_map (λ m. Each (λ x. x ≢ m) (v ∷ before)) (λ m. Each (λ x. x ≢ m) before) (λ m i. i.1) (names_of rest.slots)
+              later.beside,
+        );
       })
     where
       small : (us vs ws : List (List ℕ)) → Grows us vs → Grows vs ws → 2 + length ws < 2 ^ 64 → 2 + length us < 2 ^ 64
@@ -187,9 +210,14 @@ module _ (ns : List (List ℕ)) (Clear : List ℕ → Type 0) where
   nothing [] = tt
   nothing (m ∷ ms) = (tt, nothing ms)
 
-  pub slots_own : (n : ℕ) (before taken used : List (List ℕ)) (ss : List Slot) → n ≤ length ss → Giving taken used → Each (IsBefore taken used) before → Each IsParameter (take n ss) → Each IsSource (drop n ss)
+  pub slots_own : (n : ℕ) (before taken used : List (List ℕ)) (ss : List Slot) → n ≤ length ss → Giving taken used →
+      Each (IsBefore taken used) before → Each IsParameter (take n ss) → Each IsSource (drop n ss)
       → 2 + length (named_slots n taken used ss).used < 2 ^ 64 → AreOwnSlots before n ss (named_slots n taken used ss).slots
-  slots_own zero before taken used ss l g b q h f = record { own = block_own 0 before taken used ss refl g b h f; parameters = nothing (names_of (named_slots 0 taken used ss).slots) }
+  slots_own zero before taken used ss l g b q h f = record {
+    own = block_own 0 before taken used ss refl g b h f;
+    parameters = nothing
+        (names_of (named_slots 0 taken used ss).slots);
+  }
   slots_own (suc n) before taken used [] l g b q h f = absurd (omega (arith, l))
   slots_own (suc n) before taken used (s ∷ ss) l g b q h f =
       let p = nat_lt 0 (suc n) in
@@ -198,12 +226,17 @@ module _ (ns : List (List ℕ)) (Clear : List ℕ → Type 0) where
       let taken' = with_name taken s.name in
       let rest = named_slots n taken' used ss in
       let whole : named_slots (suc n) taken used (s ∷ ss) ≡ record { slots = s ∷ rest.slots; used = rest.used } =
-      ap (λ z. (let m = named_slots (suc n - 1) (slot_taken z taken used s) (slot_used z taken used s) ss in record { slots = slot_named z taken used s ∷ m.slots; used = m.used })) yes
+      ap (λ z. (let m = named_slots (suc n - 1) (slot_taken z taken used s) (slot_used z taken used s) ss in
+      record { slots = slot_named z taken used s ∷ m.slots; used = m.used })) yes
       ∙ ap (λ k. (let m = named_slots k taken' used ss in record { slots = s ∷ m.slots; used = m.used })) e in
       let t = grows_with taken s.name in
       let u = grows_self used in
       let big = subst (λ (m : Named). 2 + length m.used < 2 ^ 64) whole f in
-      let now : Each (IsBefore taken' used) (s.name ∷ before) = (parameter_before taken used s g q.0, each_map (IsBefore taken used) (IsBefore taken' used) (λ x i. before_more taken used taken' used t u x i) before b) in
+      let now : Each (IsBefore taken' used) (s.name ∷ before) = (
+        parameter_before taken used s g q.0,
+        each_map (IsBefore taken used) (IsBefore taken' used)
+            (λ x i. before_more taken used taken' used t u x i) before b,
+      ) in
       let later = slots_own n (s.name ∷ before) taken' used ss (omega (arith, l)) (giving_more taken used taken' used t u g) now q.1 h big in
       let ms = names_of (drop n rest.slots) in
       subst (λ (m : Named). AreOwnSlots before (suc n) (s ∷ ss) m.slots) (sym whole)
@@ -214,7 +247,8 @@ module _ (ns : List (List ℕ)) (Clear : List ℕ → Type 0) where
           apart = later.own.apart;
           beside = each_map (λ m. Each (λ x. x ≢ m) (s.name ∷ before)) (λ m. Each (λ x. x ≢ m) before) (λ m i. i.1) ms later.own.beside;
         };
-        parameters = each_map (λ m. Each (λ x. x ≢ m) (s.name ∷ before) × Each (λ (r : Slot). r.name ≢ m) (take n ss)) (λ m. Each (λ (r : Slot). r.name ≢ m) (s ∷ take n ss)) (λ m i. (i.0.0, i.1)) ms
+        parameters = each_map (λ m. Each (λ x. x ≢ m) (s.name ∷ before) × Each (λ (r : Slot). r.name ≢ m) (take n ss))
+            (λ m. Each (λ (r : Slot). r.name ≢ m) (s ∷ take n ss)) (λ m i. (i.0.0, i.1)) ms
             (each_both (λ m. Each (λ x. x ≢ m) (s.name ∷ before)) (λ m. Each (λ (r : Slot). r.name ≢ m) (take n ss)) ms later.own.beside later.parameters);
       })
 
@@ -246,42 +280,52 @@ module _ (ns : List (List ℕ)) (Clear : List ℕ → Type 0) where
   cases_grow : (k i n : ℕ) (g : Given) → Grows g.used (name_cases k i n g).used
   cases_grow k i zero g = grows_self g.used
   cases_grow k i (suc n) g =
-      grows_then g.used (name_case k i g).used (name_cases k (i + 1) n (name_case k i g)).used (grows_with g.used (fresh (numbered (numbered (codes "case") k) i) g.used)) (cases_grow k (i + 1) n (name_case k i g))
+      grows_then g.used (name_case k i g).used (name_cases k (i + 1) n (name_case k i g)).used
+      (grows_with g.used (fresh (numbered (numbered (codes "case") k) i) g.used)) (cases_grow k (i + 1) n (name_case k i g))
 
   behind_grows : (i n : ℕ) (d l : Bool) (g : Given) → Grows g.used (name_break i l (name_default i d (name_cases i 1 n g))).used
   behind_grows i n d l g =
       let a = name_cases i 1 n g in
       let b = name_default i d a in
-      grows_then g.used a.used (name_break i l b).used (cases_grow i 1 n g) (grows_then a.used b.used (name_break i l b).used (default_grows i d a) (break_grows i l b))
+      grows_then g.used a.used (name_break i l b).used (cases_grow i 1 n g)
+      (grows_then a.used b.used (name_break i l b).used (default_grows i d a) (break_grows i l b))
 
   construct_grows : (i : ℕ) (x : Construct) (g : Given) → Grows g.used (name_construct i x g).used
   construct_grows i c.Stays g = grows_self g.used
   construct_grows i (c.Scattered k n d l) g =
       let one = name_variable i k g in
-      grows_then g.used one.used (name_construct i (c.Scattered k n d l) g).used (grows_with g.used (fresh (numbered (codes "switch") i) g.used)) (behind_grows i n d l one)
+      grows_then g.used one.used (name_construct i (c.Scattered k n d l) g).used (grows_with g.used (fresh (numbered (codes "switch") i) g.used))
+      (behind_grows i n d l one)
 
   pub constructs_grow : (i : ℕ) (cs : List Construct) (g : Given) → Grows g.used (name_constructs i cs g).used
   constructs_grow i [] g = grows_self g.used
-  constructs_grow i (x ∷ cs) g = grows_then g.used (name_construct i x g).used (name_constructs (i + 1) cs (name_construct i x g)).used (construct_grows i x g) (constructs_grow (i + 1) cs (name_construct i x g))
+  constructs_grow i (x ∷ cs) g = grows_then g.used (name_construct i x g).used (name_constructs (i + 1) cs (name_construct i x g)).used
+      (construct_grows i x g) (constructs_grow (i + 1) cs (name_construct i x g))
 
   switch_word : (i : ℕ) → IsName (numbered (codes "switch") i)
   switch_word i = numbered_name (codes "switch") i refl
 
-  variable_made : (i : ℕ) (k : IntKind) (taken : List (List ℕ)) (g : Given) → Giving taken g.used → AreMade g.used g.variables → 2 + length g.used < 2 ^ 64 → AreMade (name_variable i k g).used (name_variable i k g).variables
+  variable_made : (i : ℕ) (k : IntKind) (taken : List (List ℕ)) (g : Given) → Giving taken g.used → AreMade g.used g.variables →
+      2 + length g.used < 2 ^ 64 → AreMade (name_variable i k g).used (name_variable i k g).variables
   variable_made i k taken g y h f =
       let w = fresh (numbered (codes "switch") i) g.used in
       let o = fresh_unused g.used (numbered (codes "switch") i) f in
       let none = out_by ns g.used w (y.named w) o in
       let old = made_more g.used (with_name g.used w) g.variables (grows_with g.used w) h in
       let s = number_slot k w in
-      let new : IsMade (with_name g.used w) w = ((fresh_name g.used (numbered (codes "switch") i) (switch_word i), y.clear_used w o), (own_with g.used w, none)) in
+      let new : IsMade (with_name g.used w) w = (
+        (fresh_name g.used (numbered (codes "switch") i) (switch_word i), y.clear_used w o),
+        (own_with g.used w, none),
+      ) in
       record {
-        each = subst (Each (IsMade (with_name g.used w))) (sym (names_end g.variables s)) (each_append (IsMade (with_name g.used w)) (names_of g.variables) (w ∷ []) old.each (new, tt));
+        each = subst (Each (IsMade (with_name g.used w))) (sym (names_end g.variables s))
+            (each_append (IsMade (with_name g.used w)) (names_of g.variables) (w ∷ []) old.each (new, tt));
         apart = subst AllDiffer (sym (names_end g.variables s)) (differ_append (names_of g.variables) (w ∷ []) h.apart (tt, tt)
             (each_map (IsMade g.used) (λ m. m ≢ w) (λ m q. in_out g.used m w q.1.0 o) (names_of g.variables) h.each, tt));
       }
 
-  pub variables_own : (i : ℕ) (cs : List Construct) (taken : List (List ℕ)) (g : Given) → Giving taken g.used → AreMade g.used g.variables → 2 + length (name_constructs i cs g).used < 2 ^ 64
+  pub variables_own : (i : ℕ) (cs : List Construct) (taken : List (List ℕ)) (g : Given) → Giving taken g.used → AreMade g.used g.variables →
+      2 + length (name_constructs i cs g).used < 2 ^ 64
       → AreMade (name_constructs i cs g).used (name_constructs i cs g).variables
   variables_own i [] taken g y h f = h
   variables_own i (c.Stays ∷ cs) taken g y h f = variables_own (i + 1) cs taken (name_construct i c.Stays g) y h f
@@ -294,7 +338,8 @@ module _ (ns : List (List ℕ)) (Clear : List ℕ → Type 0) where
       let few = first.1 in
       let more = (constructs_grow (i + 1) cs next).1 in
       let made = variable_made i k taken g y h (omega (arith, few, more, f)) in
-      variables_own (i + 1) cs taken next (giving_more taken g.used taken next.used (grows_self taken) first y) (subst (AreMade next.used) (sym e) (made_more one.used next.used one.variables (behind_grows i n d l one) made)) f
+      variables_own (i + 1) cs taken next (giving_more taken g.used taken next.used (grows_self taken) first y)
+      (subst (AreMade next.used) (sym e) (made_more one.used next.used one.variables (behind_grows i n d l one) made)) f
 
   pub made_before : (taken used : List (List ℕ)) (vs : List Slot) → AreMade used vs → Each (IsBefore taken used) (names_of vs)
   made_before taken used vs h = each_map (IsMade used) (IsBefore taken used) (λ m i. inr (i.1.0, inr i.1.1)) (names_of vs) h.each

@@ -23,9 +23,11 @@ named_flat names file f old new = named_beside (with_known names) (with_known fi
 
 abbrev pub FlatNamesMakeForms : Type 0
 FlatNamesMakeForms =
-    (used taken : List (List ℕ)) (f : Function) (old new : List Item) → f.body ≡ Some old → f.params ≤ length f.slots → trees_of new ≡ flat_body constant f.slots (length f.labels) (trees_of old)
+    (used taken : List (List ℕ)) (f : Function) (old new : List Item) → f.body ≡ Some old → f.params ≤ length f.slots →
+    trees_of new ≡ flat_body constant f.slots (length f.labels) (trees_of old)
     → IsFlatForm f (named_beside used taken f old new)
 
 -- what a function of a source is flattened to
 abbrev pub FlattenedAreForms : Type 0
-FlattenedAreForms = (used taken : List (List ℕ)) (f g : Function) → f.flat ≡ false → f.params ≤ length f.slots → IsFlattenedBeside used taken f g → FlatTop (T.Function f) (T.Function g)
+FlattenedAreForms = (used taken : List (List ℕ)) (f g : Function) → f.flat ≡ false → f.params ≤ length f.slots → IsFlattenedBeside used taken f g →
+    FlatTop (T.Function f) (T.Function g)

@@ -29,4 +29,5 @@ pub record IsNamedIn (p : Program) (names file : List (List ℕ)) (f : Function)
   pub few : 2 + length (used_at_end names file f body) < 2 ^ 64
 
 abbrev pub FlatNamesAreOwn : Type 0
-FlatNamesAreOwn = (p : Program) (names file : List (List ℕ)) (f : Function) (old new : List Item) → f.params ≤ length f.slots → IsNamedIn p names file f (trees_of old) → HasOwnNames p.tops (named_flat names file f old new)
+FlatNamesAreOwn = (p : Program) (names file : List (List ℕ)) (f : Function) (old new : List Item) → f.params ≤ length f.slots →
+    IsNamedIn p names file f (trees_of old) → HasOwnNames p.tops (named_flat names file f old new)

@@ -26,12 +26,14 @@ pub one_more : (out a : Forest) (x : Tree) (m : Forest) → a ≡ join out (one 
 one_more out a x m e = ap (λ z. join z m) e ∙ joined out (one x) m
 
 -- a `for` and the label behind it
-pub with_loop : (jumpy : Bool) (t u : Option ExpressionTree) (a : Forest) (b c : Aim) → Then (for_loop jumpy t u (join a (mark_of c))) (mark_of b) ≡ flat_for jumpy t u a b c
+pub with_loop : (jumpy : Bool) (t u : Option ExpressionTree) (a : Forest) (b c : Aim) →
+    Then (for_loop jumpy t u (join a (mark_of c))) (mark_of b) ≡ flat_for jumpy t u a b c
 with_loop true t u a b c = ap (λ z. Then (While (Source (test_or_one t)) z) (mark_of b)) (joined a (mark_of c) (third_items u))
 with_loop false t u a b c = refl
 
 -- the cells of an array from i on
-pub cells_more : (k : IntKind) (x i n : ℕ) → i < n → assigned_cells k x i [] (n - i) ≡ Then (Evaluate (assign_cell k x i zero_tree)) (assigned_cells k x (i + 1) [] (n - (i + 1)))
+pub cells_more : (k : IntKind) (x i n : ℕ) → i < n → assigned_cells k x i [] (n - i) ≡ Then (Evaluate (assign_cell k x i zero_tree))
+    (assigned_cells k x (i + 1) [] (n - (i + 1)))
 cells_more k x i n h =
     let e : n - i ≡ suc (n - (i + 1)) = omega arith in
     let f : suc i ≡ i + 1 = omega arith in
@@ -40,7 +42,8 @@ cells_more k x i n h =
 pub cells_end : (k : IntKind) (x i n : ℕ) → n ≤ i → assigned_cells k x i [] (n - i) ≡ Nil
 cells_end k x i n h = let e : n - i ≡ 0 = omega arith in ap (assigned_cells k x i []) e
 
-pub cells_step : (k : IntKind) (x i m : ℕ) (e : Expression) (es : List Expression) (out new all : Forest) → new ≡ join out (one (Evaluate (assign_cell k x i (expression_tree e))))
+pub cells_step : (k : IntKind) (x i m : ℕ) (e : Expression) (es : List Expression) (out new all : Forest) →
+    new ≡ join out (one (Evaluate (assign_cell k x i (expression_tree e))))
     → join out (assigned_cells k x i (expression_trees (e ∷ es)) m) ≡ all → join new (assigned_cells k x (i + 1) (expression_trees es) m) ≡ all
 cells_step k x i m e es out new all n inv =
     let f : i + 1 ≡ suc i = omega arith in
@@ -59,7 +62,8 @@ behind_behind (Section cases default x ends a) b c = ap (Section cases default x
 
 pub sections-append : (xs ys : List Real.Section) → sections_of (xs ++ ys) ≡ behind (sections_of xs) (sections_of ys)
 sections-append [] ys = sym (ap (λ z. behind z (sections_of ys)) sections-none)
-sections-append (x ∷ xs) ys = section-first x (xs ++ ys) ∙ ap (before x) (sections-append xs ys) ∙ sym (ap (λ z. behind z (sections_of ys)) (section-first x xs))
+sections-append (x ∷ xs) ys = section-first x (xs ++ ys) ∙ ap (before x) (sections-append xs ys) ∙
+    sym (ap (λ z. behind z (sections_of ys)) (section-first x xs))
 
 pub sections-push : (xs : List Real.Section) (x : Real.Section) → sections_of (xs ++ x ∷ []) ≡ behind (sections_of xs) (before x NoSection)
 sections-push xs x = sections-append xs (x ∷ []) ∙ ap (behind (sections_of xs)) (section-first x [] ∙ ap (before x) sections-none)

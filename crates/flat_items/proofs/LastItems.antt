@@ -46,7 +46,8 @@ no_mark true l h = absurd (false≢true h)
 no_mark false l h = refl
 
 -- of an item in whose place x stands, or y without the last exit, and what stands behind it
-by_last : (e f : Ending) (x y xs ys z : Forest) → (is_gone e ≡ true → xs ≡ Nil) → (f ≡ Breaks → x ≡ join y z) → (e ≡ Breaks → xs ≡ join ys z) → later e f ≡ Breaks → join x xs ≡ join (cond (is_gone e) y (join x ys)) z
+by_last : (e f : Ending) (x y xs ys z : Forest) → (is_gone e ≡ true → xs ≡ Nil) → (f ≡ Breaks → x ≡ join y z) → (e ≡ Breaks → xs ≡ join ys z) →
+    later e f ≡ Breaks → join x xs ≡ join (cond (is_gone e) y (join x ys)) z
 by_last Gone f x y xs ys z none g k h = ap (join x) (none refl) ∙ join-nil x ∙ g h
 by_last Breaks f x y xs ys z none g k h = ap (join x) (k refl) ∙ sym (joined x ys z)
 by_last Jumps f x y xs ys z none g k h = cc
@@ -70,13 +71,16 @@ module _ (p : Plan) where
     leaves_none_in h b c r _ g = absurd (false≢true g)
 
   mutual
-    ends_by_exit : (h : Here) (b c : Aim) (r : Arrivals) (xs : Forest) → ending p.live xs ≡ Breaks → flat p h b c r xs ≡ join (flat_last p h b c r xs) (exit b Break)
+    ends_by_exit : (h : Here) (b c : Aim) (r : Arrivals) (xs : Forest) → ending p.live xs ≡ Breaks →
+        flat p h b c r xs ≡ join (flat_last p h b c r xs) (exit b Break)
     ends_by_exit h b c r Nil g = cc
     ends_by_exit h b c r (Then x xs) g =
-        by_last (ending p.live xs) (ending_of p.live x) (flat_item p h b c r x) (flat_last_item p h b c r x) (flat p (past_item x h) b c r xs) (flat_last p (past_item x h) b c r xs) (exit b Break)
+        by_last (ending p.live xs) (ending_of p.live x) (flat_item p h b c r x) (flat_last_item p h b c r x) (flat p (past_item x h) b c r xs)
+        (flat_last p (past_item x h) b c r xs) (exit b Break)
         (leaves_none (past_item x h) b c r xs) (ends_by_exit_in h b c r x) (ends_by_exit (past_item x h) b c r xs) g
 
-    ends_by_exit_in : (h : Here) (b c : Aim) (r : Arrivals) (x : Tree) → ending_of p.live x ≡ Breaks → flat_item p h b c r x ≡ join (flat_last_item p h b c r x) (exit b Break)
+    ends_by_exit_in : (h : Here) (b c : Aim) (r : Arrivals) (x : Tree) → ending_of p.live x ≡ Breaks →
+        flat_item p h b c r x ≡ join (flat_last_item p h b c r x) (exit b Break)
     ends_by_exit_in h b c r Break g = refl
     ends_by_exit_in h b c r (Block a) g = ends_by_exit h b c r a g
     ends_by_exit_in h b c r (Switch s d) g = absurd (no_break_if (is_scattered d && not (leaves d)) (last_ending p.live d) g)
@@ -86,7 +90,8 @@ module _ (p : Plan) where
     ends_by_exit_in h b c r _ g = cc
 
 -- the list of a section is the flat form of the whole, or that without its last item
-pub cut_is : (p : Plan) (h : Here) (b c : Aim) (a : Forest) (e : Ending) → ending p.live a ≡ e → if_breaks e (but_last (flat p h b c NoArrival a)) (flat p h b c NoArrival a) ≡ if_breaks e (flat_last p h b c NoArrival a) (flat p h b c NoArrival a)
+pub cut_is : (p : Plan) (h : Here) (b c : Aim) (a : Forest) (e : Ending) → ending p.live a ≡ e →
+    if_breaks e (but_last (flat p h b c NoArrival a)) (flat p h b c NoArrival a) ≡ if_breaks e (flat_last p h b c NoArrival a) (flat p h b c NoArrival a)
 cut_is p h b c a Breaks g = ap but_last (ends_by_exit p h b c NoArrival a g) ∙ but_last_exit (flat_last p h b c NoArrival a) b Break
 cut_is p h b c a Gone g = refl
 cut_is p h b c a Jumps g = refl

@@ -29,8 +29,10 @@ none_is [] = refl
 none_is (m ∷ ms) = ap suc (none_is ms)
 
 -- one more, in front of the last k
-pub one_more : (ms : List (Option ℤ)) (d : Option ℤ) (k : ℕ) (n : ℤ) (old : Option ℕ) → k < length ms → old ≡ sought (Some n) (drop (length ms - k) ms) (length ms - k)
-    → cond (same_number (Some n) (get_or ms (length ms - 1 - k) d)) (Some (length ms - 1 - k)) old ≡ sought (Some n) (drop (length ms - (k + 1)) ms) (length ms - (k + 1))
+pub one_more : (ms : List (Option ℤ)) (d : Option ℤ) (k : ℕ) (n : ℤ) (old : Option ℕ) → k < length ms →
+    old ≡ sought (Some n) (drop (length ms - k) ms) (length ms - k)
+    → cond (same_number (Some n) (get_or ms (length ms - 1 - k) d)) (Some (length ms - 1 - k)) old ≡ sought (Some n) (drop (length ms - (k + 1)) ms)
+    (length ms - (k + 1))
 one_more ms d k n old below e =
     let j = length ms - (k + 1) in
     let here : length ms - 1 - k ≡ j = omega arith in
@@ -39,17 +41,20 @@ one_more ms d k n old below e =
     let inside : j < length ms = omega arith in
     ap (λ z. cond (same_number (Some n) (get_or ms z d)) (Some z) old) here
     ∙ ap (cond (same_number (Some n) (get_or ms j d)) (Some j)) (e ∙ ap (λ z. sought (Some n) (drop z ms) z) next)
-    ∙ sym (ap (λ xs. sought (Some n) xs j) (drop_more ms j d inside) ∙ ap (λ z. cond (same_number (Some n) (get_or ms j d)) (Some j) (sought (Some n) (drop z ms) (suc j))) follows)
+    ∙ sym (ap (λ xs. sought (Some n) xs j) (drop_more ms j d inside) ∙
+    ap (λ z. cond (same_number (Some n) (get_or ms j d)) (Some j) (sought (Some n) (drop z ms) (suc j))) follows)
 
 -- once all are entered
-pub all_entered : (p : P.CasePlaces) (ms : List (Option ℤ)) (k : ℕ) → p.behind ≡ length ms → length ms ≤ k → ((n : ℤ) → get int_cmp p.table n ≡ sought (Some n) (drop (length ms - k) ms) (length ms - k))
+pub all_entered : (p : P.CasePlaces) (ms : List (Option ℤ)) (k : ℕ) → p.behind ≡ length ms → length ms ≤ k →
+    ((n : ℤ) → get int_cmp p.table n ≡ sought (Some n) (drop (length ms - k) ms) (length ms - k))
     → (n : Option ℤ) → place_at p n ≡ place_of n ms
 all_entered p ms k b e inv None = b ∙ none_is ms
 all_entered p ms k b e inv (Some n) =
     let all : length ms - k ≡ 0 = omega arith in
     let same : length ms ≡ 0 + length ms = omega arith in
     let place : 0 + place_of (Some n) ms ≡ place_of (Some n) ms = omega arith in
-    ap (λ o. unwrap_or o p.behind) (inv n ∙ ap (λ z. sought (Some n) (drop z ms) z) all) ∙ ap (unwrap_or (sought (Some n) ms 0)) (b ∙ same) ∙ sought_is n ms 0 ∙ place
+    ap (λ o. unwrap_or o p.behind) (inv n ∙ ap (λ z. sought (Some n) (drop z ms) z) all) ∙ ap (unwrap_or (sought (Some n) ms 0)) (b ∙ same) ∙
+    sought_is n ms 0 ∙ place
 
 -- where there are none
 pub none_there : (p : P.CasePlaces) → p.table.entries ≡ [] → p.behind ≡ 0 → (n : Option ℤ) → place_at p n ≡ place_of n []

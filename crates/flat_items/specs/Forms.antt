@@ -18,7 +18,11 @@ entered_of h = record { construct = suc h.construct; case = h.case + 0; variable
 
 -- the numbers of what comes behind sections
 abbrev pub past_among : Sections → Here → Here
-past_among d h = record { construct = h.construct + total_in constructs_of d; case = h.case + total_in cases_of d; variable = h.variable + total_in variables_of d }
+past_among d h = record {
+  construct = h.construct + total_in constructs_of d;
+  case = h.case + total_in cases_of d;
+  variable = h.variable + total_in variables_of d;
+}
 
 -- what the exits of a loop become
 abbrev pub loop_breaks : Plan → ℕ → Forest → Aim
@@ -46,7 +50,8 @@ abbrev pub switch_breaks : Plan → ℕ → Aim → Sections → Aim
 switch_breaks p k c d = aim (is_jumpy_switch p c d) (kept_breaks p.live d) (p.break_label k)
 
 abbrev pub kept_form : Plan → Here → Aim → SelectorTree → Sections → Forest
-kept_form p h c s d = Then (Switch s (flat_sections p (entered_of h) (is_jumpy_switch p c d) (switch_breaks p h.construct c d) c d)) (mark_of (switch_breaks p h.construct c d))
+kept_form p h c s d = Then (Switch s (flat_sections p (entered_of h) (is_jumpy_switch p c d) (switch_breaks p h.construct c d) c d))
+    (mark_of (switch_breaks p h.construct c d))
 
 abbrev pub scattered_form : Plan → Here → Aim → SelectorTree → Sections → Forest
 scattered_form p h c s d = dissolved p h s d (spread p (inside (Switch s d) h) (scatter_aim p h d) c (names_of p h (switch_kind s) d) d)

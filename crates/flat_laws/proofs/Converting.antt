@@ -24,11 +24,13 @@ use Rattle.flat_laws.specs.FlatMade.{hop_of, hops, IsFlatItem, IsFlatMade}
 -- ---- `if (c) goto L` or another `if`
 
 module _ (R : TestTree → Forest → Forest → Forest → Type 0) (f : (e : ExpressionTree) (l : ℕ) → R (Source e) (one (Goto l)) Nil (jump_tree l (Some e))) where
-  lone_as : (e : ExpressionTree) (a : Forest) → R (Source e) a Nil (one (If (Source e) (convert a) Nil)) → R (Source e) a Nil (option_map_or (λ l. jump_tree l (Some e)) (lone_goto a) (one (If (Source e) (convert a) Nil)))
+  lone_as : (e : ExpressionTree) (a : Forest) → R (Source e) a Nil (one (If (Source e) (convert a) Nil)) →
+      R (Source e) a Nil (option_map_or (λ l. jump_tree l (Some e)) (lone_goto a) (one (If (Source e) (convert a) Nil)))
   lone_as e (Then (Goto l) Nil) h = f e l
   lone_as e a h = h
 
-  if_as : (t : TestTree) (a b : Forest) → R t a b (one (If t (convert a) (convert b))) → R t a b (option_map_or (λ l. jump_tree l (source_tree t)) (conditional_goto t a b) (one (If t (convert a) (convert b))))
+  if_as : (t : TestTree) (a b : Forest) → R t a b (one (If t (convert a) (convert b))) →
+      R t a b (option_map_or (λ l. jump_tree l (source_tree t)) (conditional_goto t a b) (one (If t (convert a) (convert b))))
   if_as (Source e) a Nil h = lone_as e a h
   if_as (Source e) a (Then y b) h = h
   if_as t a b h = h
@@ -43,8 +45,11 @@ mutual
   same_exits Nil = (refl, refl)
   same_exits (Then x a) =
       let i = same_exits_of x in
-      let j = same_exits a in
-      (let e = free_join (convert_item x) (convert a) in let i' = i.0 in let j' = j.0 in omega (arith, e, i', j'), let e = stay_join (convert_item x) (convert a) in let i' = i.1 in let j' = j.1 in omega (arith, e, i', j'))
+      let j = same_exits a in (
+        let e = free_join (convert_item x) (convert a) in let i' = i.0 in let j' = j.0 in
+            omega (arith, e, i', j'),
+        let e = stay_join (convert_item x) (convert a) in let i' = i.1 in let j' = j.1 in omega (arith, e, i', j'),
+      )
 
   same_exits_of : (x : Tree) → SameExits (breaks_of x) (continues_of x) (convert_item x)
   same_exits_of (If t a b) =
@@ -74,7 +79,8 @@ mutual
   same_jumps (Then x a) = let i = same_jumps_of x in let j = same_jumps a in let k = total-join jump_of (convert_item x) (convert a) in omega (arith, i, j, k)
 
   same_jumps_of : (x : Tree) → jumps (convert_item x) ≡ total_of hop_of x
-  same_jumps_of (If t a b) = let i = same_jumps a in let j = same_jumps b in if_as (λ t a b z. jumps z ≡ 0 + hops a + hops b) (λ e l. refl) t a b (omega (arith, i, j))
+  same_jumps_of (If t a b) = let i = same_jumps a in let j = same_jumps b in
+      if_as (λ t a b z. jumps z ≡ 0 + hops a + hops b) (λ e l. refl) t a b (omega (arith, i, j))
   same_jumps_of (While t a) = let i = same_jumps a in omega (arith, i)
   same_jumps_of (Do a t) = let i = same_jumps a in omega (arith, i)
   same_jumps_of (For first t u a) = let i = same_jumps first in let j = same_jumps a in omega (arith, i, j)
@@ -102,10 +108,13 @@ module _ (l : ℕ) (P : ℕ → Type 0) where
   mutual
     pub same_lands : (a : Forest) → Everywhere (IsFlatItem P) a → lands l (convert a) ≡ places l a
     same_lands Nil h = refl
-    same_lands (Then x a) h = let i = same_lands_of x h.0 in let j = same_lands a h.1 in let k = total-join (land_of l) (convert_item x) (convert a) in omega (arith, i, j, k)
+    same_lands (Then x a) h = let i = same_lands_of x h.0 in let j = same_lands a h.1 in let k =
+        total-join (land_of l) (convert_item x) (convert a) in
+        omega (arith, i, j, k)
 
     same_lands_of : (x : Tree) → EverywhereOf (IsFlatItem P) x → lands l (convert_item x) ≡ places_of l x
-    same_lands_of (If t a b) h = let i = same_lands a h.1 in let j = same_lands b h.2 in if_as (λ t a b z. lands l z ≡ places l a + places l b) (λ e m. refl) t a b (omega (arith, i, j))
+    same_lands_of (If t a b) h = let i = same_lands a h.1 in let j = same_lands b h.2 in
+        if_as (λ t a b z. lands l z ≡ places l a + places l b) (λ e m. refl) t a b (omega (arith, i, j))
     same_lands_of (While t a) h = let i = same_lands a h.1 in omega (arith, i)
     same_lands_of (Do a t) h = let i = same_lands a h.1 in omega (arith, i)
     same_lands_of (For first t u a) h = let i = same_lands a h.2 in let j = ap (λ z. lands l (convert z)) h.0.0 in omega (arith, i, j)
@@ -185,17 +194,66 @@ module _ (P Q : ℕ → Type 0) (f : (l : ℕ) → P l → Q l) where
     made_of : (x : Tree) → EverywhereOf (IsFlatItem P) x → Made (convert_item x)
     made_of (If (Source e) a b) h =
         if_as (λ t a b z. Flat a → Made z) (λ e l g. armed l (Some e) (f l g.0)) (Source e) a b
-        (λ g. ((record { converted = tt; labels = tt; kind = tt; entries = tt; cases = tt; picks = tt; loops = tt; exits = tt; tests = λ n. absurd n }, made a h.1, made b h.2), tt)) h.1
+        (λ g. (
+          (
+            record {
+              converted = tt;
+              labels = tt;
+              kind = tt;
+              entries = tt;
+              cases = tt;
+              picks = tt;
+              loops = tt;
+              exits = tt;
+              tests = λ n. absurd n;
+            },
+            made a h.1,
+            made b h.2,
+          ),
+          tt,
+        )) h.1
     made_of (If (On l) a b) h = absurd h.0
     made_of (If (Off l) a b) h = absurd h.0
     made_of (If (AndOff l t) a b) h = absurd h.0
     made_of (If (OrOn l t) a b) h = absurd h.0
-    made_of (While (Source e) a) h = ((record { converted = tt; labels = tt; kind = tt; entries = tt; cases = tt; picks = tt; loops = tt; exits = settled a h.0.1; tests = tt }, made a h.1), tt)
+    made_of (While (Source e) a) h = (
+      (
+        record {
+          converted = tt;
+          labels = tt;
+          kind = tt;
+          entries = tt;
+          cases = tt;
+          picks = tt;
+          loops = tt;
+          exits = settled a h.0.1;
+          tests = tt;
+        },
+        made a h.1,
+      ),
+      tt,
+    )
     made_of (While (On l) a) h = absurd h.0.0
     made_of (While (Off l) a) h = absurd h.0.0
     made_of (While (AndOff l t) a) h = absurd h.0.0
     made_of (While (OrOn l t) a) h = absurd h.0.0
-    made_of (Do a (Source e)) h = ((record { converted = tt; labels = tt; kind = tt; entries = tt; cases = tt; picks = tt; loops = tt; exits = settled a h.0.1; tests = tt }, made a h.1), tt)
+    made_of (Do a (Source e)) h = (
+      (
+        record {
+          converted = tt;
+          labels = tt;
+          kind = tt;
+          entries = tt;
+          cases = tt;
+          picks = tt;
+          loops = tt;
+          exits = settled a h.0.1;
+          tests = tt;
+        },
+        made a h.1,
+      ),
+      tt,
+    )
     made_of (Do a (On l)) h = absurd h.0.0
     made_of (Do a (Off l)) h = absurd h.0.0
     made_of (Do a (AndOff l t)) h = absurd h.0.0
@@ -204,8 +262,24 @@ module _ (P Q : ℕ → Type 0) (f : (l : ℕ) → P l → Q l) where
         let j = same_jumps a in
         let i = h.0.1 in
         let k = same_jumps first in
-        let g = ap hops h.0.0 in
-        ((record { converted = tt; labels = tt; kind = tt; entries = tt; cases = tt; picks = tt; loops = (ap convert h.0.0, omega (arith, i, j)); exits = λ n. absurd (omega (arith, i, j, k, g, n)); tests = tt }, made first h.1, made a h.2), tt)
+        let g = ap hops h.0.0 in (
+          (
+            record {
+              converted = tt;
+              labels = tt;
+              kind = tt;
+              entries = tt;
+              cases = tt;
+              picks = tt;
+              loops = (ap convert h.0.0, omega (arith, i, j));
+              exits = λ n. absurd (omega (arith, i, j, k, g, n));
+              tests = tt;
+            },
+            made first h.1,
+            made a h.2,
+          ),
+          tt,
+        )
     made_of (Switch (Selects e) c) h =
         let g = h.0.1 in
         let s = converted_entries c in
@@ -218,7 +292,8 @@ module _ (P Q : ℕ → Type 0) (f : (l : ℕ) → P l → Q l) where
               labels = tt;
               kind = g.kind;
               entries = (s.entered g.entered, let i = g.default in omega (arith, i, d));
-              cases = if_some (λ k. AreCases k c) (λ k. AreCases k (convert_sections c)) (λ k. cases_as k c (convert_sections c) s.cases) (selector_kind (Selects e)) g.cases;
+              cases = if_some (λ k. AreCases k c) (λ k. AreCases k (convert_sections c)) (λ k. cases_as k c (convert_sections c) s.cases)
+                  (selector_kind (Selects e)) g.cases;
               picks = no_picks (selector_kind (Selects e)) e;
               loops = tt;
               exits = λ n. let i = h.0.2 (omega (arith, j, n)) in omega (arith, i, b);
@@ -272,7 +347,8 @@ mutual
 
   unjumping_same_of : (x : Tree) → EverywhereOf IsUnjumping x → convert_item x ≡ one x
   unjumping_same_of (If t a b) h =
-      if_as (λ t a b z. Everywhere IsUnjumping a → z ≡ one (If t a b)) (λ e l g. absurd g.0) t a b (λ g. ap₂ (λ a b. one (If t a b)) (unjumping_same a h.1) (unjumping_same b h.2)) h.1
+      if_as (λ t a b z. Everywhere IsUnjumping a → z ≡ one (If t a b)) (λ e l g. absurd g.0) t a b
+      (λ g. ap₂ (λ a b. one (If t a b)) (unjumping_same a h.1) (unjumping_same b h.2)) h.1
   unjumping_same_of (While t a) h = ap (λ a. one (While t a)) (unjumping_same a h.1)
   unjumping_same_of (Do a t) h = ap (λ a. one (Do a t)) (unjumping_same a h.1)
   unjumping_same_of (For first t u a) h = ap₂ (λ first a. one (For first t u a)) (unjumping_same first h.1) (unjumping_same a h.2)

@@ -108,7 +108,8 @@ pub labelled_append : (L : ℕ) (names : Names) (xs ys : List (Option Expression
 labelled_append L names [] ys = omega arith
 labelled_append L names (e ∷ xs) ys = let h = labelled_append L names xs ys in omega (arith, h)
 
-pub marks_places : (L : ℕ) (names : Names) (cases : List ExpressionTree) (default : Bool) → places L (case_marks names cases default) ≡ labelled L names (section_labels cases default)
+pub marks_places : (L : ℕ) (names : Names) (cases : List ExpressionTree) (default : Bool) →
+    places L (case_marks names cases default) ≡ labelled L names (section_labels cases default)
 marks_places L names [] true = refl
 marks_places L names [] false = refl
 marks_places L names (e ∷ es) default = let h = marks_places L names es default in omega (arith, h)
@@ -152,7 +153,8 @@ module _ (within : Tree → Here → Here) (past : Forest → Here → Here) (w 
     gathered_in h (If t a b) = w (If t a b) h + (gathered (within (If t a b) h) a + gathered (past a (within (If t a b) h)) b)
     gathered_in h (While t a) = w (While t a) h + gathered (within (While t a) h) a
     gathered_in h (Do a t) = w (Do a t) h + gathered (within (Do a t) h) a
-    gathered_in h (For first t u a) = w (For first t u a) h + (gathered (within (For first t u a) h) first + gathered (past first (within (For first t u a) h)) a)
+    gathered_in h (For first t u a) = w (For first t u a) h + (gathered (within (For first t u a) h) first + gathered
+        (past first (within (For first t u a) h)) a)
     gathered_in h (Block a) = gathered h a
     gathered_in h (Switch s d) = w (Switch s d) h + gathered_among (within (Switch s d) h) d
     gathered_in h _ = 0
@@ -199,7 +201,8 @@ end_places L true (Becomes l) ys = omega arith
 end_places L true Absent ys = refl
 end_places L false b ys = refl
 
-pub for_places : (L : ℕ) (y : Bool) (t u : Option ExpressionTree) (a : Forest) (b c : Aim) → places L (flat_for y t u a b c) ≡ places L a + places L (mark_of c) + places L (mark_of b)
+pub for_places : (L : ℕ) (y : Bool) (t u : Option ExpressionTree) (a : Forest) (b c : Aim) →
+    places L (flat_for y t u a b c) ≡ places L a + places L (mark_of c) + places L (mark_of b)
 for_places L true t u a b c =
     let h = places_join L a (join (mark_of c) (third_items u)) in
     let i = places_join L (mark_of c) (third_items u) in
@@ -256,7 +259,8 @@ module _ (L : ℕ) (p : Plan) where
         let q = aim_places L (holds_jump p.live a) (continues a) (p.continue_label h.construct) in omega (arith, i, j, k, l, o, q)
     bounded_in (Block a) h b c r = let i = bounded a h b c r in omega (arith, i)
     bounded_in (Local x None) h b c r = omega arith
-    bounded_in (Local x (Some es)) h b c r = let i = assigned_places L (entry_or no_slot p.slots x).kind x (entry_or no_slot p.slots x).cells es in omega (arith, i)
+    bounded_in (Local x (Some es)) h b c r = let i = assigned_places L (entry_or no_slot p.slots x).kind x (entry_or no_slot p.slots x).cells es in
+        omega (arith, i)
     bounded_in Break h b c r = let i = exit_break L b in omega (arith, i)
     bounded_in Continue h b c r = let i = exit_continue L c in omega (arith, i)
     bounded_in (Goto l) h b c r = omega arith
@@ -278,7 +282,8 @@ module _ (L : ℕ) (p : Plan) where
         let l = tests_among_places L p.number (switch_kind s) h.variable names d in
         let n = bounded_among d h' y m c in
         let o = aim_places L y (kept_breaks p.live d) (p.break_label h.construct) in
-        let z = le_switch L lab (brk + rest) (is_scattered d) (dissolved p h s d sp) (Then (Switch s (flat_sections p h' y m c d)) (mark_of m)) (omega (arith, i, j, k, l)) (omega (arith, n, o)) in omega (arith, z)
+        let z = le_switch L lab (brk + rest) (is_scattered d) (dissolved p h s d sp) (Then (Switch s (flat_sections p h' y m c d)) (mark_of m))
+        (omega (arith, i, j, k, l)) (omega (arith, n, o)) in omega (arith, z)
     bounded_in (Evaluate e) h b c r = omega arith
     bounded_in (Return e) h b c r = omega arith
     bounded_in (Arm l e) h b c r = omega arith
@@ -286,7 +291,8 @@ module _ (L : ℕ) (p : Plan) where
     bounded_in (Land l) h b c r = omega arith
     bounded_in (Note bs) h b c r = omega arith
 
-    bounded_among : (d : Sections) (h : Here) (y : Bool) (b c : Aim) → places_among L (flat_sections p h y b c d) ≤ total_in (sourced L p) d + gathered_among within past (makes L p) h d
+    bounded_among : (d : Sections) (h : Here) (y : Bool) (b c : Aim) →
+        places_among L (flat_sections p h y b c d) ≤ total_in (sourced L p) d + gathered_among within past (makes L p) h d
     bounded_among NoSection h y b c = omega arith
     bounded_among (Section cases default a ends d) h y b c =
         let i = bounded_last a h b c NoArrival in
@@ -294,7 +300,9 @@ module _ (L : ℕ) (p : Plan) where
         let k = le_breaks L (bound h NoArrival a) (ending p.live a) (flat_last p h b c NoArrival a) (flat p h b c NoArrival a) i j in
         let l = bounded_among d (past a h) y b c in omega (arith, k, l)
 
-    bounded_spread : (d : Sections) (h : Here) (b c : Aim) (names : Names) → places L (spread p h b c names d) ≤ places L (mark_of b) + (total_in (sourced L p) d + gathered_among within past (makes L p) h d) + labelled L names (switch_labels d)
+    bounded_spread : (d : Sections) (h : Here) (b c : Aim) (names : Names) →
+        places L (spread p h b c names d) ≤ places L (mark_of b) + (total_in (sourced L p) d + gathered_among within past (makes L p) h d) + labelled
+        L names (switch_labels d)
     bounded_spread NoSection h b c names = omega arith
     bounded_spread (Section cases default a ends d) h b c names =
         let fa = flat p h b c (Arrives names) a in
@@ -316,7 +324,8 @@ module _ (L : ℕ) (p : Plan) where
         let k = bounded_last xs (past_item x h) b c r in
         let l = places_join L (flat_item p h b c r x) (flat_last p (past_item x h) b c r xs) in
         let m = arrived_append L r (arrivals_in x) (arrivals xs) in
-        le_cond L (bound h r (Then x xs)) (is_gone (ending p.live xs)) (flat_last_item p h b c r x) (join (flat_item p h b c r x) (flat_last p (past_item x h) b c r xs)) (omega (arith, i, m)) (omega (arith, j, k, l, m))
+        le_cond L (bound h r (Then x xs)) (is_gone (ending p.live xs)) (flat_last_item p h b c r x)
+        (join (flat_item p h b c r x) (flat_last p (past_item x h) b c r xs)) (omega (arith, i, m)) (omega (arith, j, k, l, m))
 
     bounded_last_item : (x : Tree) (h : Here) (b c : Aim) (r : Arrivals) → places L (flat_last_item p h b c r x) ≤ bound_in h r x
     bounded_last_item (Block a) h b c r = let i = bounded_last a h b c r in omega (arith, i)

@@ -51,10 +51,18 @@ fewer_join b c m n m' n' xs ys f g = (
 )
 
 fewer_then : (b c : Aim) (m n : ℕ) (xs ys : Forest) → Fewer b c m n xs → Free ys → Fewer b c m n (join xs ys)
-fewer_then b c m n xs ys f g = (let e = free_join xs ys in let i = f.0 in let j = g.0 in omega (arith, e, i, j), let e = stay_join xs ys in let i = f.1 in let j = g.1 in omega (arith, e, i, j))
+fewer_then b c m n xs ys f g = (
+  let e = free_join xs ys in let i = f.0 in let j = g.0 in omega (arith, e, i, j),
+  let e = stay_join xs ys in
+      let i = f.1 in let j = g.1 in omega (arith, e, i, j),
+)
 
 fewer_after : (b c : Aim) (m n : ℕ) (xs ys : Forest) → Free xs → Fewer b c m n ys → Fewer b c m n (join xs ys)
-fewer_after b c m n xs ys f g = (let e = free_join xs ys in let i = f.0 in let j = g.0 in omega (arith, e, i, j), let e = stay_join xs ys in let i = f.1 in let j = g.1 in omega (arith, e, i, j))
+fewer_after b c m n xs ys f g = (
+  let e = free_join xs ys in let i = f.0 in let j = g.0 in omega (arith, e, i, j),
+  let e = stay_join xs ys in
+      let i = f.1 in let j = g.1 in omega (arith, e, i, j),
+)
 
 fewer_if : (b c : Aim) (m n : ℕ) (y : Bool) (xs ys : Forest) → Fewer b c m n xs → Fewer b c m n ys → Fewer b c m n (cond y xs ys)
 fewer_if b c m n true xs ys f g = f
@@ -97,26 +105,32 @@ continue_fewer b (Becomes l) = (omega arith, omega arith)
 continue_fewer b Absent = (omega arith, omega arith)
 
 module _ (p : Plan) where
-  section_fewer : (b c : Aim) (a xs ys : Forest) (e : Ending) → Fewer b c (breaks (trimmed p.live a)) (continues a) xs → Fewer b c (breaks a) (continues a) ys → Fewer b c (breaks (section_list p.live a e)) (continues a) (if_breaks e xs ys)
+  section_fewer : (b c : Aim) (a xs ys : Forest) (e : Ending) → Fewer b c (breaks (trimmed p.live a)) (continues a) xs →
+      Fewer b c (breaks a) (continues a) ys → Fewer b c (breaks (section_list p.live a e)) (continues a) (if_breaks e xs ys)
   section_fewer b c a xs ys Breaks f g = f
   section_fewer b c a xs ys Gone f g = g
   section_fewer b c a xs ys Jumps f g = g
   section_fewer b c a xs ys Otherwise f g = g
 
-  last_fewer : (b c : Aim) (n : ℕ) (u v xs ys : Forest) (y : Bool) → Fewer b c (breaks u) n xs → Fewer b c (breaks v) n ys → Fewer b c (breaks (cond y u v)) n (cond y xs ys)
+  last_fewer : (b c : Aim) (n : ℕ) (u v xs ys : Forest) (y : Bool) → Fewer b c (breaks u) n xs → Fewer b c (breaks v) n ys →
+      Fewer b c (breaks (cond y u v)) n (cond y xs ys)
   last_fewer b c n u v xs ys true f g = f
   last_fewer b c n u v xs ys false f g = g
 
   mutual
     pub fewer : (xs : Forest) (h : Here) (b c : Aim) (r : Arrivals) → Fewer b c (breaks xs) (continues xs) (flat p h b c r xs)
     fewer Nil h b c r = fewer_free b c 0 0 Nil (refl, refl)
-    fewer (Then x xs) h b c r = fewer_join b c (breaks_of x) (continues_of x) (breaks xs) (continues xs) (flat_item p h b c r x) (flat p (past_item x h) b c r xs) (fewer_in x h b c r) (fewer xs (past_item x h) b c r)
+    fewer (Then x xs) h b c r = fewer_join b c (breaks_of x) (continues_of x) (breaks xs) (continues xs) (flat_item p h b c r x)
+        (flat p (past_item x h) b c r xs) (fewer_in x h b c r) (fewer xs (past_item x h) b c r)
 
     fewer_in : (x : Tree) (h : Here) (b c : Aim) (r : Arrivals) → Fewer b c (breaks_of x) (continues_of x) (flat_item p h b c r x)
     fewer_in (If t x y) h b c r =
         let f = fewer x h b c r in
-        let g = fewer y (past x h) b c r in
-        (let i = f.0 in let j = g.0 in let k = left_plus b (breaks x) (breaks y) in omega (arith, i, j, k), let i = f.1 in let j = g.1 in let k = left_plus c (continues x) (continues y) in omega (arith, i, j, k))
+        let g = fewer y (past x h) b c r in (
+          let i = f.0 in let j = g.0 in let k = left_plus b (breaks x) (breaks y) in omega (arith, i, j, k),
+          let i = f.1 in let j = g.1 in
+              let k = left_plus c (continues x) (continues y) in omega (arith, i, j, k),
+        )
     fewer_in (While t a) h b c r =
         let m = aim (holds_jump p.live a) (breaks a) (p.break_label h.construct) in
         let n = aim (holds_jump p.live a) (continues a) (p.continue_label h.construct) in
@@ -132,7 +146,8 @@ module _ (p : Plan) where
         let n = aim (holds_jump p.live a) (continues a) (p.continue_label h.construct) in
         let h' = inside (For first t u a) h in
         let fa = flat p (past first h') m n r a in
-        fewer_then b c (breaks first) (continues first) (flat p h' b c NoArrival first) (flat_for (holds_jump p.live a) t u fa m n) (fewer first h' b c NoArrival) (for_free (holds_jump p.live a) t u fa m n)
+        fewer_then b c (breaks first) (continues first) (flat p h' b c NoArrival first) (flat_for (holds_jump p.live a) t u fa m n)
+        (fewer first h' b c NoArrival) (for_free (holds_jump p.live a) t u fa m n)
     fewer_in (Block a) h b c r = fewer a h b c r
     fewer_in (Local x None) h b c r = fewer_free b c 0 0 Nil (refl, refl)
     fewer_in (Local x (Some es)) h b c r =
@@ -156,7 +171,9 @@ module _ (p : Plan) where
         let g = fewer_among d h' y m c in
         let i = scatter_left (not (has_default (switch_labels d))) (ends_some d) (breaks_in d) (p.break_label h.construct) in
         fewer_if b c 0 (continues_in d) (is_scattered d) (dissolved p h s d sp) (Then (Switch s (flat_sections p h' y m c d)) (mark_of m))
-        (fewer_after b c 0 (continues_in d) (Then v ts) (Then (Goto (otherwise_label p h d)) sp) (joined (one v) ts (refl, refl) (tests_among_free p.number (switch_kind s) h.variable names d)) (let j = f.0 in omega (arith, i, j), let j = f.1 in omega (arith, j)))
+        (fewer_after b c 0 (continues_in d) (Then v ts) (Then (Goto (otherwise_label p h d)) sp)
+        (joined (one v) ts (refl, refl) (tests_among_free p.number (switch_kind s) h.variable names d))
+        (let j = f.0 in omega (arith, i, j), let j = f.1 in omega (arith, j)))
         (let j = (mark_free m).0 in omega (arith, j), let j = (mark_free m).1 in let k = g.1 in omega (arith, j, k))
     fewer_in (Evaluate e) h b c r = fewer_free b c 0 0 (one (Evaluate e)) (refl, refl)
     fewer_in (Return e) h b c r = fewer_free b c 0 0 (one (Return e)) (refl, refl)
@@ -165,31 +182,40 @@ module _ (p : Plan) where
     fewer_in (Land l) h b c r = fewer_free b c 0 0 (one (Land l)) (refl, refl)
     fewer_in (Note bs) h b c r = fewer_free b c 0 0 (one (Note bs)) (refl, refl)
 
-    pub fewer_among : (d : Sections) (h : Here) (y : Bool) (b c : Aim) → (breaks_in (flat_sections p h y b c d) ≤ left b (kept_breaks p.live d)) × (continues_in (flat_sections p h y b c d) ≤ left c (continues_in d))
+    pub fewer_among : (d : Sections) (h : Here) (y : Bool) (b c : Aim) →
+        (breaks_in (flat_sections p h y b c d) ≤ left b (kept_breaks p.live d)) × (continues_in (flat_sections p h y b c d) ≤ left c (continues_in d))
     fewer_among NoSection h y b c = (omega arith, omega arith)
     fewer_among (Section cases default a ends d) h y b c =
         let e = ending p.live a in
         let l = section_list p.live a e in
         let f = section_fewer b c a (flat_last p h b c NoArrival a) (flat p h b c NoArrival a) e (fewer_last a h b c NoArrival) (fewer a h b c NoArrival) in
-        let g = fewer_among d (past a h) y b c in
-        (let i = f.0 in let j = g.0 in let k = left_plus b (breaks l) (kept_breaks p.live d) in omega (arith, i, j, k), let i = f.1 in let j = g.1 in let k = left_plus c (continues a) (continues_in d) in omega (arith, i, j, k))
+        let g = fewer_among d (past a h) y b c in (
+          let i = f.0 in let j = g.0 in let k = left_plus b (breaks l) (kept_breaks p.live d) in omega (arith, i, j, k),
+          let i = f.1 in let j = g.1 in
+              let k = left_plus c (continues a) (continues_in d) in omega (arith, i, j, k),
+        )
 
     fewer_spread : (d : Sections) (h : Here) (b c : Aim) (names : Names) → Fewer b c (breaks_in d) (continues_in d) (spread p h b c names d)
     fewer_spread NoSection h b c names = fewer_free b c 0 0 (mark_of b) (mark_free b)
     fewer_spread (Section cases default a ends d) h b c names =
         let fa = flat p h b c (Arrives names) a in
         let sp = spread p (past a h) b c names d in
-        fewer_after b c (breaks a + breaks_in d) (continues a + continues_in d) (case_marks names cases default) (join fa (join (end_goto ends b) sp)) (marks_free names cases default)
+        fewer_after b c (breaks a + breaks_in d) (continues a + continues_in d) (case_marks names cases default) (join fa (join (end_goto ends b) sp))
+        (marks_free names cases default)
         (fewer_join b c (breaks a) (continues a) (breaks_in d) (continues_in d) fa (join (end_goto ends b) sp) (fewer a h b c (Arrives names))
         (fewer_after b c (breaks_in d) (continues_in d) (end_goto ends b) sp (end_free ends b) (fewer_spread d (past a h) b c names)))
 
     fewer_last : (xs : Forest) (h : Here) (b c : Aim) (r : Arrivals) → Fewer b c (breaks (trimmed p.live xs)) (continues xs) (flat_last p h b c r xs)
     fewer_last Nil h b c r = fewer_free b c 0 0 Nil (refl, refl)
     fewer_last (Then x xs) h b c r =
-        last_fewer b c (continues_of x + continues xs) (trimmed_item p.live x) (Then x (trimmed p.live xs)) (flat_last_item p h b c r x) (join (flat_item p h b c r x) (flat_last p (past_item x h) b c r xs)) (is_gone (ending p.live xs))
+        last_fewer b c (continues_of x + continues xs) (trimmed_item p.live x) (Then x (trimmed p.live xs)) (flat_last_item p h b c r x)
+        (join (flat_item p h b c r x) (flat_last p (past_item x h) b c r xs)) (is_gone (ending p.live xs))
         (fewer_more b c (breaks (trimmed_item p.live x)) (continues_of x) (continues xs) (flat_last_item p h b c r x) (fewer_last_item x h b c r))
-        (fewer_join b c (breaks_of x) (continues_of x) (breaks (trimmed p.live xs)) (continues xs) (flat_item p h b c r x) (flat_last p (past_item x h) b c r xs) (fewer_in x h b c r) (fewer_last xs (past_item x h) b c r))
+        (fewer_join b c (breaks_of x) (continues_of x) (breaks (trimmed p.live xs)) (continues xs) (flat_item p h b c r x)
+        (flat_last p (past_item x h) b c r xs) (fewer_in x h b c r) (fewer_last xs (past_item x h) b c r))
 
-    fewer_last_item : (x : Tree) (h : Here) (b c : Aim) (r : Arrivals) → Fewer b c (breaks (trimmed_item p.live x)) (continues_of x) (flat_last_item p h b c r x)
-    fewer_last_item (Block a) h b c r = let f = fewer_last a h b c r in (let i = f.0 in let k = left_plus b (breaks (trimmed p.live a)) 0 in omega (arith, i, k), f.1)
+    fewer_last_item : (x : Tree) (h : Here) (b c : Aim) (r : Arrivals) →
+        Fewer b c (breaks (trimmed_item p.live x)) (continues_of x) (flat_last_item p h b c r x)
+    fewer_last_item (Block a) h b c r = let f = fewer_last a h b c r in
+        (let i = f.0 in let k = left_plus b (breaks (trimmed p.live a)) 0 in omega (arith, i, k), f.1)
     fewer_last_item x h b c r = fewer_free b c (breaks (trimmed_item p.live x)) (continues_of x) Nil (refl, refl)

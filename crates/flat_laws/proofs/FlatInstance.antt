@@ -30,7 +30,8 @@ slots = record { name = []; kind = Int; cells = None; constant = false } ∷ []
 abbrev body : Forest
 body = forest (
     Local 0 None
-    ∷ For (one (Evaluate e)) (Some e) (Some e) (forest (Mark 0 ∷ If (Source e) (one Continue) Nil ∷ If (Source e) (one Break) Nil ∷ If (Source e) (one (Goto 0)) Nil ∷ []))
+    ∷ For (one (Evaluate e)) (Some e) (Some e)
+    (forest (Mark 0 ∷ If (Source e) (one Continue) Nil ∷ If (Source e) (one Break) Nil ∷ If (Source e) (one (Goto 0)) Nil ∷ []))
     ∷ Return (Some e)
     ∷ []
     )
@@ -42,7 +43,14 @@ abbrev plan : Plan
 plan = numbered (marks (flat (coded constant slots 1 body) here Stays Stays NoArrival body)) (coded constant slots 1 body)
 
 abbrev setting : Setting
-setting = record { labels = λ l. cond (plan.live l) (Some (plan.source l)) None; params = 0; old = slots; new = slots; number = constant; numbers = spelled_numbers }
+setting = record {
+  labels = λ l. cond (plan.live l) (Some (plan.source l)) None;
+  params = 0;
+  old = slots;
+  new = slots;
+  number = constant;
+  numbers = spelled_numbers;
+}
 
 abbrev before : FunctionTree
 before = record { result = Some Int; params = 0; slots = slots; body = Some body }

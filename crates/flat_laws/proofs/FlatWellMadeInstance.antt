@@ -31,7 +31,8 @@ abbrev arms : Sections
 arms = Section (e ∷ []) true (list (Evaluate e ∷ Break ∷ [])) false NoSection
 
 abbrev body : Forest
-body = list (Mark 0 ∷ Do (list (Switch (Selects e) arms ∷ If (Source e) (one (Goto 0)) Nil ∷ If (Source e) (one Break) Nil ∷ [])) (Source e) ∷ Return (Some e) ∷ [])
+body = list (Mark 0 ∷ Do (list (Switch (Selects e) arms ∷ If (Source e) (one (Goto 0)) Nil ∷ If (Source e) (one Break) Nil ∷ [])) (Source e) ∷ Return
+    (Some e) ∷ [])
 
 abbrev slots : List Slot
 slots = []

@@ -13,7 +13,8 @@ use Rattle.flat_laws.proofs.Derived.{derived}
 use Rattle.flat_laws.proofs.Once.{flat_once}
 use Rattle.flat_laws.proofs.Unlabelled.{without_labels}
 
-of_bodies : (p : Plan) (s : Setting) (h : Here) (body : Forest) → IsSourceBody p s h body → Looser s Open Stays Stays NoArrival body (flat p h Stays Stays NoArrival body)
+of_bodies : (p : Plan) (s : Setting) (h : Here) (body : Forest) → IsSourceBody p s h body →
+    Looser s Open Stays Stays NoArrival body (flat p h Stays Stays NoArrival body)
 of_bodies p s h body i = derived p s i.labels i.slots i.number body h Stays Stays NoArrival (i.items, i.variables, i.bound, tt) tt
 
 abbrev is_some_number : Option ℕ → Bool

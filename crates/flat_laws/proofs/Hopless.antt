@@ -130,7 +130,8 @@ module _ (p : Plan) where
       let o = aim_hops y m k e in omega (arith, h, i, j, o)
 
   mutual
-    pub no_hops : (xs : Forest) (h : Here) (b c : Aim) (r : Arrivals) → Everywhere (IsGoodItem p.live) xs → holds_jump p.live xs ≡ false → IsSilent b (breaks xs) → IsSilent c (continues xs) → hops (flat p h b c r xs) ≡ 0
+    pub no_hops : (xs : Forest) (h : Here) (b c : Aim) (r : Arrivals) → Everywhere (IsGoodItem p.live) xs → holds_jump p.live xs ≡ false →
+        IsSilent b (breaks xs) → IsSilent c (continues xs) → hops (flat p h b c r xs) ≡ 0
     no_hops Nil h b c r g e m n = refl
     no_hops (Then x xs) h b c r g e m n =
         let q = or_false (holds_jump_in p.live x) (holds_jump p.live xs) e in
@@ -138,11 +139,13 @@ module _ (p : Plan) where
         let j = no_hops xs (past_item x h) b c r g.1 q.1 (silent_right b (breaks_of x) (breaks xs) m) (silent_right c (continues_of x) (continues xs) n) in
         let k = total-join hop_of (flat_item p h b c r x) (flat p (past_item x h) b c r xs) in omega (arith, i, j, k)
 
-    no_hops_in : (x : Tree) (h : Here) (b c : Aim) (r : Arrivals) → EverywhereOf (IsGoodItem p.live) x → holds_jump_in p.live x ≡ false → IsSilent b (breaks_of x) → IsSilent c (continues_of x) → hops (flat_item p h b c r x) ≡ 0
+    no_hops_in : (x : Tree) (h : Here) (b c : Aim) (r : Arrivals) → EverywhereOf (IsGoodItem p.live) x → holds_jump_in p.live x ≡ false →
+        IsSilent b (breaks_of x) → IsSilent c (continues_of x) → hops (flat_item p h b c r x) ≡ 0
     no_hops_in (If t x y) h b c r g e m n =
         let q = or_false (holds_jump p.live x) (holds_jump p.live y) e in
         let i = no_hops x h b c r g.1 q.0 (silent_left b (breaks x) (breaks y) m) (silent_left c (continues x) (continues y) n) in
-        let j = no_hops y (past x h) b c r g.2 q.1 (silent_right b (breaks x) (breaks y) m) (silent_right c (continues x) (continues y) n) in omega (arith, i, j)
+        let j = no_hops y (past x h) b c r g.2 q.1 (silent_right b (breaks x) (breaks y) m) (silent_right c (continues x) (continues y) n) in
+        omega (arith, i, j)
     no_hops_in (While t a) h b c r g e m n =
         let y = holds_jump p.live a in
         let k = p.break_label h.construct in
@@ -190,7 +193,8 @@ module _ (p : Plan) where
         let b' = aim y (kept_breaks p.live d) k in
         let i = no_hops_among d h' y b' c g.1 q.1 (silent_aim y (kept_breaks p.live d) k (breaks_in d) z) n in
         let j = aim_hops y (kept_breaks p.live d) k z in
-        if_hops (is_scattered d) (dissolved p h s d (spread p h' (scatter_aim p h d) c (names_of p h (switch_kind s) d) d)) (Then (Switch s (flat_sections p h' y b' c d)) (mark_of b')) q.0 (omega (arith, i, j))
+        if_hops (is_scattered d) (dissolved p h s d (spread p h' (scatter_aim p h d) c (names_of p h (switch_kind s) d) d))
+        (Then (Switch s (flat_sections p h' y b' c d)) (mark_of b')) q.0 (omega (arith, i, j))
     no_hops_in (Evaluate x) h b c r g e m n = refl
     no_hops_in (Return x) h b c r g e m n = refl
     no_hops_in (Arm l x) h b c r g e m n = refl
@@ -198,7 +202,8 @@ module _ (p : Plan) where
     no_hops_in (Land l) h b c r g e m n = absurd g
     no_hops_in (Note bs) h b c r g e m n = refl
 
-    pub no_hops_among : (d : Sections) (h : Here) (y : Bool) (b c : Aim) → EverywhereIn (IsGoodItem p.live) d → holds_jump_among p.live d ≡ false → IsSilent b (breaks_in d) → IsSilent c (continues_in d) → total_in hop_of (flat_sections p h y b c d) ≡ 0
+    pub no_hops_among : (d : Sections) (h : Here) (y : Bool) (b c : Aim) → EverywhereIn (IsGoodItem p.live) d → holds_jump_among p.live d ≡ false →
+        IsSilent b (breaks_in d) → IsSilent c (continues_in d) → total_in hop_of (flat_sections p h y b c d) ≡ 0
     no_hops_among NoSection h y b c g e m n = refl
     no_hops_among (Section cases default a ends d) h y b c g e m n =
         let q = or_false (holds_jump p.live a) (holds_jump_among p.live d) e in
@@ -207,9 +212,11 @@ module _ (p : Plan) where
         let i = no_hops_last a h b c NoArrival g.0 q.0 m' n' in
         let j = no_hops a h b c NoArrival g.0 q.0 m' n' in
         let k = breaks_hops (ending p.live a) (flat_last p h b c NoArrival a) (flat p h b c NoArrival a) i j in
-        let l = no_hops_among d (past a h) y b c g.1 q.1 (silent_right b (breaks a) (breaks_in d) m) (silent_right c (continues a) (continues_in d) n) in omega (arith, k, l)
+        let l = no_hops_among d (past a h) y b c g.1 q.1 (silent_right b (breaks a) (breaks_in d) m)
+        (silent_right c (continues a) (continues_in d) n) in omega (arith, k, l)
 
-    no_hops_last : (xs : Forest) (h : Here) (b c : Aim) (r : Arrivals) → Everywhere (IsGoodItem p.live) xs → holds_jump p.live xs ≡ false → IsSilent b (breaks xs) → IsSilent c (continues xs) → hops (flat_last p h b c r xs) ≡ 0
+    no_hops_last : (xs : Forest) (h : Here) (b c : Aim) (r : Arrivals) → Everywhere (IsGoodItem p.live) xs → holds_jump p.live xs ≡ false →
+        IsSilent b (breaks xs) → IsSilent c (continues xs) → hops (flat_last p h b c r xs) ≡ 0
     no_hops_last Nil h b c r g e m n = refl
     no_hops_last (Then x xs) h b c r g e m n =
         let q = or_false (holds_jump_in p.live x) (holds_jump p.live xs) e in
@@ -218,8 +225,10 @@ module _ (p : Plan) where
         let i = no_hops_in x h b c r g.0 q.0 m' n' in
         let j = no_hops_last xs (past_item x h) b c r g.1 q.1 (silent_right b (breaks_of x) (breaks xs) m) (silent_right c (continues_of x) (continues xs) n) in
         let k = total-join hop_of (flat_item p h b c r x) (flat_last p (past_item x h) b c r xs) in
-        either_hops (is_gone (ending p.live xs)) (flat_last_item p h b c r x) (join (flat_item p h b c r x) (flat_last p (past_item x h) b c r xs)) (no_hops_last_item x h b c r g.0 q.0 m' n') (omega (arith, i, j, k))
+        either_hops (is_gone (ending p.live xs)) (flat_last_item p h b c r x) (join (flat_item p h b c r x) (flat_last p (past_item x h) b c r xs))
+        (no_hops_last_item x h b c r g.0 q.0 m' n') (omega (arith, i, j, k))
 
-    no_hops_last_item : (x : Tree) (h : Here) (b c : Aim) (r : Arrivals) → EverywhereOf (IsGoodItem p.live) x → holds_jump_in p.live x ≡ false → IsSilent b (breaks_of x) → IsSilent c (continues_of x) → hops (flat_last_item p h b c r x) ≡ 0
+    no_hops_last_item : (x : Tree) (h : Here) (b c : Aim) (r : Arrivals) → EverywhereOf (IsGoodItem p.live) x → holds_jump_in p.live x ≡ false →
+        IsSilent b (breaks_of x) → IsSilent c (continues_of x) → hops (flat_last_item p h b c r x) ≡ 0
     no_hops_last_item (Block a) h b c r g e m n = no_hops_last a h b c r g.1 e m n
     no_hops_last_item x h b c r g e m n = refl

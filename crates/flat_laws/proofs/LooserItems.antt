@@ -84,7 +84,8 @@ item_arrival (Arrives names) e h = lo_arrival names e
 cells_as : (n m : ℕ) → m ≤ n → n ≡ m + (n - m)
 cells_as n m h = omega (arith, h)
 
-pub item_local : {s : Setting} {b c : Aim} {r : Arrivals} (x : ℕ) (es : List ExpressionTree) (k : IntKind) (o : Option ℕ) → IsLocal s x → (slot_of s x).cells ≡ o → AreInitialisers o es → AreIn s es → LooserItem s Open b c r (Local x (Some es)) (assigned k x o es)
+pub item_local : {s : Setting} {b c : Aim} {r : Arrivals} (x : ℕ) (es : List ExpressionTree) (k : IntKind) (o : Option ℕ) → IsLocal s x →
+    (slot_of s x).cells ≡ o → AreInitialisers o es → AreIn s es → LooserItem s Open b c r (Local x (Some es)) (assigned k x o es)
 item_local x [] k None l e i j = absurd i
 item_local x (e ∷ []) k None l q i j = lo_number k x e l q j.0
 item_local x (e ∷ f ∷ es) k None l q i j = absurd i
@@ -120,13 +121,15 @@ module _ (names : Names) where
   abbrev l : ℕ
   l = names None
 
-  joined : (xs ys : List (Option ExpressionTree)) (o p : Option ℕ) → o ≡ some_if (has_default xs) l → p ≡ some_if (has_default ys) l → or_else o p ≡ some_if (has_default (xs ++ ys)) l
+  joined : (xs ys : List (Option ExpressionTree)) (o p : Option ℕ) → o ≡ some_if (has_default xs) l → p ≡ some_if (has_default ys) l →
+      or_else o p ≡ some_if (has_default (xs ++ ys)) l
   joined xs ys o p e f = first_some (has_default xs) (has_default ys) l o p e f ∙ ap (λ b. some_if b l) (sym (default_append xs ys))
 
   mutual
     wanted_default : (a : Forest) → wanted ToDefault names a ≡ some_if (has_default (arrivals a)) l
     wanted_default Nil = refl
-    wanted_default (Then x a) = joined (arrivals_in x) (arrivals a) (wanted_in ToDefault names x) (wanted ToDefault names a) (wanted_default_in x) (wanted_default a)
+    wanted_default (Then x a) = joined (arrivals_in x) (arrivals a) (wanted_in ToDefault names x) (wanted ToDefault names a) (wanted_default_in x)
+        (wanted_default a)
 
     wanted_default_in : (x : Tree) → wanted_in ToDefault names x ≡ some_if (has_default (arrivals_in x)) l
     wanted_default_in (If t a b) = joined (arrivals a) (arrivals b) (wanted ToDefault names a) (wanted ToDefault names b) (wanted_default a) (wanted_default b)
@@ -138,7 +141,8 @@ module _ (names : Names) where
     wanted_default_in (Arrival None) = refl
     wanted_default_in _ = refl
 
-  wanted_default_case : (cases : List ExpressionTree) (default : Bool) → wanted_case ToDefault names cases default ≡ some_if (has_default (section_labels cases default)) l
+  wanted_default_case : (cases : List ExpressionTree) (default : Bool) →
+      wanted_case ToDefault names cases default ≡ some_if (has_default (section_labels cases default)) l
   wanted_default_case [] true = refl
   wanted_default_case [] false = refl
   wanted_default_case (e ∷ es) default = wanted_default_case es default
@@ -146,7 +150,8 @@ module _ (names : Names) where
   pub wanted_default_among : (d : Sections) → wanted_among ToDefault names d ≡ some_if (has_default (switch_labels d)) l
   wanted_default_among NoSection = refl
   wanted_default_among (Section cases default a ends d) =
-      joined (section_labels cases default) (arrivals a ++ switch_labels d) (wanted_case ToDefault names cases default) (or_else (wanted ToDefault names a) (wanted_among ToDefault names d)) (wanted_default_case cases default)
+      joined (section_labels cases default) (arrivals a ++ switch_labels d) (wanted_case ToDefault names cases default)
+      (or_else (wanted ToDefault names a) (wanted_among ToDefault names d)) (wanted_default_case cases default)
       (joined (arrivals a) (switch_labels d) (wanted ToDefault names a) (wanted_among ToDefault names d) (wanted_default a) (wanted_default_among d))
 
 pub scatter_moved : (y : Bool) (l : ℕ) → IsMoved (cond y (Becomes l) Absent)
@@ -157,7 +162,8 @@ otherwise_as : (y u z : Bool) (m n : ℕ) → IsOtherwise (some_if y m) (cond (n
 otherwise_as true u z m n = refl
 otherwise_as false u z m n = refl
 
-pub otherwise : (p : Plan) (h : Here) (k : IntKind) (d : Sections) → IsOtherwise (wanted_among ToDefault (names_of p h k d) d) (scatter_aim p h d) (otherwise_label p h d)
+pub otherwise : (p : Plan) (h : Here) (k : IntKind) (d : Sections) → IsOtherwise (wanted_among ToDefault (names_of p h k d) d) (scatter_aim p h d)
+    (otherwise_label p h d)
 otherwise p h k d =
     subst (λ o. IsOtherwise o (scatter_aim p h d) (otherwise_label p h d)) (sym (wanted_default_among (names_of p h k d) d))
     (otherwise_as (has_default (switch_labels d)) (ends_some d) (is_some_number (breaks_in d)) (p.default_label h.construct) (p.break_label h.construct))
@@ -191,7 +197,8 @@ kept_scatter false true n l = tt
 kept_scatter false false zero l = refl
 kept_scatter false false (suc n) l = tt
 
-pub spread_as : {s : Setting} {c : Aim} {names : Names} (ends : Bool) (b : Aim) (cases : List ExpressionTree) (default : Bool) {xs xs' ys : Forest} {d : Sections} → IsMoved b → Unended b ends → Looser s Open b c (Arrives names) xs xs' → Spread s Open b c names d ys
+pub spread_as : {s : Setting} {c : Aim} {names : Names} (ends : Bool) (b : Aim) (cases : List ExpressionTree) (default : Bool) {xs xs' ys : Forest}
+    {d : Sections} → IsMoved b → Unended b ends → Looser s Open b c (Arrives names) xs xs' → Spread s Open b c names d ys
     → Spread s Open b c names (Section cases default xs ends d) (join (case_marks names cases default) (join xs' (join (end_goto ends b) ys)))
 spread_as false b cases default m u fa fs = ls_falls cases default fa fs
 spread_as true Stays cases default m u fa fs = absurd m

@@ -101,7 +101,8 @@ module _ (p : Plan) where
       let i = no_hops p a h Stays Stays r g e tt tt in
       let q = total-join hop_of (flat p h Stays Stays r a) Nil in absurd (omega (arith, i, j, q))
 
-  settled_third : (a : Forest) (h : Here) (r : Arrivals) (k l : ℕ) (u : Option ExpressionTree) → IsSettled (with_third (flat p h (aim true (breaks a) k) (aim true (continues a) l) r a) (aim true (continues a) l) u)
+  settled_third : (a : Forest) (h : Here) (r : Arrivals) (k l : ℕ) (u : Option ExpressionTree) →
+      IsSettled (with_third (flat p h (aim true (breaks a) k) (aim true (continues a) l) r a) (aim true (continues a) l) u)
   settled_third a h r k l u j =
       let b = aim true (breaks a) k in
       let c = aim true (continues a) l in
@@ -119,8 +120,11 @@ module _ (p : Plan) where
       let v' = (third_free u).0 in
       let w' = (third_free u).1 in omega (arith, i, m, n, o, q, s, q', s', v, w, v', w')
 
-  settled_switch : (d : Sections) (h : Here) (c : Aim) (l : ℕ) (y : Bool) → is_jumpy_switch p c d ≡ y → EverywhereIn (IsGoodItem p.live) d → AreSettled (flat_sections p h y (aim y (kept_breaks p.live d) l) c d)
-  settled_switch d h c l true e g j = let i = (fewer_among p d h true (aim true (kept_breaks p.live d) l) c).0 in let n = aim_left (kept_breaks p.live d) l in omega (arith, i, n)
+  settled_switch : (d : Sections) (h : Here) (c : Aim) (l : ℕ) (y : Bool) → is_jumpy_switch p c d ≡ y → EverywhereIn (IsGoodItem p.live) d →
+      AreSettled (flat_sections p h y (aim y (kept_breaks p.live d) l) c d)
+  settled_switch d h c l true e g j = let i = (fewer_among p d h true (aim true (kept_breaks p.live d) l) c).0 in let n =
+      aim_left
+      (kept_breaks p.live d) l in omega (arith, i, n)
   settled_switch d h c l false e g j =
       let q = calm_back (holds_jump_among p.live d) c (continues_in d) e in
       let i = no_hops_among p d h false Stays c g q.0 tt q.1 in absurd (omega (arith, i, j))
@@ -239,15 +243,19 @@ module _ (G : ℕ → Type 0) where
     tests_for_flat : (es : List ExpressionTree) (default : Bool) → Named names (section_labels es default) → AreFlat (tests_for number k v names es)
     tests_for_flat [] default g = tt
     tests_for_flat (e ∷ es) default g =
-        join_flat (test_for number k v names e) (tests_for number k v names es) (test_flat e (named_head names (Some e) (section_labels es default) g)) (tests_for_flat es default (named_tail names (Some e) (section_labels es default) g))
+        join_flat (test_for number k v names e) (tests_for number k v names es)
+        (test_flat e (named_head names (Some e) (section_labels es default) g))
+        (tests_for_flat es default (named_tail names (Some e) (section_labels es default) g))
 
     mutual
       tests_flat : (a : Forest) → Named names (arrivals a) → AreFlat (tests number k v names a)
       tests_flat Nil g = tt
-      tests_flat (Then x a) g = join_flat (tests_in number k v names x) (tests number k v names a) (tests_flat_in x (named_left names (arrivals_in x) (arrivals a) g)) (tests_flat a (named_right names (arrivals_in x) (arrivals a) g))
+      tests_flat (Then x a) g = join_flat (tests_in number k v names x) (tests number k v names a)
+          (tests_flat_in x (named_left names (arrivals_in x) (arrivals a) g)) (tests_flat a (named_right names (arrivals_in x) (arrivals a) g))
 
       tests_flat_in : (x : Tree) → Named names (arrivals_in x) → AreFlat (tests_in number k v names x)
-      tests_flat_in (If t a b) g = join_flat (tests number k v names a) (tests number k v names b) (tests_flat a (named_left names (arrivals a) (arrivals b) g)) (tests_flat b (named_right names (arrivals a) (arrivals b) g))
+      tests_flat_in (If t a b) g = join_flat (tests number k v names a) (tests number k v names b)
+          (tests_flat a (named_left names (arrivals a) (arrivals b) g)) (tests_flat b (named_right names (arrivals a) (arrivals b) g))
       tests_flat_in (While t a) g = tests_flat a g
       tests_flat_in (Do a t) g = tests_flat a g
       tests_flat_in (For f t u a) g = tests_flat a g
@@ -260,8 +268,10 @@ module _ (G : ℕ → Type 0) where
     tests_among_flat NoSection g = tt
     tests_among_flat (Section cases default a ends d) g =
         let g' = named_right names (section_labels cases default) (arrivals a ++ switch_labels d) g in
-        join_flat (tests_for number k v names cases) (join (tests number k v names a) (tests_among number k v names d)) (tests_for_flat cases default (named_left names (section_labels cases default) (arrivals a ++ switch_labels d) g))
-        (join_flat (tests number k v names a) (tests_among number k v names d) (tests_flat a (named_left names (arrivals a) (switch_labels d) g')) (tests_among_flat d (named_right names (arrivals a) (switch_labels d) g')))
+        join_flat (tests_for number k v names cases) (join (tests number k v names a) (tests_among number k v names d))
+        (tests_for_flat cases default (named_left names (section_labels cases default) (arrivals a ++ switch_labels d) g))
+        (join_flat (tests number k v names a) (tests_among number k v names d) (tests_flat a (named_left names (arrivals a) (switch_labels d) g'))
+        (tests_among_flat d (named_right names (arrivals a) (switch_labels d) g')))
 
   -- ---- the flat form
 
@@ -286,16 +296,24 @@ module _ (G : ℕ → Type 0) where
     first_flat (Then (Local x (Some es)) xs) h b c r f =
         let k = (entry_or no_slot p.slots x).kind in
         let o = (entry_or no_slot p.slots x).cells in
-        join_flat (assigned k x o es) (flat p (past_item (Local x (Some es)) h) b c r xs) (assigned_flat k x o es) (first_flat xs (past_item (Local x (Some es)) h) b c r f.1)
+        join_flat (assigned k x o es) (flat p (past_item (Local x (Some es)) h) b c r xs) (assigned_flat k x o es)
+        (first_flat xs (past_item (Local x (Some es)) h) b c r f.1)
     first_flat (Then x xs) h b c r f = absurd f.0
 
-    for_flat : (t u : Option ExpressionTree) (a : Forest) (h : Here) (r : Arrivals) (k l : ℕ) (y : Bool) → holds_jump p.live a ≡ y → Good a → AreFlat (flat p h (aim y (breaks a) k) (aim y (continues a) l) r a)
+    for_flat : (t u : Option ExpressionTree) (a : Forest) (h : Here) (r : Arrivals) (k l : ℕ) (y : Bool) → holds_jump p.live a ≡ y → Good a →
+        AreFlat (flat p h (aim y (breaks a) k) (aim y (continues a) l) r a)
         → AreFlat (flat_for y t u (flat p h (aim y (breaks a) k) (aim y (continues a) l) r a) (aim y (breaks a) k) (aim y (continues a) l))
     for_flat t u a h r k l true e g i =
         let b = aim true (breaks a) k in
         let c = aim true (continues a) l in
-        let fa = flat p h b c r a in
-        (((tt, settled_third p a h r k l u), join_flat fa (join (mark_of c) (third_items u)) i (join_flat (mark_of c) (third_items u) (mark_flat c) (third_flat u))), mark_flat b)
+        let fa = flat p h b c r a in (
+          (
+            (tt, settled_third p a h r k l u),
+            join_flat fa (join (mark_of c) (third_items u)) i
+                (join_flat (mark_of c) (third_items u) (mark_flat c) (third_flat u)),
+          ),
+          mark_flat b,
+        )
     for_flat t u a h r k l false e g i =
         let fa = flat p h Stays Stays r a in
         let n = no_hops p a h Stays Stays r g e tt tt in
@@ -306,8 +324,10 @@ module _ (G : ℕ → Type 0) where
     otherwise_named true u z m n f g = f refl
     otherwise_named false u z m n f g = g
 
-    otherwise_as : (d : Sections) (h : Here) → Leads (scatter_aim p h d) → (has_default (switch_labels d) ≡ true → G (p.default_label h.construct)) → G (otherwise_label p h d)
-    otherwise_as d h g f = otherwise_named (has_default (switch_labels d)) (ends_some d) (is_some_number (breaks_in d)) (p.default_label h.construct) (p.break_label h.construct) f g
+    otherwise_as : (d : Sections) (h : Here) → Leads (scatter_aim p h d) → (has_default (switch_labels d) ≡ true → G (p.default_label h.construct)) →
+        G (otherwise_label p h d)
+    otherwise_as d h g f = otherwise_named (has_default (switch_labels d)) (ends_some d) (is_some_number (breaks_in d)) (p.default_label h.construct)
+        (p.break_label h.construct) f g
 
     spread_ends : (L : ℕ) (d : Sections) (h : Here) (b c : Aim) (names : Names) → places L (mark_of b) ≤ places L (spread p h b c names d)
     spread_ends L NoSection h b c names = omega arith
@@ -319,8 +339,11 @@ module _ (G : ℕ → Type 0) where
         let l = places_join L fa (join (end_goto ends b) sp) in
         let m = places_join L (end_goto ends b) sp in omega (arith, j, k, l, m)
 
-    dissolved_made : (s : SelectorTree) (d : Sections) (h : Here) (c : Aim) → (Leads (scatter_aim p h d) → Marked (spread p (inside (Switch s d) h) (scatter_aim p h d) c (names_of p h (switch_kind s) d) d) → AreFlat (spread p (inside (Switch s d) h) (scatter_aim p h d) c (names_of p h (switch_kind s) d) d))
-        → Marked (dissolved p h s d (spread p (inside (Switch s d) h) (scatter_aim p h d) c (names_of p h (switch_kind s) d) d)) → AreFlat (dissolved p h s d (spread p (inside (Switch s d) h) (scatter_aim p h d) c (names_of p h (switch_kind s) d) d))
+    dissolved_made : (s : SelectorTree) (d : Sections) (h : Here) (c : Aim) →
+        (Leads (scatter_aim p h d) → Marked (spread p (inside (Switch s d) h) (scatter_aim p h d) c (names_of p h (switch_kind s) d) d) →
+        AreFlat (spread p (inside (Switch s d) h) (scatter_aim p h d) c (names_of p h (switch_kind s) d) d))
+        → Marked (dissolved p h s d (spread p (inside (Switch s d) h) (scatter_aim p h d) c (names_of p h (switch_kind s) d) d)) →
+        AreFlat (dissolved p h s d (spread p (inside (Switch s d) h) (scatter_aim p h d) c (names_of p h (switch_kind s) d) d))
     dissolved_made s d h c f m =
         let h' = inside (Switch s d) h in
         let kind = switch_kind s in
@@ -338,16 +361,23 @@ module _ (G : ℕ → Type 0) where
         )
 
     mutual
-      pub flat_made : (xs : Forest) (h : Here) (b c : Aim) (r : Arrivals) → Good xs → Allowed r (arrivals xs) → Leads b → Leads c → Marked (flat p h b c r xs) → AreFlat (flat p h b c r xs)
+      pub flat_made : (xs : Forest) (h : Here) (b c : Aim) (r : Arrivals) → Good xs → Allowed r (arrivals xs) → Leads b → Leads c →
+          Marked (flat p h b c r xs) → AreFlat (flat p h b c r xs)
       flat_made Nil h b c r g w i j m = tt
       flat_made (Then x xs) h b c r g w i j m =
           let A = flat_item p h b c r x in
           let B = flat p (past_item x h) b c r xs in
-          join_flat A B (flat_made_in x h b c r g.0 (allowed_left r (arrivals_in x) (arrivals xs) w) i j (marked_left A B m)) (flat_made xs (past_item x h) b c r g.1 (allowed_right r (arrivals_in x) (arrivals xs) w) i j (marked_right A B m))
+          join_flat A B (flat_made_in x h b c r g.0 (allowed_left r (arrivals_in x) (arrivals xs) w) i j (marked_left A B m))
+          (flat_made xs (past_item x h) b c r g.1 (allowed_right r (arrivals_in x) (arrivals xs) w) i j (marked_right A B m))
 
-      flat_made_in : (x : Tree) (h : Here) (b c : Aim) (r : Arrivals) → EverywhereOf (IsGoodItem p.live) x → Allowed r (arrivals_in x) → Leads b → Leads c → Marked (flat_item p h b c r x) → AreFlat (flat_item p h b c r x)
+      flat_made_in : (x : Tree) (h : Here) (b c : Aim) (r : Arrivals) → EverywhereOf (IsGoodItem p.live) x → Allowed r (arrivals_in x) → Leads b →
+          Leads c → Marked (flat_item p h b c r x) → AreFlat (flat_item p h b c r x)
       flat_made_in (If t x y) h b c r g w i j m = (
-        (g.0, flat_made x h b c r g.1 (allowed_left r (arrivals x) (arrivals y) w) i j (λ L n. m L (omega (arith, n))), flat_made y (past x h) b c r g.2 (allowed_right r (arrivals x) (arrivals y) w) i j (λ L n. m L (omega (arith, n)))),
+        (
+          g.0,
+          flat_made x h b c r g.1 (allowed_left r (arrivals x) (arrivals y) w) i j (λ L n. m L (omega (arith, n))),
+          flat_made y (past x h) b c r g.2 (allowed_right r (arrivals x) (arrivals y) w) i j (λ L n. m L (omega (arith, n))),
+        ),
         tt,
       )
       flat_made_in (While t a) h b c r g w i j m =
@@ -361,7 +391,8 @@ module _ (G : ℕ → Type 0) where
           let m' = λ (L : ℕ) (n : 0 < places L (join A (mark_of c'))). m L (omega (arith, n)) in (
             (
               (g.0, settled_loop p a h' r k l y refl g.1),
-              join_flat A (mark_of c') (flat_made a h' b' c' r g.1 w (mark_leads b' (λ L n. m L (omega (arith, n)))) (mark_leads c' (marked_right A (mark_of c') m')) (marked_left A (mark_of c') m')) (mark_flat c'),
+              join_flat A (mark_of c') (flat_made a h' b' c' r g.1 w (mark_leads b' (λ L n. m L (omega (arith, n))))
+                  (mark_leads c' (marked_right A (mark_of c') m')) (marked_left A (mark_of c') m')) (mark_flat c'),
             ),
             mark_flat b',
           )
@@ -376,7 +407,8 @@ module _ (G : ℕ → Type 0) where
           let m' = λ (L : ℕ) (n : 0 < places L (join A (mark_of c'))). m L (omega (arith, n)) in (
             (
               (g.0, settled_loop p a h' r k l y refl g.1),
-              join_flat A (mark_of c') (flat_made a h' b' c' r g.1 w (mark_leads b' (λ L n. m L (omega (arith, n)))) (mark_leads c' (marked_right A (mark_of c') m')) (marked_left A (mark_of c') m')) (mark_flat c'),
+              join_flat A (mark_of c') (flat_made a h' b' c' r g.1 w (mark_leads b' (λ L n. m L (omega (arith, n))))
+                  (mark_leads c' (marked_right A (mark_of c') m')) (marked_left A (mark_of c') m')) (mark_flat c'),
             ),
             mark_flat b',
           )
@@ -418,7 +450,11 @@ module _ (G : ℕ → Type 0) where
           (λ e n. dissolved_made s d h c (λ i' n'. spread_made d h' z c names g.1 i' j n') n)
           (λ e n. (
             (
-              (g.0.0, good_kept p s d D (flat_entries p d h' y b' c) (if_false (HasGoodCases s d) (is_scattered d) e g.0.1), settled_switch p d h' c l y refl g.1),
+              (
+                g.0.0,
+                good_kept p s d D (flat_entries p d h' y b' c) (if_false (HasGoodCases s d) (is_scattered d) e g.0.1),
+                settled_switch p d h' c l y refl g.1,
+              ),
               sections_made d h' y b' c g.1 e (mark_leads b' (λ L o. n L (omega (arith, o)))) j (λ L o. n L (omega (arith, o))),
             ),
             mark_flat b',
@@ -430,15 +466,18 @@ module _ (G : ℕ → Type 0) where
       flat_made_in (Leap l) h b c r g w i j m = absurd g
       flat_made_in (Land l) h b c r g w i j m = absurd g
 
-      sections_made : (d : Sections) (h : Here) (y : Bool) (b c : Aim) → EverywhereIn (IsGoodItem p.live) d → is_scattered d ≡ false → Leads b → Leads c → MarkedIn (flat_sections p h y b c d) → EverywhereIn (IsFlatItem G) (flat_sections p h y b c d)
+      sections_made : (d : Sections) (h : Here) (y : Bool) (b c : Aim) → EverywhereIn (IsGoodItem p.live) d → is_scattered d ≡ false → Leads b →
+          Leads c → MarkedIn (flat_sections p h y b c d) → EverywhereIn (IsFlatItem G) (flat_sections p h y b c d)
       sections_made NoSection h y b c g e i j m = tt
       sections_made (Section cases default a ends d) h y b c g e i j m =
           let q = unscattered (is_empty (arrivals a)) (is_scattered d) e in (
-            breaks_flat (ending p.live a) (flat_last p h b c NoArrival a) (flat p h b c NoArrival a) (λ L n. m L (omega (arith, n))) (λ n. last_made a h b c NoArrival g.0 q.0 i j n) (λ n. flat_made a h b c NoArrival g.0 q.0 i j n),
+            breaks_flat (ending p.live a) (flat_last p h b c NoArrival a) (flat p h b c NoArrival a) (λ L n. m L (omega (arith, n)))
+                (λ n. last_made a h b c NoArrival g.0 q.0 i j n) (λ n. flat_made a h b c NoArrival g.0 q.0 i j n),
             sections_made d (past a h) y b c g.1 q.1 i j (λ L n. m L (omega (arith, n))),
           )
 
-      spread_made : (d : Sections) (h : Here) (b c : Aim) (names : Names) → EverywhereIn (IsGoodItem p.live) d → Leads b → Leads c → Marked (spread p h b c names d) → AreFlat (spread p h b c names d)
+      spread_made : (d : Sections) (h : Here) (b c : Aim) (names : Names) → EverywhereIn (IsGoodItem p.live) d → Leads b → Leads c →
+          Marked (spread p h b c names d) → AreFlat (spread p h b c names d)
       spread_made NoSection h b c names g i j m = mark_flat b
       spread_made (Section cases default a ends d) h b c names g i j m =
           let fa = flat p h b c (Arrives names) a in
@@ -451,15 +490,18 @@ module _ (G : ℕ → Type 0) where
           (join_flat fa (join en sp) (flat_made a h b c (Arrives names) g.0 tt i j (marked_left fa (join en sp) m1))
           (join_flat en sp (end_flat ends b i) (spread_made d (past a h) b c names g.1 i j (marked_right en sp m2))))
 
-      last_made : (xs : Forest) (h : Here) (b c : Aim) (r : Arrivals) → Good xs → Allowed r (arrivals xs) → Leads b → Leads c → Marked (flat_last p h b c r xs) → AreFlat (flat_last p h b c r xs)
+      last_made : (xs : Forest) (h : Here) (b c : Aim) (r : Arrivals) → Good xs → Allowed r (arrivals xs) → Leads b → Leads c →
+          Marked (flat_last p h b c r xs) → AreFlat (flat_last p h b c r xs)
       last_made Nil h b c r g w i j m = tt
       last_made (Then x xs) h b c r g w i j m =
           let A = flat_item p h b c r x in
           let B = flat_last p (past_item x h) b c r xs in
           let w0 = allowed_left r (arrivals_in x) (arrivals xs) w in
           either_flat (is_gone (ending p.live xs)) (flat_last_item p h b c r x) (join A B) m (λ e n. last_made_in x h b c r g.0 w0 i j n)
-          (λ e n. join_flat A B (flat_made_in x h b c r g.0 w0 i j (marked_left A B n)) (last_made xs (past_item x h) b c r g.1 (allowed_right r (arrivals_in x) (arrivals xs) w) i j (marked_right A B n)))
+          (λ e n. join_flat A B (flat_made_in x h b c r g.0 w0 i j (marked_left A B n))
+          (last_made xs (past_item x h) b c r g.1 (allowed_right r (arrivals_in x) (arrivals xs) w) i j (marked_right A B n)))
 
-      last_made_in : (x : Tree) (h : Here) (b c : Aim) (r : Arrivals) → EverywhereOf (IsGoodItem p.live) x → Allowed r (arrivals_in x) → Leads b → Leads c → Marked (flat_last_item p h b c r x) → AreFlat (flat_last_item p h b c r x)
+      last_made_in : (x : Tree) (h : Here) (b c : Aim) (r : Arrivals) → EverywhereOf (IsGoodItem p.live) x → Allowed r (arrivals_in x) → Leads b →
+          Leads c → Marked (flat_last_item p h b c r x) → AreFlat (flat_last_item p h b c r x)
       last_made_in (Block a) h b c r g w i j m = last_made a h b c r g.1 w i j m
       last_made_in x h b c r g w i j m = tt

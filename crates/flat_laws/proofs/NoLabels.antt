@@ -63,7 +63,8 @@ module _ (P M : ℕ → Type 0) where
   clean_unarmed (Land l) h = h.0
   clean_unarmed x h = tt
 
-pub without_labels : (f : Function) (body : Forest) → f.flat ≡ false → f.params ≤ length f.slots → body_of f ≡ unlabelled body → Everywhere IsUnjumped body → Everywhere (ItemSlots (λ x. x < length f.slots)) body → IsInRange f × IsMadeWell f
+pub without_labels : (f : Function) (body : Forest) → f.flat ≡ false → f.params ≤ length f.slots → body_of f ≡ unlabelled body →
+    Everywhere IsUnjumped body → Everywhere (ItemSlots (λ x. x < length f.slots)) body → IsInRange f × IsMadeWell f
 without_labels f body z g e h i =
     let P = λ (x : ℕ). x < length f.slots in
     let M = λ (l : ℕ). l < length f.labels in

@@ -61,7 +61,12 @@ module _ (g : ℕ → ℕ) (Q : ℕ → Type 0) where
       label_facts (Then x a) f h = (label_facts_in x (listed_left (marks_in x) (marks a) f) h.0, label_facts a (listed_right (marks_in x) (marks a) f) h.1)
 
       label_facts_in : (x : Tree) → Listed (marks_in x) → EverywhereOf (IsFlatItem P) (relabelled_item g x) → EverywhereOf (ItemLabels Q) (relabelled_item g x)
-      label_facts_in (If (Source e) a b) f h = (tt, label_facts a (listed_left (marks a) (marks b) f) h.1, label_facts b (listed_right (marks a) (marks b) f) h.2)
+      label_facts_in (If (Source e) a b) f h = (
+        tt,
+        label_facts a (listed_left (marks a) (marks b) f) h.1,
+        label_facts b
+            (listed_right (marks a) (marks b) f) h.2,
+      )
       label_facts_in (If (On l) a b) f h = absurd h.0
       label_facts_in (If (Off l) a b) f h = absurd h.0
       label_facts_in (If (AndOff l t) a b) f h = absurd h.0
@@ -76,7 +81,12 @@ module _ (g : ℕ → ℕ) (Q : ℕ → Type 0) where
       label_facts_in (Do a (Off l)) f h = absurd h.0.0
       label_facts_in (Do a (AndOff l t)) f h = absurd h.0.0
       label_facts_in (Do a (OrOn l t)) f h = absurd h.0.0
-      label_facts_in (For first t u a) f h = (tt, label_facts first (listed_left (marks first) (marks a) f) h.1, label_facts a (listed_right (marks first) (marks a) f) h.2)
+      label_facts_in (For first t u a) f h = (
+        tt,
+        label_facts first (listed_left (marks first) (marks a) f) h.1,
+        label_facts a
+            (listed_right (marks first) (marks a) f) h.2,
+      )
       label_facts_in (Switch (Selects e) d) f h = (tt, label_facts_among d f h.1)
       label_facts_in (Switch (Pick l n s) d) f h = absurd h.0.0
       label_facts_in (Block a) f h = absurd h.0
@@ -87,9 +97,11 @@ module _ (g : ℕ → ℕ) (Q : ℕ → Type 0) where
       label_facts_in (Land l) f h = absurd h
       label_facts_in x f h = tt
 
-      label_facts_among : (d : Sections) → Listed (marks_among d) → EverywhereIn (IsFlatItem P) (relabelled_among g d) → EverywhereIn (ItemLabels Q) (relabelled_among g d)
+      label_facts_among : (d : Sections) → Listed (marks_among d) → EverywhereIn (IsFlatItem P) (relabelled_among g d) →
+          EverywhereIn (ItemLabels Q) (relabelled_among g d)
       label_facts_among NoSection f h = tt
-      label_facts_among (Section cases default a ends d) f h = (label_facts a (listed_left (marks a) (marks_among d) f) h.0, label_facts_among d (listed_right (marks a) (marks_among d) f) h.1)
+      label_facts_among (Section cases default a ends d) f h =
+          (label_facts a (listed_left (marks a) (marks_among d) f) h.0, label_facts_among d (listed_right (marks a) (marks_among d) f) h.1)
 
   -- of each label that stands in the new list
   module _ (L : ℕ) (P : ℕ → Type 0) where
@@ -97,11 +109,13 @@ module _ (g : ℕ → ℕ) (Q : ℕ → Type 0) where
       stands_listed : (a : Forest) → Listed (marks a) → Everywhere (IsFlatItem P) (relabelled g a) → 0 < places L (relabelled g a) → Q L
       stands_listed Nil f h n = absurd (omega (arith, n))
       stands_listed (Then x a) f h n =
-          either (Q L) (places_of L (relabelled_item g x)) (places L (relabelled g a)) n (stands_listed_in x (listed_left (marks_in x) (marks a) f) h.0) (stands_listed a (listed_right (marks_in x) (marks a) f) h.1)
+          either (Q L) (places_of L (relabelled_item g x)) (places L (relabelled g a)) n
+          (stands_listed_in x (listed_left (marks_in x) (marks a) f) h.0) (stands_listed a (listed_right (marks_in x) (marks a) f) h.1)
 
       stands_listed_in : (x : Tree) → Listed (marks_in x) → EverywhereOf (IsFlatItem P) (relabelled_item g x) → 0 < places_of L (relabelled_item g x) → Q L
       stands_listed_in (If t a b) f h n =
-          either (Q L) (places L (relabelled g a)) (places L (relabelled g b)) n (stands_listed a (listed_left (marks a) (marks b) f) h.1) (stands_listed b (listed_right (marks a) (marks b) f) h.2)
+          either (Q L) (places L (relabelled g a)) (places L (relabelled g b)) n (stands_listed a (listed_left (marks a) (marks b) f) h.1)
+          (stands_listed b (listed_right (marks a) (marks b) f) h.2)
       stands_listed_in (While t a) f h n = stands_listed a f h.1 n
       stands_listed_in (Do a t) f h n = stands_listed a f h.1 n
       stands_listed_in (For first t u a) f h n = stands_listed a (listed_right (marks first) (marks a) f) h.2 n
@@ -115,14 +129,17 @@ module _ (g : ℕ → ℕ) (Q : ℕ → Type 0) where
       stands_listed_in (Land l) f h n = absurd h
       stands_listed_in x f h n = absurd (omega (arith, n))
 
-      stands_listed_among : (d : Sections) → Listed (marks_among d) → EverywhereIn (IsFlatItem P) (relabelled_among g d) → 0 < places_among L (relabelled_among g d) → Q L
+      stands_listed_among : (d : Sections) → Listed (marks_among d) → EverywhereIn (IsFlatItem P) (relabelled_among g d) →
+          0 < places_among L (relabelled_among g d) → Q L
       stands_listed_among NoSection f h n = absurd (omega (arith, n))
       stands_listed_among (Section cases default a ends d) f h n =
-          either (Q L) (places L (relabelled g a)) (places_among L (relabelled_among g d)) n (stands_listed a (listed_left (marks a) (marks_among d) f) h.0) (stands_listed_among d (listed_right (marks a) (marks_among d) f) h.1)
+          either (Q L) (places L (relabelled g a)) (places_among L (relabelled_among g d)) n
+          (stands_listed a (listed_left (marks a) (marks_among d) f) h.0) (stands_listed_among d (listed_right (marks a) (marks_among d) f) h.1)
 
 -- each label that a flat body names is below the number of its labels
 pub labels_below : (number : IntKind → ℤ → ExpressionTree) (slots : List Slot) (n : ℕ) (body : Forest) → IsFlatMade (flat_body number slots n body)
-    → Everywhere (ItemLabels (λ l. l < length (marks (flat (coded number slots n body) (first_here (length slots)) Stays Stays NoArrival body)))) (flat_body number slots n body)
+    → Everywhere (ItemLabels (λ l. l < length (marks (flat (coded number slots n body) (first_here (length slots)) Stays Stays NoArrival body))))
+    (flat_body number slots n body)
 labels_below number slots n body made =
     let p = coded number slots n body in
     let h = first_here (length slots) in
@@ -134,4 +151,5 @@ labels_below number slots n body made =
     let Q = λ (l : ℕ). l < length (marks F0) in
     let items = subst (Everywhere (IsFlatItem P)) (sym e) made.items in
     subst (Everywhere (ItemLabels Q)) e
-    (label_facts g Q P (λ l i. stands_listed g Q l P F0 (place_below (marks F0)) items (let j = ap (places l) e in omega (arith, i, j))) F0 (place_below (marks F0)) items)
+    (label_facts g Q P (λ l i. stands_listed g Q l P F0 (place_below (marks F0)) items (let j = ap (places l) e in omega (arith, i, j))) F0
+    (place_below (marks F0)) items)

@@ -29,7 +29,12 @@ pub range_one : (K a : ℕ) → Range K a 1 (one_if (eqb K a))
 range_one K a = at (eqb K a) refl
   where
     at : (b : Bool) → eqb K a ≡ b → Range K a 1 (one_if b)
-    at true e = let d : K ≡ a = eqb-true K a e in record { once = omega arith; before = λ h. absurd (omega (arith, h, d)); behind = λ h. absurd (omega (arith, h, d)) }
+    at true e = let d : K ≡ a = eqb-true K a e in record {
+      once = omega arith;
+      before = λ h. absurd (omega (arith, h, d));
+      behind = λ h. absurd
+          (omega (arith, h, d));
+    }
     at false e = record { once = omega arith; before = λ h. refl; behind = λ h. refl }
 
 pub range_join : (K a b m n N c d C : ℕ) → Range K a m c → Range K b n d → b ≡ a + m → N ≡ m + n → C ≡ c + d → Range K a N C
@@ -72,7 +77,8 @@ module _ (within : Tree → Here → Here) (past : Forest → Here → Here) (K 
     gathered_range Nil h g = range_none K (pos h)
     gathered_range (Then x xs) h g =
         let e = past_pos (one x) h in
-        range_join K (pos h) (pos (past (one x) h)) (total_of size x) (total size xs) (total size (Then x xs)) (gathered_in within past w h x) (gathered within past w (past (one x) h) xs) (gathered within past w h (Then x xs))
+        range_join K (pos h) (pos (past (one x) h)) (total_of size x) (total size xs) (total size (Then x xs)) (gathered_in within past w h x)
+        (gathered within past w (past (one x) h) xs) (gathered within past w h (Then x xs))
         (gathered_range_in x h g.0) (gathered_range xs (past (one x) h) g.1) (omega (arith, e)) (omega arith) (omega arith)
 
     gathered_range_in : (x : Tree) (h : Here) → EverywhereOf G x → Range K (pos h) (total_of size x) (gathered_in within past w h x)
@@ -82,32 +88,40 @@ module _ (within : Tree → Here → Here) (past : Forest → Here → Here) (K 
         let n = total size a + total size b in
         let c = gathered within past w h' a + gathered within past w (past a h') b in
         range_join K (pos h) (pos h') (size x) n (total_of size x) (w x h) c (gathered_in within past w h x) (single x h tt g.0)
-        (range_join K (pos h') (pos (past a h')) (total size a) (total size b) n (gathered within past w h' a) (gathered within past w (past a h') b) c (gathered_range a h' g.1) (gathered_range b (past a h') g.2) (past_pos a h') refl refl)
+        (range_join K (pos h') (pos (past a h')) (total size a) (total size b) n (gathered within past w h' a) (gathered within past w (past a h') b)
+        c (gathered_range a h' g.1) (gathered_range b (past a h') g.2) (past_pos a h') refl refl)
         (within_pos x h tt) (omega arith) (omega arith)
     gathered_range_in (While t a) h g =
         let x = While t a in
-        range_join K (pos h) (pos (within x h)) (size x) (total size a) (total_of size x) (w x h) (gathered within past w (within x h) a) (gathered_in within past w h x) (single x h tt g.0) (gathered_range a (within x h) g.1) (within_pos x h tt) (omega arith) (omega arith)
+        range_join K (pos h) (pos (within x h)) (size x) (total size a) (total_of size x) (w x h) (gathered within past w (within x h) a)
+        (gathered_in within past w h x) (single x h tt g.0) (gathered_range a (within x h) g.1) (within_pos x h tt) (omega arith) (omega arith)
     gathered_range_in (Do a t) h g =
         let x = Do a t in
-        range_join K (pos h) (pos (within x h)) (size x) (total size a) (total_of size x) (w x h) (gathered within past w (within x h) a) (gathered_in within past w h x) (single x h tt g.0) (gathered_range a (within x h) g.1) (within_pos x h tt) (omega arith) (omega arith)
+        range_join K (pos h) (pos (within x h)) (size x) (total size a) (total_of size x) (w x h) (gathered within past w (within x h) a)
+        (gathered_in within past w h x) (single x h tt g.0) (gathered_range a (within x h) g.1) (within_pos x h tt) (omega arith) (omega arith)
     gathered_range_in (For first t u a) h g =
         let x = For first t u a in
         let h' = within x h in
         let n = total size first + total size a in
         let c = gathered within past w h' first + gathered within past w (past first h') a in
         range_join K (pos h) (pos h') (size x) n (total_of size x) (w x h) c (gathered_in within past w h x) (single x h tt g.0)
-        (range_join K (pos h') (pos (past first h')) (total size first) (total size a) n (gathered within past w h' first) (gathered within past w (past first h') a) c (gathered_range first h' g.1) (gathered_range a (past first h') g.2) (past_pos first h') refl refl)
+        (range_join K (pos h') (pos (past first h')) (total size first) (total size a) n (gathered within past w h' first)
+        (gathered within past w (past first h') a) c (gathered_range first h' g.1) (gathered_range a (past first h') g.2) (past_pos first h') refl refl)
         (within_pos x h tt) (omega arith) (omega arith)
     gathered_range_in (Switch s d) h g =
         let x = Switch s d in
-        range_join K (pos h) (pos (within x h)) (size x) (total_in size d) (total_of size x) (w x h) (gathered_among within past w (within x h) d) (gathered_in within past w h x) (single x h tt g.0) (gathered_range_among d (within x h) g.1) (within_pos x h tt) (omega arith) (omega arith)
-    gathered_range_in (Block a) h g = let z = none (Block a) (λ i. i) in range_as K (pos h) (total size a) (total_of size (Block a)) (gathered within past w h a) (gathered within past w h a) (gathered_range a h g.1) (omega (arith, z)) refl
+        range_join K (pos h) (pos (within x h)) (size x) (total_in size d) (total_of size x) (w x h) (gathered_among within past w (within x h) d)
+        (gathered_in within past w h x) (single x h tt g.0) (gathered_range_among d (within x h) g.1) (within_pos x h tt) (omega arith) (omega arith)
+    gathered_range_in (Block a) h g = let z = none (Block a) (λ i. i) in
+        range_as K (pos h) (total size a) (total_of size (Block a)) (gathered within past w h a) (gathered within past w h a) (gathered_range a h g.1)
+        (omega (arith, z)) refl
     gathered_range_in x h g = range_as K (pos h) 0 (size x) 0 0 (range_none K (pos h)) (none x (λ i. i)) refl
 
     gathered_range_among : (d : Sections) (h : Here) → EverywhereIn G d → Range K (pos h) (total_in size d) (gathered_among within past w h d)
     gathered_range_among NoSection h g = range_none K (pos h)
     gathered_range_among (Section cases default a ends d) h g =
-        range_join K (pos h) (pos (past a h)) (total size a) (total_in size d) (total_in size (Section cases default a ends d)) (gathered within past w h a) (gathered_among within past w (past a h) d) (gathered_among within past w h (Section cases default a ends d))
+        range_join K (pos h) (pos (past a h)) (total size a) (total_in size d) (total_in size (Section cases default a ends d))
+        (gathered within past w h a) (gathered_among within past w (past a h) d) (gathered_among within past w h (Section cases default a ends d))
         (gathered_range a h g.0) (gathered_range_among d (past a h) g.1) (past_pos a h) refl refl
 
 -- ---- sums of smaller numbers

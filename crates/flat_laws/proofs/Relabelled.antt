@@ -162,7 +162,8 @@ module _ (f : ℕ → ℕ) where
     tests_among_labels NoSection = refl
     tests_among_labels (Section cases default a ends d) =
         join_labels (tests_for number k v names cases) (join (tests number k v names a) (tests_among number k v names d))
-        ∙ ap₂ join (tests_for_labels cases) (join_labels (tests number k v names a) (tests_among number k v names d) ∙ ap₂ join (tests_labels a) (tests_among_labels d))
+        ∙ ap₂ join (tests_for_labels cases) (join_labels (tests number k v names a) (tests_among number k v names d) ∙
+        ap₂ join (tests_labels a) (tests_among_labels d))
 
   case_names : (p : Plan) (h : Here) (k : IntKind) (d : Sections) (e : Option ExpressionTree) → f (names_of p h k d e) ≡ names_of (planned p) h k d e
   case_names p h k d None = refl
@@ -187,7 +188,8 @@ module _ (f : ℕ → ℕ) where
     mutual
       pub flat_labels : (xs : Forest) (h : Here) (b c : Aim) (r : Arrivals) → relabelled f (flat p h b c r xs) ≡ flat q h (aimed b) (aimed c) (arriving r) xs
       flat_labels Nil h b c r = refl
-      flat_labels (Then x xs) h b c r = join_labels (flat_item p h b c r x) (flat p (past_item x h) b c r xs) ∙ ap₂ join (flat_labels_in x h b c r) (flat_labels xs (past_item x h) b c r)
+      flat_labels (Then x xs) h b c r = join_labels (flat_item p h b c r x) (flat p (past_item x h) b c r xs) ∙
+          ap₂ join (flat_labels_in x h b c r) (flat_labels xs (past_item x h) b c r)
 
       flat_labels_in : (x : Tree) (h : Here) (b c : Aim) (r : Arrivals)
           → relabelled f (flat_item p h b c r x) ≡ flat_item q h (aimed b) (aimed c) (arriving r) x
@@ -199,8 +201,10 @@ module _ (f : ℕ → ℕ) where
           let b' = aim y (breaks a) k in
           let c' = aim y (continues a) l in
           let h' = inside (While t a) h in
-          loop_labels (λ z. While t z) (λ z. refl) (flat p h' b' c' r a) (flat q h' (aim y (breaks a) (f k)) (aim y (continues a) (f l)) (arriving r) a) b' c' (aim y (breaks a) (f k)) (aim y (continues a) (f l))
-          (flat_labels a h' b' c' r ∙ ap₂ (λ m n. flat q h' m n (arriving r) a) (aim_labels y (breaks a) k) (aim_labels y (continues a) l)) (aim_labels y (breaks a) k) (aim_labels y (continues a) l)
+          loop_labels (λ z. While t z) (λ z. refl) (flat p h' b' c' r a)
+          (flat q h' (aim y (breaks a) (f k)) (aim y (continues a) (f l)) (arriving r) a) b' c' (aim y (breaks a) (f k)) (aim y (continues a) (f l))
+          (flat_labels a h' b' c' r ∙ ap₂ (λ m n. flat q h' m n (arriving r) a) (aim_labels y (breaks a) k) (aim_labels y (continues a) l))
+          (aim_labels y (breaks a) k) (aim_labels y (continues a) l)
       flat_labels_in (Do a t) h b c r =
           let y = holds_jump p.live a in
           let k = p.break_label h.construct in
@@ -208,8 +212,10 @@ module _ (f : ℕ → ℕ) where
           let b' = aim y (breaks a) k in
           let c' = aim y (continues a) l in
           let h' = inside (Do a t) h in
-          loop_labels (λ z. Do z t) (λ z. refl) (flat p h' b' c' r a) (flat q h' (aim y (breaks a) (f k)) (aim y (continues a) (f l)) (arriving r) a) b' c' (aim y (breaks a) (f k)) (aim y (continues a) (f l))
-          (flat_labels a h' b' c' r ∙ ap₂ (λ m n. flat q h' m n (arriving r) a) (aim_labels y (breaks a) k) (aim_labels y (continues a) l)) (aim_labels y (breaks a) k) (aim_labels y (continues a) l)
+          loop_labels (λ z. Do z t) (λ z. refl) (flat p h' b' c' r a) (flat q h' (aim y (breaks a) (f k)) (aim y (continues a) (f l)) (arriving r) a)
+          b' c' (aim y (breaks a) (f k)) (aim y (continues a) (f l))
+          (flat_labels a h' b' c' r ∙ ap₂ (λ m n. flat q h' m n (arriving r) a) (aim_labels y (breaks a) k) (aim_labels y (continues a) l))
+          (aim_labels y (breaks a) k) (aim_labels y (continues a) l)
       flat_labels_in (For first t u a) h b c r =
           let y = holds_jump p.live a in
           let k = p.break_label h.construct in
@@ -223,7 +229,8 @@ module _ (f : ℕ → ℕ) where
           join_labels (flat p h' b c NoArrival first) (flat_for y t u A b' c')
           ∙ ap₂ join (flat_labels first h' b c NoArrival)
           (for_labels y t u A b' c'
-          ∙ ap (λ z. flat_for y t u z (aimed b') (aimed c')) (flat_labels a h'' b' c' r ∙ ap₂ (λ m n. flat q h'' m n (arriving r) a) (aim_labels y (breaks a) k) (aim_labels y (continues a) l))
+          ∙ ap (λ z. flat_for y t u z (aimed b') (aimed c'))
+          (flat_labels a h'' b' c' r ∙ ap₂ (λ m n. flat q h'' m n (arriving r) a) (aim_labels y (breaks a) k) (aim_labels y (continues a) l))
           ∙ ap₂ (λ m n. flat_for y t u A' m n) (aim_labels y (breaks a) k) (aim_labels y (continues a) l))
       flat_labels_in (Block a) h b c r = flat_labels a h b c r
       flat_labels_in (Local x None) h b c r = refl
@@ -262,7 +269,8 @@ module _ (f : ℕ → ℕ) where
       sections_labels (Section cases default a ends d) h y b c =
           let e = ending p.live a in
           ap₂ (λ z w. Section cases default z (ends_then y ends e) w)
-          (breaks_labels e (flat_last p h b c NoArrival a) (flat p h b c NoArrival a) ∙ ap₂ (if_breaks e) (last_labels a h b c NoArrival) (flat_labels a h b c NoArrival)) (sections_labels d (past a h) y b c)
+          (breaks_labels e (flat_last p h b c NoArrival a) (flat p h b c NoArrival a) ∙
+          ap₂ (if_breaks e) (last_labels a h b c NoArrival) (flat_labels a h b c NoArrival)) (sections_labels d (past a h) y b c)
 
       spread_labels : (d : Sections) (h : Here) (b c : Aim) (names : Names)
           → relabelled f (spread p h b c names d) ≡ spread q h (aimed b) (aimed c) (named names) d
@@ -272,7 +280,8 @@ module _ (f : ℕ → ℕ) where
           let sp = spread p (past a h) b c names d in
           join_labels (case_marks names cases default) (join fa (join (end_goto ends b) sp))
           ∙ ap₂ join (marks_labels names cases default)
-          (join_labels fa (join (end_goto ends b) sp) ∙ ap₂ join (flat_labels a h b c (Arrives names)) (join_labels (end_goto ends b) sp ∙ ap₂ join (end_labels ends b) (spread_labels d (past a h) b c names)))
+          (join_labels fa (join (end_goto ends b) sp) ∙ ap₂ join (flat_labels a h b c (Arrives names))
+          (join_labels (end_goto ends b) sp ∙ ap₂ join (end_labels ends b) (spread_labels d (past a h) b c names)))
 
       last_labels : (xs : Forest) (h : Here) (b c : Aim) (r : Arrivals)
           → relabelled f (flat_last p h b c r xs) ≡ flat_last q h (aimed b) (aimed c) (arriving r) xs
@@ -281,7 +290,8 @@ module _ (f : ℕ → ℕ) where
           let A = flat_item p h b c r x in
           let B = flat_last p (past_item x h) b c r xs in
           cond_labels (is_gone (ending p.live xs)) (flat_last_item p h b c r x) (join A B)
-          ∙ ap₂ (cond (is_gone (ending p.live xs))) (last_labels_in x h b c r) (join_labels A B ∙ ap₂ join (flat_labels_in x h b c r) (last_labels xs (past_item x h) b c r))
+          ∙ ap₂ (cond (is_gone (ending p.live xs))) (last_labels_in x h b c r)
+          (join_labels A B ∙ ap₂ join (flat_labels_in x h b c r) (last_labels xs (past_item x h) b c r))
 
       last_labels_in : (x : Tree) (h : Here) (b c : Aim) (r : Arrivals)
           → relabelled f (flat_last_item p h b c r x) ≡ flat_last_item q h (aimed b) (aimed c) (arriving r) x

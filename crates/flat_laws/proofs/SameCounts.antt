@@ -113,7 +113,8 @@ module _ (gotos labels : ℕ) where
     test_for_same x = at (case_number k x)
       where
         at : (o : Option ℤ)
-            → weights (option_map_or (λ z. one (If (Source (is_number k v (number k z))) (one (Goto (n (Some x)))) Nil)) o Nil) ≡ weights (option_map_or (λ z. one (If (Source (is_number k w (other k z))) (one (Goto (m (Some x)))) Nil)) o Nil)
+            → weights (option_map_or (λ z. one (If (Source (is_number k v (number k z))) (one (Goto (n (Some x)))) Nil)) o Nil) ≡ weights
+            (option_map_or (λ z. one (If (Source (is_number k w (other k z))) (one (Goto (m (Some x)))) Nil)) o Nil)
         at None = refl
         at (Some z) = refl
 
@@ -122,12 +123,14 @@ module _ (gotos labels : ℕ) where
 
     tests_for_same : (es : List ExpressionTree) → weights (tests_for number k v n es) ≡ weights (tests_for other k w m es)
     tests_for_same [] = refl
-    tests_for_same (e ∷ es) = joined (test_for number k v n e) (tests_for number k v n es) (test_for other k w m e) (tests_for other k w m es) (test_for_same e) (tests_for_same es)
+    tests_for_same (e ∷ es) = joined (test_for number k v n e) (tests_for number k v n es) (test_for other k w m e) (tests_for other k w m es)
+        (test_for_same e) (tests_for_same es)
 
     mutual
       tests_same : (a : Forest) → weights (tests number k v n a) ≡ weights (tests other k w m a)
       tests_same Nil = refl
-      tests_same (Then x a) = joined (tests_in number k v n x) (tests number k v n a) (tests_in other k w m x) (tests other k w m a) (tests_in_same x) (tests_same a)
+      tests_same (Then x a) = joined (tests_in number k v n x) (tests number k v n a) (tests_in other k w m x) (tests other k w m a) (tests_in_same x)
+          (tests_same a)
 
       tests_in_same : (x : Tree) → weights (tests_in number k v n x) ≡ weights (tests_in other k w m x)
       tests_in_same (If t a b) = joined (tests number k v n a) (tests number k v n b) (tests other k w m a) (tests other k w m b) (tests_same a) (tests_same b)
@@ -142,17 +145,37 @@ module _ (gotos labels : ℕ) where
     tests_among_same : (d : Sections) → weights (tests_among number k v n d) ≡ weights (tests_among other k w m d)
     tests_among_same NoSection = refl
     tests_among_same (Section cases default a ends d) =
-        joined (tests_for number k v n cases) (join (tests number k v n a) (tests_among number k v n d)) (tests_for other k w m cases) (join (tests other k w m a) (tests_among other k w m d)) (tests_for_same cases)
+        joined (tests_for number k v n cases) (join (tests number k v n a) (tests_among number k v n d)) (tests_for other k w m cases)
+        (join (tests other k w m a) (tests_among other k w m d)) (tests_for_same cases)
         (joined (tests number k v n a) (tests_among number k v n d) (tests other k w m a) (tests_among other k w m d) (tests_same a) (tests_among_same d))
 
   -- ---- along the flat form, by two plans in which the same labels stay
 
-  module _ (live : ℕ → Bool) (source source' break break' continue continue' default default' case case' : ℕ → ℕ) (slots slots' : List Slot) (number number' : IntKind → ℤ → ExpressionTree) where
+  module _ (live : ℕ → Bool) (source source' break break' continue continue' default default' case case' : ℕ → ℕ) (slots slots' : List Slot)
+      (number number' : IntKind → ℤ → ExpressionTree) where
     abbrev p : Plan
-    p = record { live = live; source = source; break_label = break; continue_label = continue; default_label = default; case_label = case; slots = slots; number = number }
+    p = record {
+      live = live;
+      source = source;
+      break_label = break;
+      continue_label = continue;
+      default_label = default;
+      case_label = case;
+      slots = slots;
+      number = number;
+    }
 
     abbrev q : Plan
-    q = record { live = live; source = source'; break_label = break'; continue_label = continue'; default_label = default'; case_label = case'; slots = slots'; number = number' }
+    q = record {
+      live = live;
+      source = source';
+      break_label = break';
+      continue_label = continue';
+      default_label = default';
+      case_label = case';
+      slots = slots';
+      number = number';
+    }
 
     abbrev Same : Forest → Forest → Type 0
     Same a b = weights a ≡ weights b
@@ -160,12 +183,16 @@ module _ (gotos labels : ℕ) where
     both : (a b c d : Forest) → Same a c → Same b d → Same (join a b) (join c d)
     both a b c d h k = let i = total-join weight a b in let j = total-join weight c d in omega (arith, h, k, i, j)
 
-    for_same : (j : Bool) (t u : Option ExpressionTree) (a b : Forest) {e e' g g' : Aim} → Same a b → Alike e e' → Alike g g' → Same (flat_for j t u a e g) (flat_for j t u b e' g')
+    for_same : (j : Bool) (t u : Option ExpressionTree) (a b : Forest) {e e' g g' : Aim} → Same a b → Alike e e' → Alike g g' →
+        Same (flat_for j t u a e g) (flat_for j t u b e' g')
     for_same true t u a b {e = e} {e' = e'} {g = g} {g' = g'} h k l =
-        let i = both a (join (mark_of g) (third_items u)) b (join (mark_of g') (third_items u)) h (both (mark_of g) (third_items u) (mark_of g') (third_items u) (mark_same l) refl) in
+        let i = both a (join (mark_of g) (third_items u)) b (join (mark_of g') (third_items u)) h
+        (both (mark_of g) (third_items u) (mark_of g') (third_items u) (mark_same l) refl) in
         let m = mark_same k in
         omega (arith, i, m)
-    for_same false t u a b {e = e} {e' = e'} {g = g} {g' = g'} h k l = let i = both a (mark_of g) b (mark_of g') h (mark_same l) in let m = mark_same k in omega (arith, i, m)
+    for_same false t u a b {e = e} {e' = e'} {g = g} {g' = g'} h k l = let i = both a (mark_of g) b (mark_of g') h (mark_same l) in let m =
+        mark_same
+        k in omega (arith, i, m)
 
     jumpy_same : {c c' : Aim} (d : Sections) → Alike c c' → is_jumpy_switch p c d ≡ is_jumpy_switch q c' d
     jumpy_same d k = ap (λ b. holds_jump_among live d || (b && is_some_number (continues_in d))) (moved_alike k)
@@ -174,23 +201,28 @@ module _ (gotos labels : ℕ) where
     aims_over b b' n l m e = subst (λ x. Alike (aim b n l) (aim x n m)) e (aims b n l m)
 
     mutual
-      pub flat_same : (h h' : Here) {b b' c c' : Aim} {r r' : Arrivals} (a : Forest) → Alike b b' → Alike c c' → AlikeArrivals r r' → Same (flat p h b c r a) (flat q h' b' c' r' a)
+      pub flat_same : (h h' : Here) {b b' c c' : Aim} {r r' : Arrivals} (a : Forest) → Alike b b' → Alike c c' → AlikeArrivals r r' →
+          Same (flat p h b c r a) (flat q h' b' c' r' a)
       flat_same h h' Nil j k l = refl
       flat_same h h' {b = b} {b' = b'} {c = c} {c' = c'} {r = r} {r' = r'} (Then x xs) j k l =
-          both (flat_item p h b c r x) (flat p (past_item x h) b c r xs) (flat_item q h' b' c' r' x) (flat q (past_item x h') b' c' r' xs) (item_same h h' x j k l) (flat_same (past_item x h) (past_item x h') xs j k l)
+          both (flat_item p h b c r x) (flat p (past_item x h) b c r xs) (flat_item q h' b' c' r' x) (flat q (past_item x h') b' c' r' xs)
+          (item_same h h' x j k l) (flat_same (past_item x h) (past_item x h') xs j k l)
 
-      item_same : (h h' : Here) {b b' c c' : Aim} {r r' : Arrivals} (x : Tree) → Alike b b' → Alike c c' → AlikeArrivals r r' → Same (flat_item p h b c r x) (flat_item q h' b' c' r' x)
+      item_same : (h h' : Here) {b b' c c' : Aim} {r r' : Arrivals} (x : Tree) → Alike b b' → Alike c c' → AlikeArrivals r r' →
+          Same (flat_item p h b c r x) (flat_item q h' b' c' r' x)
       item_same h h' (If t x y) j k l = let i = flat_same h h' x j k l in let m = flat_same (past x h) (past x h') y j k l in omega (arith, i, m)
       item_same h h' {r = r} {r' = r'} (While t a) j k l =
           let B = aims (holds_jump live a) (breaks a) (break h.construct) (break' h'.construct) in
           let C = aims (holds_jump live a) (continues a) (continue h.construct) (continue' h'.construct) in
-          let i = both (flat p (inside (While t a) h) _ _ r a) (mark_of _) (flat q (inside (While t a) h') _ _ r' a) (mark_of _) (flat_same (inside (While t a) h) (inside (While t a) h') a B C l) (mark_same C) in
+          let i = both (flat p (inside (While t a) h) _ _ r a) (mark_of _) (flat q (inside (While t a) h') _ _ r' a) (mark_of _)
+          (flat_same (inside (While t a) h) (inside (While t a) h') a B C l) (mark_same C) in
           let m = mark_same B in
           omega (arith, i, m)
       item_same h h' {r = r} {r' = r'} (Do a t) j k l =
           let B = aims (holds_jump live a) (breaks a) (break h.construct) (break' h'.construct) in
           let C = aims (holds_jump live a) (continues a) (continue h.construct) (continue' h'.construct) in
-          let i = both (flat p (inside (Do a t) h) _ _ r a) (mark_of _) (flat q (inside (Do a t) h') _ _ r' a) (mark_of _) (flat_same (inside (Do a t) h) (inside (Do a t) h') a B C l) (mark_same C) in
+          let i = both (flat p (inside (Do a t) h) _ _ r a) (mark_of _) (flat q (inside (Do a t) h') _ _ r' a) (mark_of _)
+          (flat_same (inside (Do a t) h) (inside (Do a t) h') a B C l) (mark_same C) in
           let m = mark_same B in
           omega (arith, i, m)
       item_same h h' {b = b} {b' = b'} {c = c} {c' = c'} {r = r} {r' = r'} (For first t u a) j k l =
@@ -199,11 +231,13 @@ module _ (gotos labels : ℕ) where
           let s = inside (For first t u a) h in
           let s' = inside (For first t u a) h' in
           both (flat p s b c NoArrival first) _ (flat q s' b' c' NoArrival first) _ (flat_same s s' first j k no_arrival)
-          (for_same (holds_jump live a) t u (flat p (past first s) _ _ r a) (flat q (past first s') _ _ r' a) (flat_same (past first s) (past first s') a B C l) B C)
+          (for_same (holds_jump live a) t u (flat p (past first s) _ _ r a) (flat q (past first s') _ _ r' a)
+          (flat_same (past first s) (past first s') a B C l) B C)
       item_same h h' (Block a) j k l = flat_same h h' a j k l
       item_same h h' (Local x None) j k l = refl
       item_same h h' (Local x (Some es)) j k l =
-          assigned_none (entry_or no_slot slots x).kind x (entry_or no_slot slots x).cells es ∙ sym (assigned_none (entry_or no_slot slots' x).kind x (entry_or no_slot slots' x).cells es)
+          assigned_none (entry_or no_slot slots x).kind x (entry_or no_slot slots x).cells es ∙
+          sym (assigned_none (entry_or no_slot slots' x).kind x (entry_or no_slot slots' x).cells es)
       item_same h h' Break j k l = exit_same Break j
       item_same h h' Continue j k l = exit_same Continue k
       item_same h h' (Goto x) j k l = refl
@@ -222,7 +256,8 @@ module _ (gotos labels : ℕ) where
           let t' = tests_among number' (switch_kind s) h'.variable n' d in
           let o = spread_same i i' n n' d A k in
           let w : Same (Then (Goto (otherwise_label p h d)) y) (Then (Goto (otherwise_label q h' d)) y') = omega (arith, o) in
-          let z = both t (Then (Goto (otherwise_label p h d)) y) t' (Then (Goto (otherwise_label q h' d)) y') (tests_among_same number number' (switch_kind s) h.variable h'.variable n n' d) w in
+          let z = both t (Then (Goto (otherwise_label p h d)) y) t' (Then (Goto (otherwise_label q h' d)) y')
+          (tests_among_same number number' (switch_kind s) h.variable h'.variable n n' d) w in
           let e = sections_same i i' (is_jumpy_switch p c d) (is_jumpy_switch q c' d) d B k in
           let m = mark_same B in
           cond_same (is_scattered d) (dissolved p h s d y) _ (dissolved q h' s d y') _ (omega (arith, z)) (omega (arith, e, m))
@@ -233,17 +268,21 @@ module _ (gotos labels : ℕ) where
       item_same h h' (Leap x) j k l = refl
       item_same h h' (Land x) j k l = refl
 
-      last_same : (h h' : Here) {b b' c c' : Aim} {r r' : Arrivals} (a : Forest) → Alike b b' → Alike c c' → AlikeArrivals r r' → Same (flat_last p h b c r a) (flat_last q h' b' c' r' a)
+      last_same : (h h' : Here) {b b' c c' : Aim} {r r' : Arrivals} (a : Forest) → Alike b b' → Alike c c' → AlikeArrivals r r' →
+          Same (flat_last p h b c r a) (flat_last q h' b' c' r' a)
       last_same h h' Nil j k l = refl
       last_same h h' {b = b} {b' = b'} {c = c} {c' = c'} {r = r} {r' = r'} (Then x xs) j k l =
           cond_same (is_gone (ending live xs)) (flat_last_item p h b c r x) _ (flat_last_item q h' b' c' r' x) _ (last_item_same h h' x j k l)
-          (both (flat_item p h b c r x) (flat_last p (past_item x h) b c r xs) (flat_item q h' b' c' r' x) (flat_last q (past_item x h') b' c' r' xs) (item_same h h' x j k l) (last_same (past_item x h) (past_item x h') xs j k l))
+          (both (flat_item p h b c r x) (flat_last p (past_item x h) b c r xs) (flat_item q h' b' c' r' x) (flat_last q (past_item x h') b' c' r' xs)
+          (item_same h h' x j k l) (last_same (past_item x h) (past_item x h') xs j k l))
 
-      last_item_same : (h h' : Here) {b b' c c' : Aim} {r r' : Arrivals} (x : Tree) → Alike b b' → Alike c c' → AlikeArrivals r r' → Same (flat_last_item p h b c r x) (flat_last_item q h' b' c' r' x)
+      last_item_same : (h h' : Here) {b b' c c' : Aim} {r r' : Arrivals} (x : Tree) → Alike b b' → Alike c c' → AlikeArrivals r r' →
+          Same (flat_last_item p h b c r x) (flat_last_item q h' b' c' r' x)
       last_item_same h h' (Block a) j k l = last_same h h' a j k l
       last_item_same h h' _ j k l = refl
 
-      sections_same : (h h' : Here) (x x' : Bool) {b b' c c' : Aim} (d : Sections) → Alike b b' → Alike c c' → total_in weight (flat_sections p h x b c d) ≡ total_in weight (flat_sections q h' x' b' c' d)
+      sections_same : (h h' : Here) (x x' : Bool) {b b' c c' : Aim} (d : Sections) → Alike b b' → Alike c c' →
+          total_in weight (flat_sections p h x b c d) ≡ total_in weight (flat_sections q h' x' b' c' d)
       sections_same h h' x x' NoSection j k = refl
       sections_same h h' x x' (Section cases default a ends d) j k =
           let i = if_breaks_same (ending live a) _ _ _ _ (last_same h h' a j k no_arrival) (flat_same h h' a j k no_arrival) in
@@ -255,7 +294,8 @@ module _ (gotos labels : ℕ) where
       spread_same h h' n n' {b = b} {b' = b'} {c = c} {c' = c'} (Section cases default a ends d) j k =
           both (case_marks n cases default) _ (case_marks n' cases default) _ (case_marks_same n n' cases default)
           (both (flat p h b c (Arrives n) a) _ (flat q h' b' c' (Arrives n') a) _ (flat_same h h' a j k (arrives n n'))
-          (both (end_goto ends b) (spread p (past a h) b c n d) (end_goto ends b') (spread q (past a h') b' c' n' d) (end_same ends j) (spread_same (past a h) (past a h') n n' d j k)))
+          (both (end_goto ends b) (spread p (past a h) b c n d) (end_goto ends b') (spread q (past a h') b' c' n' d) (end_same ends j)
+          (spread_same (past a h) (past a h') n n' d j k)))
 
 -- ---- how many labels stand in a body
 
@@ -268,7 +308,8 @@ mutual
   marks_counted_in (If t a b) = let e = length-append (marks a) (marks b) in let i = marks_counted a in let j = marks_counted b in omega (arith, e, i, j)
   marks_counted_in (While t a) = let i = marks_counted a in omega (arith, i)
   marks_counted_in (Do a t) = let i = marks_counted a in omega (arith, i)
-  marks_counted_in (For first t u a) = let e = length-append (marks first) (marks a) in let i = marks_counted first in let j = marks_counted a in omega (arith, e, i, j)
+  marks_counted_in (For first t u a) = let e = length-append (marks first) (marks a) in let i = marks_counted first in let j = marks_counted a in
+      omega (arith, e, i, j)
   marks_counted_in (Block a) = let i = marks_counted a in omega (arith, i)
   marks_counted_in (Switch s d) = let i = marks_counted_among d in omega (arith, i)
   marks_counted_in (Mark l) = refl
@@ -286,4 +327,6 @@ mutual
 
   marks_counted_among : (d : Sections) → length (marks_among d) ≡ total_in (weight 0 1) d
   marks_counted_among NoSection = refl
-  marks_counted_among (Section cases default a ends d) = let e = length-append (marks a) (marks_among d) in let i = marks_counted a in let j = marks_counted_among d in omega (arith, e, i, j)
+  marks_counted_among (Section cases default a ends d) = let e = length-append (marks a) (marks_among d) in let i = marks_counted a in let j =
+      marks_counted_among
+      d in omega (arith, e, i, j)

@@ -95,15 +95,24 @@ module _ (N : ℕ) where
   breaks_in Jumps a b h k = k
   breaks_in Otherwise a b h k = k
 
-  for_in : (y : Bool) (t u : Option ExpressionTree) (a : Forest) (b c : Aim) → IfSome t (ExpressionSlots P) → IfSome u (ExpressionSlots P) → AreIn a → AreIn (flat_for y t u a b c)
-  for_in true t u a b c g h i = ((test_in t g, join_in a (join (mark_of c) (third_items u)) i (join_in (mark_of c) (third_items u) (mark_in c) (third_in u h))), mark_in b)
+  for_in : (y : Bool) (t u : Option ExpressionTree) (a : Forest) (b c : Aim) → IfSome t (ExpressionSlots P) → IfSome u (ExpressionSlots P) → AreIn a →
+      AreIn (flat_for y t u a b c)
+  for_in true t u a b c g h i = (
+    (
+      test_in t g,
+      join_in a (join (mark_of c) (third_items u)) i
+          (join_in (mark_of c) (third_items u) (mark_in c) (third_in u h)),
+    ),
+    mark_in b,
+  )
   for_in false t u a b c g h i = (((g, h), tt, join_in a (mark_of c) i (mark_in c)), mark_in b)
 
   source_in : (s : SelectorTree) → SelectorSlots P s → ExpressionSlots P (selector_source s)
   source_in (Selects e) h = h
   source_in (Pick l n s) h = source_in s h
 
-  module _ (number : IntKind → ℤ → ExpressionTree) (numbers : (k : IntKind) (n : ℤ) → ExpressionSlots P (number k n)) (k : IntKind) (v : ℕ) (names : Names) (v_in : P v) where
+  module _ (number : IntKind → ℤ → ExpressionTree) (numbers : (k : IntKind) (n : ℤ) → ExpressionSlots P (number k n)) (k : IntKind) (v : ℕ)
+      (names : Names) (v_in : P v) where
     test_for_in : (e : ExpressionTree) → AreIn (test_for number k v names e)
     test_for_in e = at (case_number k e)
       where
@@ -133,7 +142,8 @@ module _ (N : ℕ) where
     tests_among_in : (d : Sections) → AreIn (tests_among number k v names d)
     tests_among_in NoSection = tt
     tests_among_in (Section cases default a ends d) =
-        join_in (tests_for number k v names cases) (join (tests number k v names a) (tests_among number k v names d)) (tests_for_in cases) (join_in (tests number k v names a) (tests_among number k v names d) (tests_all_in a) (tests_among_in d))
+        join_in (tests_for number k v names cases) (join (tests number k v names a) (tests_among number k v names d)) (tests_for_in cases)
+        (join_in (tests number k v names a) (tests_among number k v names d) (tests_all_in a) (tests_among_in d))
 
   module _ (p : Plan) (numbers : (k : IntKind) (n : ℤ) → ExpressionSlots P (p.number k n)) where
     cases_in : (d : Sections) (h : Here) (y : Bool) (b c : Aim) → CaseSlots P d → CaseSlots P (flat_sections p h y b c d)
@@ -142,16 +152,21 @@ module _ (N : ℕ) where
 
     dissolved_in : (s : SelectorTree) (d : Sections) (h : Here) (sp : Forest) → P h.variable → SelectorSlots P s → AreIn sp → AreIn (dissolved p h s d sp)
     dissolved_in s d h sp v g i =
-        let ts = tests_among p.number (switch_kind s) h.variable (names_of p h (switch_kind s) d) d in
-        ((v, source_in s g), join_in ts (Then (Goto (otherwise_label p h d)) sp) (tests_among_in p.number numbers (switch_kind s) h.variable (names_of p h (switch_kind s) d) v d) (tt, i))
+        let ts = tests_among p.number (switch_kind s) h.variable (names_of p h (switch_kind s) d) d in (
+          (v, source_in s g),
+          join_in ts (Then (Goto (otherwise_label p h d)) sp)
+              (tests_among_in p.number numbers (switch_kind s) h.variable (names_of p h (switch_kind s) d) v d) (tt, i),
+        )
 
     mutual
       pub slots_in : (xs : Forest) (h : Here) (b c : Aim) (r : Arrivals) → AreIn xs → h.variable + total variables_of xs ≤ N → AreIn (flat p h b c r xs)
       slots_in Nil h b c r g n = tt
       slots_in (Then x xs) h b c r g n =
-          join_in (flat_item p h b c r x) (flat p (past_item x h) b c r xs) (slots_in_item x h b c r g.0 (omega (arith, n))) (slots_in xs (past_item x h) b c r g.1 (omega (arith, n)))
+          join_in (flat_item p h b c r x) (flat p (past_item x h) b c r xs) (slots_in_item x h b c r g.0 (omega (arith, n)))
+          (slots_in xs (past_item x h) b c r g.1 (omega (arith, n)))
 
-      slots_in_item : (x : Tree) (h : Here) (b c : Aim) (r : Arrivals) → EverywhereOf (ItemSlots P) x → h.variable + total_of variables_of x ≤ N → AreIn (flat_item p h b c r x)
+      slots_in_item : (x : Tree) (h : Here) (b c : Aim) (r : Arrivals) → EverywhereOf (ItemSlots P) x → h.variable + total_of variables_of x ≤ N →
+          AreIn (flat_item p h b c r x)
       slots_in_item (If t x y) h b c r g n = ((g.0, slots_in x h b c r g.1 (omega (arith, n)), slots_in y (past x h) b c r g.2 (omega (arith, n))), tt)
       slots_in_item (While t a) h b c r g n =
           let m = aim (holds_jump p.live a) (breaks a) (p.break_label h.construct) in
@@ -172,7 +187,8 @@ module _ (N : ℕ) where
           (for_in (holds_jump p.live a) t u fa m o g.0.0 g.0.1 (slots_in a (past first h') m o r g.2 (omega (arith, n))))
       slots_in_item (Block a) h b c r g n = slots_in a h b c r g.1 (omega (arith, n))
       slots_in_item (Local x None) h b c r g n = tt
-      slots_in_item (Local x (Some es)) h b c r g n = assigned_in (entry_or no_slot p.slots x).kind x (entry_or no_slot p.slots x).cells es g.0 (recursion_from_All (ExpressionSlots P) es g.1)
+      slots_in_item (Local x (Some es)) h b c r g n = assigned_in (entry_or no_slot p.slots x).kind x (entry_or no_slot p.slots x).cells es g.0
+          (recursion_from_All (ExpressionSlots P) es g.1)
       slots_in_item Break h b c r g n = break_in b
       slots_in_item Continue h b c r g n = continue_in c
       slots_in_item (Mark l) h b c r g n = if_in (p.live l) (p.source l)
@@ -189,18 +205,24 @@ module _ (N : ℕ) where
           (((g.0.0, cases_in d h' y m c g.0.1), slots_in_among d h' y m c g.1 (omega (arith, n))), mark_in m)
       slots_in_item x h b c r g n = (g, tt)
 
-      slots_in_among : (d : Sections) (h : Here) (y : Bool) (b c : Aim) → EverywhereIn (ItemSlots P) d → h.variable + total_in variables_of d ≤ N → EverywhereIn (ItemSlots P) (flat_sections p h y b c d)
+      slots_in_among : (d : Sections) (h : Here) (y : Bool) (b c : Aim) → EverywhereIn (ItemSlots P) d → h.variable + total_in variables_of d ≤ N →
+          EverywhereIn (ItemSlots P) (flat_sections p h y b c d)
       slots_in_among NoSection h y b c g n = tt
-      slots_in_among (Section cases default a ends d) h y b c g n =
-          (breaks_in (ending p.live a) (flat_last p h b c NoArrival a) (flat p h b c NoArrival a) (slots_in_last a h b c NoArrival g.0 (omega (arith, n))) (slots_in a h b c NoArrival g.0 (omega (arith, n))), slots_in_among d (past a h) y b c g.1 (omega (arith, n)))
+      slots_in_among (Section cases default a ends d) h y b c g n = (
+        breaks_in (ending p.live a) (flat_last p h b c NoArrival a) (flat p h b c NoArrival a)
+            (slots_in_last a h b c NoArrival g.0 (omega (arith, n))) (slots_in a h b c NoArrival g.0 (omega (arith, n))),
+        slots_in_among d (past a h) y b c g.1 (omega (arith, n)),
+      )
 
-      slots_in_spread : (d : Sections) (h : Here) (b c : Aim) (names : Names) → EverywhereIn (ItemSlots P) d → h.variable + total_in variables_of d ≤ N → AreIn (spread p h b c names d)
+      slots_in_spread : (d : Sections) (h : Here) (b c : Aim) (names : Names) → EverywhereIn (ItemSlots P) d →
+          h.variable + total_in variables_of d ≤ N → AreIn (spread p h b c names d)
       slots_in_spread NoSection h b c names g n = mark_in b
       slots_in_spread (Section cases default a ends d) h b c names g n =
           let fa = flat p h b c (Arrives names) a in
           let sp = spread p (past a h) b c names d in
           join_in (case_marks names cases default) (join fa (join (end_goto ends b) sp)) (marks_in names cases default)
-          (join_in fa (join (end_goto ends b) sp) (slots_in a h b c (Arrives names) g.0 (omega (arith, n))) (join_in (end_goto ends b) sp (end_in ends b) (slots_in_spread d (past a h) b c names g.1 (omega (arith, n)))))
+          (join_in fa (join (end_goto ends b) sp) (slots_in a h b c (Arrives names) g.0 (omega (arith, n)))
+          (join_in (end_goto ends b) sp (end_in ends b) (slots_in_spread d (past a h) b c names g.1 (omega (arith, n)))))
 
       slots_in_last : (xs : Forest) (h : Here) (b c : Aim) (r : Arrivals) → AreIn xs → h.variable + total variables_of xs ≤ N → AreIn (flat_last p h b c r xs)
       slots_in_last Nil h b c r g n = tt
@@ -210,7 +232,8 @@ module _ (N : ℕ) where
           cond_in (is_gone (ending p.live xs)) (flat_last_item p h b c r x) (join A B) (λ e. slots_in_last_item x h b c r g.0 (omega (arith, n)))
           (join_in A B (slots_in_item x h b c r g.0 (omega (arith, n))) (slots_in_last xs (past_item x h) b c r g.1 (omega (arith, n))))
 
-      slots_in_last_item : (x : Tree) (h : Here) (b c : Aim) (r : Arrivals) → EverywhereOf (ItemSlots P) x → h.variable + total_of variables_of x ≤ N → AreIn (flat_last_item p h b c r x)
+      slots_in_last_item : (x : Tree) (h : Here) (b c : Aim) (r : Arrivals) → EverywhereOf (ItemSlots P) x →
+          h.variable + total_of variables_of x ≤ N → AreIn (flat_last_item p h b c r x)
       slots_in_last_item (Block a) h b c r g n = slots_in_last a h b c r g.1 (omega (arith, n))
       slots_in_last_item x h b c r g n = tt
 

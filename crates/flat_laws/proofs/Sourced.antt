@@ -61,7 +61,8 @@ module _ (l : ℕ) where
 
     has_among : (d : Sections) → EverywhereIn IsPlainItem d → 0 < total_in (mark_bit l) d → HasAmong l d
     has_among NoSection h n = absurd (omega (arith, n))
-    has_among (Section cases default a ends d) h n = either (Has l a) (HasAmong l d) (total (mark_bit l) a) (total_in (mark_bit l) d) n (has a h.0) (has_among d h.1)
+    has_among (Section cases default a ends d) h n = either (Has l a) (HasAmong l d) (total (mark_bit l) a) (total_in (mark_bit l) d) n (has a h.0)
+        (has_among d h.1)
 
 pub once : (n : ℕ) (body : Forest) → IsGoodSource n body → IsOnce body
 once n body s l = let i = marked l body s.items in let j = s.own.once l in omega (arith, i, j)

@@ -118,7 +118,8 @@ module _ (l : ℕ) (p : Plan) (live : p.live l ≡ true) where
         let j = stands xs (past_item x h) b c r g.1 in
         let k = places_join L (flat_item p h b c r x) (flat p (past_item x h) b c r xs) in omega (arith, i, j, k)
 
-    stands_in : (x : Tree) (h : Here) (b c : Aim) (r : Arrivals) → EverywhereOf (IsGoodItem p.live) x → total_of (mark_bit l) x ≤ places L (flat_item p h b c r x)
+    stands_in : (x : Tree) (h : Here) (b c : Aim) (r : Arrivals) → EverywhereOf (IsGoodItem p.live) x →
+        total_of (mark_bit l) x ≤ places L (flat_item p h b c r x)
     stands_in (If t x y) h b c r g = let i = stands x h b c r g.1 in let j = stands y (past x h) b c r g.2 in omega (arith, i, j)
     stands_in (While t a) h b c r g =
         let m = aim (holds_jump p.live a) (breaks a) (p.break_label h.construct) in
@@ -152,16 +153,20 @@ module _ (l : ℕ) (p : Plan) (live : p.live l ≡ true) where
         let i = stands_spread d h' z c names g.1 in
         let j = stands_among d h' y b' c g.1 in
         let k = places_join L ts (Then (Goto (otherwise_label p h d)) sp) in
-        either_places L (total_of (mark_bit l) (Switch s d)) (is_scattered d) (dissolved p h s d sp) (Then (Switch s (flat_sections p h' y b' c d)) (mark_of b')) (λ e. omega (arith, i, k)) (λ e. omega (arith, j))
+        either_places L (total_of (mark_bit l) (Switch s d)) (is_scattered d) (dissolved p h s d sp)
+        (Then (Switch s (flat_sections p h' y b' c d)) (mark_of b')) (λ e. omega (arith, i, k)) (λ e. omega (arith, j))
     stands_in x h b c r g = omega arith
 
-    stands_among : (d : Sections) (h : Here) (y : Bool) (b c : Aim) → EverywhereIn (IsGoodItem p.live) d → total_in (mark_bit l) d ≤ places_among L (flat_sections p h y b c d)
+    stands_among : (d : Sections) (h : Here) (y : Bool) (b c : Aim) → EverywhereIn (IsGoodItem p.live) d →
+        total_in (mark_bit l) d ≤ places_among L (flat_sections p h y b c d)
     stands_among NoSection h y b c g = omega arith
     stands_among (Section cases default a ends d) h y b c g =
-        let i = breaks_places L (total (mark_bit l) a) (ending p.live a) (flat_last p h b c NoArrival a) (flat p h b c NoArrival a) (λ e. stands_last a h b c NoArrival g.0 e) (stands a h b c NoArrival g.0) in
+        let i = breaks_places L (total (mark_bit l) a) (ending p.live a) (flat_last p h b c NoArrival a) (flat p h b c NoArrival a)
+        (λ e. stands_last a h b c NoArrival g.0 e) (stands a h b c NoArrival g.0) in
         let j = stands_among d (past a h) y b c g.1 in omega (arith, i, j)
 
-    stands_spread : (d : Sections) (h : Here) (b c : Aim) (names : Names) → EverywhereIn (IsGoodItem p.live) d → total_in (mark_bit l) d ≤ places L (spread p h b c names d)
+    stands_spread : (d : Sections) (h : Here) (b c : Aim) (names : Names) → EverywhereIn (IsGoodItem p.live) d →
+        total_in (mark_bit l) d ≤ places L (spread p h b c names d)
     stands_spread NoSection h b c names g = omega arith
     stands_spread (Section cases default a ends d) h b c names g =
         let fa = flat p h b c (Arrives names) a in
@@ -172,7 +177,8 @@ module _ (l : ℕ) (p : Plan) (live : p.live l ≡ true) where
         let m = places_join L fa (join (end_goto ends b) sp) in
         let n = places_join L (end_goto ends b) sp in omega (arith, i, j, k, m, n)
 
-    stands_last : (xs : Forest) (h : Here) (b c : Aim) (r : Arrivals) → Everywhere (IsGoodItem p.live) xs → ending p.live xs ≡ Breaks → total (mark_bit l) xs ≤ places L (flat_last p h b c r xs)
+    stands_last : (xs : Forest) (h : Here) (b c : Aim) (r : Arrivals) → Everywhere (IsGoodItem p.live) xs → ending p.live xs ≡ Breaks →
+        total (mark_bit l) xs ≤ places L (flat_last p h b c r xs)
     stands_last Nil h b c r g e = omega arith
     stands_last (Then x xs) h b c r g e =
         let A = flat_item p h b c r x in
@@ -180,10 +186,12 @@ module _ (l : ℕ) (p : Plan) (live : p.live l ≡ true) where
         let i = stands_in x h b c r g.0 in
         let k = places_join L A B in
         either_places L (total (mark_bit l) (Then x xs)) (is_gone (ending p.live xs)) (flat_last_item p h b c r x) (join A B)
-        (λ q. let s = later_last (ending p.live xs) (ending_of p.live x) Breaks e q in let m = stands_last_in x h b c r g.0 s.1 in let n = gone_bits xs s.0 in omega (arith, m, n))
+        (λ q. let s = later_last (ending p.live xs) (ending_of p.live x) Breaks e q in let m = stands_last_in x h b c r g.0 s.1 in
+        let n = gone_bits xs s.0 in omega (arith, m, n))
         (λ q. let n = stands_last xs (past_item x h) b c r g.1 (later_else (ending p.live xs) (ending_of p.live x) Breaks e q) in omega (arith, i, k, n))
 
-    stands_last_in : (x : Tree) (h : Here) (b c : Aim) (r : Arrivals) → EverywhereOf (IsGoodItem p.live) x → ending_of p.live x ≡ Breaks → total_of (mark_bit l) x ≤ places L (flat_last_item p h b c r x)
+    stands_last_in : (x : Tree) (h : Here) (b c : Aim) (r : Arrivals) → EverywhereOf (IsGoodItem p.live) x → ending_of p.live x ≡ Breaks →
+        total_of (mark_bit l) x ≤ places L (flat_last_item p h b c r x)
     stands_last_in (Block a) h b c r g e = let i = stands_last a h b c r g.1 e in omega (arith, i)
     stands_last_in (Mark m) h b c r g e = absurd (gone_or_no_break (p.live m) e)
     stands_last_in (Switch t d) h b c r g e = absurd (switch_no_break (is_scattered d && not (leaves d)) (last_ending p.live d) e)

@@ -87,7 +87,8 @@ switched : (e s t u x y v w : ExpressionTree)
     → flat_body plain (array_slot 3 ∷ []) 2 (list (
     Local 0 (Some (e ∷ []))
     ∷ Block (one (Switch (Selects s) (
-    Section (plain Int (pos 0) ∷ []) false (list (If (Source t) (one Break) Nil ∷ If (Source u) (one (Goto 0)) Nil ∷ Block (list (Evaluate x ∷ Break ∷ [])) ∷ Mark 1 ∷ [])) false
+    Section (plain Int (pos 0) ∷ []) false
+    (list (If (Source t) (one Break) Nil ∷ If (Source u) (one (Goto 0)) Nil ∷ Block (list (Evaluate x ∷ Break ∷ [])) ∷ Mark 1 ∷ [])) false
     (Section (plain Int (pos 1) ∷ []) false (one (Goto 0)) false
     (Section [] true (one (Evaluate y)) false NoSection)))))
     ∷ Mark 0
@@ -109,7 +110,8 @@ switched : (e s t u x y v w : ExpressionTree)
     )
 switched e s t u x y v w = refl
 
--- `while (n) { switch (n) { case 5: n--; switch (n) { case 1: while (n) { n--; case 2: n = 2; } default: goto L; } case 6: if (n) break; continue; case 7: { n = 3; break; } K: ; } n = 0; } L: return n;`
+-- `while (n) { switch (n) { case 5: n--; switch (n) { case 1: while (n) { n--; case 2: n = 2; } default: goto L; }
+-- case 6: if (n) break; continue; case 7: { n = 3; break; } K: ; } n = 0; } L: return n;`
 nested : (n less two three nought : ExpressionTree) (node : NodeTree)
     → flat_body plain (int_slot ∷ []) 2 (list (
     While (Source n) (list (

@@ -58,18 +58,21 @@ module _ (s : Setting) (dropped : (l : ℕ) → s.labels l ≡ None) where
     kept_item (If (Off l) a b) g = absurd g.0
     kept_item (If (AndOff l t) a b) g = absurd g.0
     kept_item (If (OrOn l t) a b) g = absurd g.0
-    kept_item (While (Source t) a) g = subst (λ z. LooserItem s Open Stays Stays NoArrival (While (Source t) a) (one (While (Source t) z))) (join_nil (unlabelled a)) (lo_while t Stays Stays g.0 (kept a g.1))
+    kept_item (While (Source t) a) g = subst (λ z. LooserItem s Open Stays Stays NoArrival (While (Source t) a) (one (While (Source t) z)))
+        (join_nil (unlabelled a)) (lo_while t Stays Stays g.0 (kept a g.1))
     kept_item (While (On l) a) g = absurd g.0
     kept_item (While (Off l) a) g = absurd g.0
     kept_item (While (AndOff l t) a) g = absurd g.0
     kept_item (While (OrOn l t) a) g = absurd g.0
-    kept_item (Do a (Source t)) g = subst (λ z. LooserItem s Open Stays Stays NoArrival (Do a (Source t)) (one (Do z (Source t)))) (join_nil (unlabelled a)) (lo_do t Stays Stays g.0 (kept a g.1))
+    kept_item (Do a (Source t)) g = subst (λ z. LooserItem s Open Stays Stays NoArrival (Do a (Source t)) (one (Do z (Source t))))
+        (join_nil (unlabelled a)) (lo_do t Stays Stays g.0 (kept a g.1))
     kept_item (Do a (On l)) g = absurd g.0
     kept_item (Do a (Off l)) g = absurd g.0
     kept_item (Do a (AndOff l t)) g = absurd g.0
     kept_item (Do a (OrOn l t)) g = absurd g.0
     kept_item (For first t u a) g =
-        subst (λ z. LooserItem s Open Stays Stays NoArrival (For first t u a) (one (For (unlabelled first) t u z))) (join_nil (unlabelled a)) (lo_keep_for t u Stays Stays (none_left first) g.0.0 g.0.1 (kept first g.1) (kept a g.2))
+        subst (λ z. LooserItem s Open Stays Stays NoArrival (For first t u a) (one (For (unlabelled first) t u z))) (join_nil (unlabelled a))
+        (lo_keep_for t u Stays Stays (none_left first) g.0.0 g.0.1 (kept first g.1) (kept a g.2))
     kept_item (Switch (Selects e) d) g = lo_switch e Stays g.0 (kept_among d g.1)
     kept_item (Switch (Pick l n t) d) g = absurd g.0
     kept_item (Block a) g = lo_keep_block (kept a g.1)

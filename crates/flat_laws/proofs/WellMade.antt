@@ -63,7 +63,8 @@ module _ (live : ℕ → Bool) where
     good_among NoSection f h = tt
     good_among (Section cases default a ends d) f h = (good_items a (λ l n. f l (omega (arith, n))) h.0, good_among d (λ l n. f l (omega (arith, n))) h.1)
 
-pub of_bodies : (number : IntKind → ℤ → ExpressionTree) (slots : List Slot) (n : ℕ) (body : Forest) → IsGoodSource n body → IsFlatMade (flat_body number slots n body)
+pub of_bodies : (number : IntKind → ℤ → ExpressionTree) (slots : List Slot) (n : ℕ) (body : Forest) → IsGoodSource n body →
+    IsFlatMade (flat_body number slots n body)
 of_bodies number slots n body s =
     let q = coded number slots n body in
     let h = first_here (length slots) in
@@ -78,7 +79,8 @@ of_bodies number slots n body s =
       bound = (let f = fewer p body h Stays Stays NoArrival in let i = f.0 in let j = f.1 in let b = s.bound in omega (arith, i, j, b));
     }
 
-pub of_conversions : (number : IntKind → ℤ → ExpressionTree) (slots : List Slot) (n : ℕ) (body : Forest) → IsGoodSource n body → IsWellMade (convert (flat_body number slots n body))
+pub of_conversions : (number : IntKind → ℤ → ExpressionTree) (slots : List Slot) (n : ℕ) (body : Forest) → IsGoodSource n body →
+    IsWellMade (convert (flat_body number slots n body))
 of_conversions number slots n body s = convert_made (flat_body number slots n body) (of_bodies number slots n body s)
 
 -- a number names no slot
@@ -98,7 +100,9 @@ ranges slots n body s i =
     let p = numbered (marks (flat q h Stays Stays NoArrival body)) q in
     let N = length slots + total variables_of body in
     record {
-      slots = slots_in N p (constant_in (λ x. x < N)) body h Stays Stays NoArrival (everywhere_map (ItemSlots (λ x. x < length slots)) (ItemSlots (λ x. x < N)) (λ x g. item_more (λ x. x < length slots) (λ x. x < N) (λ y j. omega (arith, j)) x g) body i) (omega arith);
+      slots = slots_in N p (constant_in (λ x. x < N)) body h Stays Stays NoArrival
+          (everywhere_map (ItemSlots (λ x. x < length slots)) (ItemSlots (λ x. x < N))
+          (λ x g. item_more (λ x. x < length slots) (λ x. x < N) (λ y j. omega (arith, j)) x g) body i) (omega arith);
       labels = labels_below constant slots n body (of_bodies constant slots n body s);
     }
 
@@ -120,4 +124,15 @@ of_functions f h =
     }
 
 pub made_laws : MadeLaws
-made_laws = record { once = once; named = named; unscattered = λ d e. (unscattered_cases d e, unscattered_defaults d e); of_bodies = of_bodies; of_conversions = of_conversions; ranges = ranges; converted = convert_made; of_functions = of_functions; in_range = in_range; unlabelled = without_labels }
+made_laws = record {
+  once = once;
+  named = named;
+  unscattered = λ d e. (unscattered_cases d e, unscattered_defaults d e);
+  of_bodies = of_bodies;
+  of_conversions = of_conversions;
+  ranges = ranges;
+  converted = convert_made;
+  of_functions = of_functions;
+  in_range = in_range;
+  unlabelled = without_labels;
+}

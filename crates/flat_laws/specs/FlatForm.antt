@@ -136,15 +136,18 @@ abbrev mutual
   pub flat_item : Plan → Here → Aim → Aim → Arrivals → Tree → Forest
   flat_item p h b c r (If t x y) = one (If t (flat p h b c r x) (flat p (past x h) b c r y))
   flat_item p h b c r (While t a) =
-      flat_loop (λ a. While t a) (flat p (inside (While t a) h) (aim (holds_jump p.live a) (breaks a) (p.break_label h.construct)) (aim (holds_jump p.live a) (continues a) (p.continue_label h.construct)) r a)
+      flat_loop (λ a. While t a) (flat p (inside (While t a) h) (aim (holds_jump p.live a) (breaks a) (p.break_label h.construct))
+      (aim (holds_jump p.live a) (continues a) (p.continue_label h.construct)) r a)
       (aim (holds_jump p.live a) (breaks a) (p.break_label h.construct)) (aim (holds_jump p.live a) (continues a) (p.continue_label h.construct))
   flat_item p h b c r (Do a t) =
-      flat_loop (λ a. Do a t) (flat p (inside (Do a t) h) (aim (holds_jump p.live a) (breaks a) (p.break_label h.construct)) (aim (holds_jump p.live a) (continues a) (p.continue_label h.construct)) r a)
+      flat_loop (λ a. Do a t) (flat p (inside (Do a t) h) (aim (holds_jump p.live a) (breaks a) (p.break_label h.construct))
+      (aim (holds_jump p.live a) (continues a) (p.continue_label h.construct)) r a)
       (aim (holds_jump p.live a) (breaks a) (p.break_label h.construct)) (aim (holds_jump p.live a) (continues a) (p.continue_label h.construct))
   flat_item p h b c r (For first t u a) =
       join (flat p (inside (For first t u a) h) b c NoArrival first)
       (flat_for (holds_jump p.live a) t u
-      (flat p (past first (inside (For first t u a) h)) (aim (holds_jump p.live a) (breaks a) (p.break_label h.construct)) (aim (holds_jump p.live a) (continues a) (p.continue_label h.construct)) r a)
+      (flat p (past first (inside (For first t u a) h)) (aim (holds_jump p.live a) (breaks a) (p.break_label h.construct))
+      (aim (holds_jump p.live a) (continues a) (p.continue_label h.construct)) r a)
       (aim (holds_jump p.live a) (breaks a) (p.break_label h.construct)) (aim (holds_jump p.live a) (continues a) (p.continue_label h.construct)))
   flat_item p h b c r (Block a) = flat p h b c r a
   flat_item p h b c r (Local x None) = Nil
@@ -157,13 +160,16 @@ abbrev mutual
   flat_item p h b c r (Switch s d) =
       cond (is_scattered d)
       (dissolved p h s d (spread p (inside (Switch s d) h) (scatter_aim p h d) c (names_of p h (switch_kind s) d) d))
-      (Then (Switch s (flat_sections p (inside (Switch s d) h) (is_jumpy_switch p c d) (aim (is_jumpy_switch p c d) (kept_breaks p.live d) (p.break_label h.construct)) c d)) (mark_of (aim (is_jumpy_switch p c d) (kept_breaks p.live d) (p.break_label h.construct))))
+      (Then (Switch s (flat_sections p (inside (Switch s d) h) (is_jumpy_switch p c d)
+      (aim (is_jumpy_switch p c d) (kept_breaks p.live d) (p.break_label h.construct)) c d))
+      (mark_of (aim (is_jumpy_switch p c d) (kept_breaks p.live d) (p.break_label h.construct))))
   flat_item p h b c r x = one x
 
   -- of a list that ends by a `break`, without it
   pub flat_last : Plan → Here → Aim → Aim → Arrivals → Forest → Forest
   flat_last p h b c r Nil = Nil
-  flat_last p h b c r (Then x xs) = cond (is_gone (ending p.live xs)) (flat_last_item p h b c r x) (join (flat_item p h b c r x) (flat_last p (past_item x h) b c r xs))
+  flat_last p h b c r (Then x xs) = cond (is_gone (ending p.live xs)) (flat_last_item p h b c r x)
+      (join (flat_item p h b c r x) (flat_last p (past_item x h) b c r xs))
 
   -- of the item by which it ends
   pub flat_last_item : Plan → Here → Aim → Aim → Arrivals → Tree → Forest
@@ -173,12 +179,15 @@ abbrev mutual
   -- the sections of a switch that stays
   pub flat_sections : Plan → Here → Bool → Aim → Aim → Sections → Sections
   flat_sections p h jumpy b c NoSection = NoSection
-  flat_sections p h jumpy b c (Section cases default a ends d) = Section cases default (if_breaks (ending p.live a) (flat_last p h b c NoArrival a) (flat p h b c NoArrival a)) (ends_then jumpy ends (ending p.live a)) (flat_sections p (past a h) jumpy b c d)
+  flat_sections p h jumpy b c (Section cases default a ends d) = Section cases default
+      (if_breaks (ending p.live a) (flat_last p h b c NoArrival a) (flat p h b c NoArrival a)) (ends_then jumpy ends (ending p.live a))
+      (flat_sections p (past a h) jumpy b c d)
 
   -- the lists of a scattered switch, each behind its labels
   pub spread : Plan → Here → Aim → Aim → Names → Sections → Forest
   spread p h b c names NoSection = mark_of b
-  spread p h b c names (Section cases default a ends d) = join (case_marks names cases default) (join (flat p h b c (Arrives names) a) (join (end_goto ends b) (spread p (past a h) b c names d)))
+  spread p h b c names (Section cases default a ends d) = join (case_marks names cases default)
+      (join (flat p h b c (Arrives names) a) (join (end_goto ends b) (spread p (past a h) b c names d)))
 
 -- ---- of a whole function
 

@@ -44,7 +44,8 @@ pub record IsFlattened (p : Plan) (s : Setting) (h : Here) (f g : FunctionTree) 
 -- a flat form is a looser body, and its labels stand once
 pub record FlatLaws : Type 0 where
   -- the flat form of a body is looser
-  pub of_bodies : (p : Plan) (s : Setting) (h : Here) (body : Forest) → IsSourceBody p s h body → Looser s Open Stays Stays NoArrival body (flat p h Stays Stays NoArrival body)
+  pub of_bodies : (p : Plan) (s : Setting) (h : Here) (body : Forest) → IsSourceBody p s h body →
+      Looser s Open Stays Stays NoArrival body (flat p h Stays Stays NoArrival body)
   -- each label of it stands at most once, where that is so in the source, and the cases of each scattered switch differ
   pub once : (number : IntKind → ℤ → ExpressionTree) (slots : List Slot) (n : ℕ) (body : Forest) → HasOwnLabels n body → IsOnce (flat_body number slots n body)
   -- so is a function whose labels each stand once

@@ -54,9 +54,11 @@ pub record MadeLaws : Type 0 where
   -- a switch that isn't scattered has the labels of its sections alone
   pub unscattered : (d : Sections) → is_scattered d ≡ false → (cases_among (switch_labels d) ≡ all_cases d) × (nones (switch_labels d) ≡ defaults d)
   -- the flat form of a source body is a flat body that is made well
-  pub of_bodies : (number : IntKind → ℤ → ExpressionTree) (slots : List Slot) (n : ℕ) (body : Forest) → IsGoodSource n body → IsFlatMade (flat_body number slots n body)
+  pub of_bodies : (number : IntKind → ℤ → ExpressionTree) (slots : List Slot) (n : ℕ) (body : Forest) → IsGoodSource n body →
+      IsFlatMade (flat_body number slots n body)
   -- and well made after its conversion
-  pub of_conversions : (number : IntKind → ℤ → ExpressionTree) (slots : List Slot) (n : ℕ) (body : Forest) → IsGoodSource n body → IsWellMade (convert (flat_body number slots n body))
+  pub of_conversions : (number : IntKind → ℤ → ExpressionTree) (slots : List Slot) (n : ℕ) (body : Forest) → IsGoodSource n body →
+      IsWellMade (convert (flat_body number slots n body))
   -- its slots are those of the source and one for each scattered switch, and its labels those that stand in it
   pub ranges : (slots : List Slot) (n : ℕ) (body : Forest) → IsGoodSource n body → Everywhere (ItemSlots (λ x. x < length slots)) body
       → IsFlatInRange (length slots + total variables_of body) (label_count slots n body) (flat_body constant slots n body)
@@ -67,5 +69,6 @@ pub record MadeLaws : Type 0 where
   -- a flat function is in range where its body is
   pub in_range : (f : Function) → f.flat ≡ true → f.params ≤ length f.slots → IsFlatInRange (length f.slots) (length f.labels) (body_of f) → IsInRange f
   -- a function without jumps whose labels are gone is in range and made well
-  pub unlabelled : (f : Function) (body : Forest) → f.flat ≡ false → f.params ≤ length f.slots → body_of f ≡ unlabelled body → Everywhere IsUnjumped body → Everywhere (ItemSlots (λ x. x < length f.slots)) body
+  pub unlabelled : (f : Function) (body : Forest) → f.flat ≡ false → f.params ≤ length f.slots → body_of f ≡ unlabelled body →
+      Everywhere IsUnjumped body → Everywhere (ItemSlots (λ x. x < length f.slots)) body
       → IsInRange f × IsMadeWell f

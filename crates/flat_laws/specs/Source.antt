@@ -103,7 +103,8 @@ AreDifferent (m ∷ ms) = (same_number m m ≡ true) × AreOther m ms × AreDiff
 
 -- a scattered switch has at most one default, and its cases differ; there is no Land
 abbrev pub HasOwnCases : Tree → Type 0
-HasOwnCases (Switch s d) = IfTrue (is_scattered d) ((nones (switch_labels d) ≤ 1) × AreDifferent (map (case_number (switch_kind s)) (cases_among (switch_labels d))))
+HasOwnCases (Switch s d) = IfTrue (is_scattered d) ((nones (switch_labels d) ≤ 1) ×
+    AreDifferent (map (case_number (switch_kind s)) (cases_among (switch_labels d))))
 HasOwnCases (Land l) = ⊥
 HasOwnCases _ = Unit {0}
 

@@ -57,7 +57,8 @@ module _ (s : Setting) (B : Forest) where
 
   -- ---- lists
 
-  pub items_lo : {m : Mode} {b c : Aim} {r : Arrivals} {xs xs' : Forest} {k k' : List Task} → Looser s m b c r xs xs' → ArePlaced B xs' k' → Control s B m b c k k' → Control s B Open b c (items xs k) (items xs' k')
+  pub items_lo : {m : Mode} {b c : Aim} {r : Arrivals} {xs xs' : Forest} {k k' : List Task} → Looser s m b c r xs xs' → ArePlaced B xs' k' →
+      Control s B m b c k k' → Control s B Open b c (items xs k) (items xs' k')
   items_lo la_nil al h = h
   items_lo {b = b} {c = c} {k = k} {k' = k'} (la_then {x = x} {ys = ys} {xs = xs} {xs' = xs'} fi fa) al h =
       let p = placed_join B ys xs' k' al in
@@ -65,13 +66,17 @@ module _ (s : Setting) (B : Forest) where
   items_lo (la_last {xs = xs} l fi gone) al h = ct_item fi al (ended_more xs l h)
 
   -- a list, then what stands at its end
-  pub list_lo : {b c : Aim} {r : Arrivals} {xs xs' : Forest} {k : List Task} (ms : Forest) (k' : List Task) → Looser s Open b c r xs xs' → ArePlaced B (join xs' ms) k' → Control s B Open b c k (items ms k') → Control s B Open b c (items xs k) (items (join xs' ms) k')
+  pub list_lo : {b c : Aim} {r : Arrivals} {xs xs' : Forest} {k : List Task} (ms : Forest) (k' : List Task) → Looser s Open b c r xs xs' →
+      ArePlaced B (join xs' ms) k' → Control s B Open b c k (items ms k') → Control s B Open b c (items xs k) (items (join xs' ms) k')
   list_lo {b} {c} {r} {xs} {xs'} {k} ms k' fa al h =
       subst (λ z. Control s B Open b c (items xs k) z) (sym (items_join xs' ms k')) (items_lo fa (placed_join B xs' ms k' al).0 h)
 
-  pub third_lo : {b c : Aim} {r : Arrivals} {a a' : Forest} {k k' : List Task} (t u : Option ExpressionTree) (b' c' : Aim) → IsMoved c' → IfSome t (In s) → IfSome u (In s) → Looser s Open b' c' r a a'
-      → ArePlaced B (with_third a' c' u) (Loops (WhileLoop (Source (test_or_one t)) (with_third a' c' u)) ∷ behind_mark b' k') → ArePlaced B (mark_of b') k' → Control s B Open b c k k'
-      → Control s B Open b' c' (Loops (ForLoop t u a) ∷ k) (items (join (mark_of c') (third_items u)) (Loops (WhileLoop (Source (test_or_one t)) (with_third a' c' u)) ∷ behind_mark b' k'))
+  pub third_lo : {b c : Aim} {r : Arrivals} {a a' : Forest} {k k' : List Task} (t u : Option ExpressionTree) (b' c' : Aim) → IsMoved c' →
+      IfSome t (In s) → IfSome u (In s) → Looser s Open b' c' r a a'
+      → ArePlaced B (with_third a' c' u) (Loops (WhileLoop (Source (test_or_one t)) (with_third a' c' u)) ∷ behind_mark b' k') →
+      ArePlaced B (mark_of b') k' → Control s B Open b c k k'
+      → Control s B Open b' c' (Loops (ForLoop t u a) ∷ k) (items (join (mark_of c') (third_items u))
+      (Loops (WhileLoop (Source (test_or_one t)) (with_third a' c' u)) ∷ behind_mark b' k'))
   third_lo t u b' Stays n i j fa al am h = absurd n
   third_lo t u b' (Becomes l) n i j fa al am h = ct_skip l (ct_third t u b' (Becomes l) n i j fa al am h)
   third_lo t u b' Absent n i j fa al am h = ct_third t u b' Absent n i j fa al am h
@@ -100,7 +105,8 @@ module _ (s : Setting) (B : Forest) where
   break_here {k' = k'} (Becomes l) am h = record { tasks = Runs (Mark l) ∷ k'; is = am.0; related = st_control (ct_skip l h) }
   break_here Absent am h = tt
 
-  break_behind : {b c : Aim} {k k' : List Task} (b' : Aim) (j' : List Task) → IsMoved b' → ArePlaced B (mark_of b') k' → Control s B Open b c k k' → Leads b' k j'
+  break_behind : {b c : Aim} {k k' : List Task} (b' : Aim) (j' : List Task) → IsMoved b' → ArePlaced B (mark_of b') k' → Control s B Open b c k k' →
+      Leads b' k j'
   break_behind Stays j' n am h = absurd n
   break_behind {k' = k'} (Becomes l) j' n am h = record { tasks = Runs (Mark l) ∷ k'; is = am.0; related = st_control (ct_skip l h) }
   break_behind Absent j' n am h = tt
@@ -126,13 +132,23 @@ module _ (s : Setting) (B : Forest) where
 
   cont_here : {b : Aim} {k k' : List Task} (c' : Aim) (a' : Forest) → ArePlaced B (join a' (mark_of c')) k' → Control s B Open b c' k k' → Leads c' k k'
   cont_here Stays a' al h = st_control h
-  cont_here {k' = k'} (Becomes l) a' al h = record { tasks = Runs (Mark l) ∷ k'; is = (placed_join B a' (one (Mark l)) k' al).1.0; related = st_control (ct_skip l h) }
+  cont_here {k' = k'} (Becomes l) a' al h = record {
+    tasks = Runs (Mark l) ∷ k';
+    is = (placed_join B a' (one (Mark l)) k' al).1.0;
+    related =
+        st_control (ct_skip l h);
+  }
   cont_here Absent a' al h = tt
 
-  cont_third : {b : Aim} {k : List Task} (k' : List Task) (c' : Aim) (a' : Forest) (u : Option ExpressionTree) (j' : List Task) → IsMoved c' → ArePlaced B (with_third a' c' u) k' → Control s B Open b c' k (items (third_items u) k') → Leads c' k j'
+  cont_third : {b : Aim} {k : List Task} (k' : List Task) (c' : Aim) (a' : Forest) (u : Option ExpressionTree) (j' : List Task) → IsMoved c' →
+      ArePlaced B (with_third a' c' u) k' → Control s B Open b c' k (items (third_items u) k') → Leads c' k j'
   cont_third k' Stays a' u j' n al h = absurd n
   cont_third k' (Becomes l) a' u j' n al h =
-      record { tasks = Runs (Mark l) ∷ items (third_items u) k'; is = (placed_join B a' (Then (Mark l) (third_items u)) k' al).1.0; related = st_control (ct_skip l h) }
+      record {
+        tasks = Runs (Mark l) ∷ items (third_items u) k';
+        is = (placed_join B a' (Then (Mark l) (third_items u)) k' al).1.0;
+        related = st_control (ct_skip l h);
+      }
   cont_third k' Absent a' u j' n al h = tt
 
   pub cont_lo : {m : Mode} {b c : Aim} {k k' : List Task} → Control s B m b c k k' → Leads c (cut_to k) (cut_to k')
@@ -145,7 +161,8 @@ module _ (s : Setting) (B : Forest) where
   cont_lo {c = c} (ct_heads t u b' c' {k = k} {k' = k'} i j fa al am h) = on c (cut_to k) (sym (cut_to_items (mark_of b') k')) (cont_lo h)
   cont_lo {c = c} (ct_starts t u b' c' {k = k} {k' = k'} i j fa al am h) = on c (cut_to k) (sym (cut_to_items (mark_of b') k')) (cont_lo h)
   cont_lo {c = c} (ct_while_starts t u b' c' {k = k} {k' = k'} n i j fa al am h) = on c (cut_to k) (sym (cut_to_items (mark_of b') k')) (cont_lo h)
-  cont_lo (ct_third t u b' c' {a' = a'} {k' = k'} n i j fa al am h) = cont_third (Loops (WhileLoop (Source (test_or_one t)) (with_third a' c' u)) ∷ behind_mark b' k') c' a' u _ n al (ct_third t u b' c' n i j fa al am h)
+  cont_lo (ct_third t u b' c' {a' = a'} {k' = k'} n i j fa al am h) = cont_third
+      (Loops (WhileLoop (Source (test_or_one t)) (with_third a' c' u)) ∷ behind_mark b' k') c' a' u _ n al (ct_third t u b' c' n i j fa al am h)
   cont_lo {c = c} (ct_out b' {k = k} {k' = k'} am h) = on c (cut_to k) (sym (cut_to_items (mark_of b') k')) (cont_lo h)
   cont_lo (ct_ends e e' o h) = cont_lo h
   cont_lo {c = c} (ct_ended {k' = k'} e f g q o h) = from c (cut_to k') (sym g) (cont_lo h)
@@ -155,28 +172,34 @@ module _ (s : Setting) (B : Forest) where
 
   -- ---- sections
 
-  pub end_lo : {b c b' c' : Aim} {K K' : List Task} (d d' : Sections) (e : Bool) → Control s B Open b' c' K K' → Control s B Open b c (tail_tasks d K) (tail_tasks d' K') → Control s B Open b c (end_of e (tail_tasks d K)) (end_of e (tail_tasks d' K'))
+  pub end_lo : {b c b' c' : Aim} {K K' : List Task} (d d' : Sections) (e : Bool) → Control s B Open b' c' K K' →
+      Control s B Open b c (tail_tasks d K) (tail_tasks d' K') → Control s B Open b c (end_of e (tail_tasks d K)) (end_of e (tail_tasks d' K'))
   end_lo {K = K} {K' = K'} d d' true o h = ct_ends (cut_tail d K) (cut_tail d' K') o h
   end_lo d d' false o h = h
 
-  pub ended_lo : {b c b' c' : Aim} {K K' : List Task} (d d' : Sections) (e : Bool) → Control s B Open b' c' K K' → Control s B Open b c (tail_tasks d K) (tail_tasks d' K') → Control s B Ended b c (end_of e (tail_tasks d K)) (EndsSection ∷ tail_tasks d' K')
-  ended_lo {K = K} {K' = K'} d d' e o h = ct_ended (cut_end e (tail_tasks d K) ∙ cut_tail d K) (cut_tail d K) (cut_to_end e (tail_tasks d K)) (cut_tail d' K') o h
+  pub ended_lo : {b c b' c' : Aim} {K K' : List Task} (d d' : Sections) (e : Bool) → Control s B Open b' c' K K' →
+      Control s B Open b c (tail_tasks d K) (tail_tasks d' K') → Control s B Ended b c (end_of e (tail_tasks d K)) (EndsSection ∷ tail_tasks d' K')
+  ended_lo {K = K} {K' = K'} d d' e o h = ct_ended (cut_end e (tail_tasks d K) ∙ cut_tail d K) (cut_tail d K) (cut_to_end e (tail_tasks d K))
+      (cut_tail d' K') o h
 
   -- o: what stands past the switch
-  pub tail_lo : {b c b' c' : Aim} {d d' : Sections} {k k' : List Task} → LooserSections s b c d d' → ArePlacedAmong B d' k' → Control s B Open b' c' k k' → Control s B Open b c (Out ∷ k) (Out ∷ k') → Control s B Open b c (tail_tasks d k) (tail_tasks d' k')
+  pub tail_lo : {b c b' c' : Aim} {d d' : Sections} {k k' : List Task} → LooserSections s b c d d' → ArePlacedAmong B d' k' →
+      Control s B Open b' c' k k' → Control s B Open b c (Out ∷ k) (Out ∷ k') → Control s B Open b c (tail_tasks d k) (tail_tasks d' k')
   tail_lo lc_none al o h = h
   tail_lo (lc_section cases default e {d = d} {d' = d'} fa fs) al o h = items_lo fa al.0 (end_lo d d' e o (tail_lo fs al.1 o h))
   tail_lo (lc_ended cases default e {d = d} {d' = d'} fa fs) al o h = items_lo fa al.0 (ended_lo d d' e o (tail_lo fs al.1 o h))
 
   -- ---- a switch that is dissolved
 
-  pub skip_marks : {b c : Aim} {k k' : List Task} (names : Names) (cases : List ExpressionTree) (default : Bool) → Control s B Open b c k k' → Control s B Open b c k (items (case_marks names cases default) k')
+  pub skip_marks : {b c : Aim} {k k' : List Task} (names : Names) (cases : List ExpressionTree) (default : Bool) → Control s B Open b c k k' →
+      Control s B Open b c k (items (case_marks names cases default) k')
   skip_marks names [] true h = ct_skip (names None) h
   skip_marks names [] false h = h
   skip_marks names (e ∷ es) default h = ct_skip (names (Some e)) (skip_marks names es default h)
 
   -- the label behind it
-  pub last_mark : {m : Mode} {c : Aim} {l : ℕ} {names : Names} {d : Sections} {ys : Forest} {k' : List Task} → Spread s m (Becomes l) c names d ys → ArePlaced B ys k' → find l B ≡ Runs (Mark l) ∷ k'
+  pub last_mark : {m : Mode} {c : Aim} {l : ℕ} {names : Names} {d : Sections} {ys : Forest} {k' : List Task} → Spread s m (Becomes l) c names d ys →
+      ArePlaced B ys k' → find l B ≡ Runs (Mark l) ∷ k'
   last_mark ls_none al = al.0
   last_mark {names = names} {k' = k'} (ls_falls cases default {xs' = xs'} {ys = ys} fa fs) al =
       last_mark fs (placed_join B xs' ys k' (placed_join B (case_marks names cases default) (join xs' ys) k' al).1).1
@@ -184,7 +207,8 @@ module _ (s : Setting) (B : Forest) where
       last_mark fs (placed_join B xs' (Then (Goto l) ys) k' (placed_join B (case_marks names cases default) (join xs' (Then (Goto l) ys)) k' al).1).1.1
 
   -- its lists; o: what stands past it
-  pub spread_lo : {m n : Mode} {b0 c b : Aim} {names : Names} {d : Sections} {ys : Forest} {k k' : List Task} → IsMoved b → Spread s n b c names d ys → Inner m n → ArePlaced B ys k' → Control s B m b0 c k k' → Control s B Open b c (tail_tasks d k) (items ys k')
+  pub spread_lo : {m n : Mode} {b0 c b : Aim} {names : Names} {d : Sections} {ys : Forest} {k k' : List Task} → IsMoved b →
+      Spread s n b c names d ys → Inner m n → ArePlaced B ys k' → Control s B m b0 c k k' → Control s B Open b c (tail_tasks d k) (items ys k')
   spread_lo {b = b} n ls_none in_open al o = ct_behind b n al o
   spread_lo {c = c} {names = names} {k = k} {k' = k'} n (ls_last cases default {xs = xs} {xs' = xs'} fa) (in_last l) al o =
       let p = placed_join B (case_marks names cases default) xs' k' al in
@@ -198,5 +222,7 @@ module _ (s : Setting) (B : Forest) where
   spread_lo {c = c} {b = b} {names = names} {k = k} {k' = k'} n (ls_ends l cases default {xs = xs} {xs' = xs'} {ys = ys} {d = d} fa fs) in_open al o =
       let p = placed_join B (case_marks names cases default) (join xs' (Then (Goto l) ys)) k' al in
       let q = placed_join B xs' (Then (Goto l) ys) k' p.1 in
-      subst (λ z. Control s B Open b c (items xs (EndsSection ∷ tail_tasks d k)) z) (sym (items_join (case_marks names cases default) (join xs' (Then (Goto l) ys)) k'))
-      (skip_marks names cases default (list_lo (Then (Goto l) ys) k' fa p.1 (ct_leaves l (last_mark fs q.1.1) (cut_tail d k) o (spread_lo n fs in_open q.1.1 o))))
+      subst (λ z. Control s B Open b c (items xs (EndsSection ∷ tail_tasks d k)) z)
+      (sym (items_join (case_marks names cases default) (join xs' (Then (Goto l) ys)) k'))
+      (skip_marks names cases default (list_lo (Then (Goto l) ys) k' fa p.1
+      (ct_leaves l (last_mark fs q.1.1) (cut_tail d k) o (spread_lo n fs in_open q.1.1 o))))

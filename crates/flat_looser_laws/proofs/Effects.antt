@@ -56,10 +56,12 @@ module _ (opens : ℕ → ℕ → Bool) (Shaped : ℕ → ℕ → Variable → T
     oa_exits : (n : ℤ) (w : World) (s : Owner → Variable) → OutcomeAlike d (Exits n w) (Exits n (over s w))
 
   pub data EffectAlike (d : ℕ) : Effect → Effect → Type 0 where
-    ea_does : (os : List Op) (v : List Value) (w : World) (s : Owner → Variable) → OpsSlots (λ x. opens d x ≡ true) os → Rs d v → w.calls ≡ d → A w s → EffectAlike d (Does os v w) (Does os v (over s w))
+    ea_does : (os : List Op) (v : List Value) (w : World) (s : Owner → Variable) → OpsSlots (λ x. opens d x ≡ true) os → Rs d v → w.calls ≡ d →
+        A w s → EffectAlike d (Does os v w) (Does os v (over s w))
     ea_fails : (t : Trap) (w : World) (s : Owner → Variable) → EffectAlike d (Fails t w) (Fails t (over s w))
     ea_stops : (n : ℤ) (w : World) (s : Owner → Variable) → EffectAlike d (Stops n w) (Stops n (over s w))
-    ea_invokes : (m : List ℕ) (vs v : List Value) (w : World) (s : Owner → Variable) → Rs d vs → Rs d v → w.calls ≡ d → A w s → EffectAlike d (Invokes m vs v w) (Invokes m vs v (over s w))
+    ea_invokes : (m : List ℕ) (vs v : List Value) (w : World) (s : Owner → Variable) → Rs d vs → Rs d v → w.calls ≡ d → A w s →
+        EffectAlike d (Invokes m vs v w) (Invokes m vs v (over s w))
     ea_leaves : (x : Option Value) (w : World) (s : Owner → Variable) → w.calls ≡ d → A w s → EffectAlike d (Leaves x w) (Leaves x (over s w))
 
   abbrev pub OpIn : ℕ → Op → Type 0
@@ -121,10 +123,12 @@ module _ (opens : ℕ → ℕ → Bool) (Shaped : ℕ → ℕ → Variable → T
     cell_alike : (o : Owner) (i : ℤ) → Seen opens Shaped d o → OutcomeAlike d (cell_of o i w) (cell_of o i (over s w))
     cell_alike o (negsuc i) q = oa_traps Trap.Index w s
     cell_alike o (pos i) q =
-        subst (λ v. OutcomeAlike d (cell_of o (pos i) w) (cond (nat_lt i (cells_held v)) (Gives (Designates o i) (over s w)) (Traps Trap.Index (over s w)))) (a.agree o q)
+        subst (λ v. OutcomeAlike d (cell_of o (pos i) w) (cond (nat_lt i (cells_held v)) (Gives (Designates o i) (over s w))
+        (Traps Trap.Index (over s w)))) (a.agree o q)
         (at (nat_lt i (cells_held (w.variables o))))
       where
-        at : (b : Bool) → OutcomeAlike d (cond b (Gives (Designates o i) w) (Traps Trap.Index w)) (cond b (Gives (Designates o i) (over s w)) (Traps Trap.Index (over s w)))
+        at : (b : Bool) → OutcomeAlike d (cond b (Gives (Designates o i) w) (Traps Trap.Index w))
+            (cond b (Gives (Designates o i) (over s w)) (Traps Trap.Index (over s w)))
         at true = oa_gives (Designates o i) w s q refl a
         at false = oa_traps Trap.Index w s
 
@@ -160,7 +164,8 @@ module _ (opens : ℕ → ℕ → Bool) (Shaped : ℕ → ℕ → Variable → T
 
     -- ---- expressions
 
-    binary_in : (op : BinaryOp) (x y : ExpressionTree) → ExpressionSlots (λ x. opens d x ≡ true) x → ExpressionSlots (λ x. opens d x ≡ true) y → OpsSlots (λ x. opens d x ≡ true) (binary_tasks op x y)
+    binary_in : (op : BinaryOp) (x y : ExpressionTree) → ExpressionSlots (λ x. opens d x ≡ true) x → ExpressionSlots (λ x. opens d x ≡ true) y →
+        OpsSlots (λ x. opens d x ≡ true) (binary_tasks op x y)
     binary_in AndThen x y p q = (p, (q, tt))
     binary_in OrElse x y p q = (p, (q, tt))
     binary_in _ x y p q = (p, (q, (tt, tt)))
@@ -173,11 +178,13 @@ module _ (opens : ℕ → ℕ → Bool) (Shaped : ℕ → ℕ → Variable → T
     conversion_in None = tt
     conversion_in (Some k) = (tt, tt)
 
-    arguments_in : (xs : Arguments) (os : List Op) → ArgumentSlots (λ x. opens d x ≡ true) xs → OpsSlots (λ x. opens d x ≡ true) os → OpsSlots (λ x. opens d x ≡ true) (argument_tasks xs os)
+    arguments_in : (xs : Arguments) (os : List Op) → ArgumentSlots (λ x. opens d x ≡ true) xs → OpsSlots (λ x. opens d x ≡ true) os →
+        OpsSlots (λ x. opens d x ≡ true) (argument_tasks xs os)
     arguments_in NoArgument os p q = q
     arguments_in (Argument x xs) os p q = (p.0, arguments_in xs os p.1 q)
 
-    node_alike : (kind : Option IntKind) (n : NodeTree) (v : List Value) → NodeSlots (λ x. opens d x ≡ true) n → Rs d v → EffectAlike d (node_effect kind n v w) (node_effect kind n v (over s w))
+    node_alike : (kind : Option IntKind) (n : NodeTree) (v : List Value) → NodeSlots (λ x. opens d x ≡ true) n → Rs d v →
+        EffectAlike d (node_effect kind n v w) (node_effect kind n v (over s w))
     node_alike kind (Number n) v i r = does [] (Integer n ∷ v) tt (tt, r)
     node_alike kind (Character b) v i r = does [] (Integer (converted IntKind.Char (pos b)) ∷ v) tt (tt, r)
     node_alike kind (EnumName m n) v i r = does [] (Integer n ∷ v) tt (tt, r)
@@ -191,10 +198,12 @@ module _ (opens : ℕ → ℕ → Bool) (Shaped : ℕ → ℕ → Variable → T
     node_alike kind (Binary op x y) v i r = does (binary_tasks op x y) v (binary_in op x y i.0 i.1) r
     node_alike kind (Conditional x y z) v i r = does (Computes x ∷ Decides y z kind ∷ []) v (i.0, ((i.1, i.2), tt)) r
     node_alike kind (Assign p x) v i r = does (Finds p ∷ Computes x ∷ Stores ∷ []) v (i.0, (i.1, (tt, tt))) r
-    node_alike kind (Update op p x) v i r = does (Finds p ∷ Fetches ∷ Computes x ∷ AppliesBinary (Arith op) kind _ ∷ Stores ∷ []) v (i.0, (tt, (i.1, (tt, (tt, tt))))) r
+    node_alike kind (Update op p x) v i r = does (Finds p ∷ Fetches ∷ Computes x ∷ AppliesBinary (Arith op) kind _ ∷ Stores ∷ []) v
+        (i.0, (tt, (i.1, (tt, (tt, tt))))) r
     node_alike kind (Count p up after) v i r = does (Finds p ∷ Counts up after ∷ []) v (i, (tt, tt)) r
     node_alike kind (Comma x y) v i r = does (Computes x ∷ Drops ∷ Computes y ∷ []) v (i.0, (tt, (i.1, tt))) r
-    node_alike kind (Call m xs) v i r = does (argument_tasks xs (Calls m (argument_count xs) ∷ [])) v (arguments_in xs (Calls m (argument_count xs) ∷ []) i (tt, tt)) r
+    node_alike kind (Call m xs) v i r = does (argument_tasks xs (Calls m (argument_count xs) ∷ [])) v
+        (arguments_in xs (Calls m (argument_count xs) ∷ []) i (tt, tt)) r
 
     cell_seen : (x i : ℕ) → opens d x ≡ true → R d (slot_cell x i w)
     cell_seen x i p = owner_seen opens Shaped w s a (H.Slot x) p
@@ -203,26 +212,32 @@ module _ (opens : ℕ → ℕ → Bool) (Shaped : ℕ → ℕ → Variable → T
     clears_in true x i p = (p, tt)
     clears_in false x i p = tt
 
-    initialise_alike : (x i : ℕ) (es : List ExpressionTree) (v : List Value) → opens d x ≡ true → EachSlots (λ x. opens d x ≡ true) es → Rs d v → EffectAlike d (initialise x i es v w) (initialise x i es v (over s w))
+    initialise_alike : (x i : ℕ) (es : List ExpressionTree) (v : List Value) → opens d x ≡ true → EachSlots (λ x. opens d x ≡ true) es → Rs d v →
+        EffectAlike d (initialise x i es v w) (initialise x i es v (over s w))
     initialise_alike x i [] v p q r =
         subst (λ b. EffectAlike d (initialise x i [] v w) (Does (cond b (Clears x i ∷ []) []) v (over s w))) (array_alike opens Shaped w s a x p)
         (does (cond (is_array_slot x w) (Clears x i ∷ []) []) v (clears_in (is_array_slot x w) x i p) r)
     initialise_alike x i (e ∷ es) v p q r =
-        subst (λ o. EffectAlike d (initialise x i (e ∷ es) v w) (Does (Computes e ∷ Sets x i es ∷ []) (Designates o i ∷ v) (over s w))) (owner_alike opens Shaped w s a (H.Slot x) p)
+        subst (λ o. EffectAlike d (initialise x i (e ∷ es) v w) (Does (Computes e ∷ Sets x i es ∷ []) (Designates o i ∷ v) (over s w)))
+        (owner_alike opens Shaped w s a (H.Slot x) p)
         (does (Computes e ∷ Sets x i es ∷ []) (slot_cell x i w ∷ v) (q.0, ((p, q.1), tt)) (cell_seen x i p, r))
 
-    truth_case : (b : Bool) (os os' : List Op) (v v' : List Value) → OpsSlots (λ x. opens d x ≡ true) os → OpsSlots (λ x. opens d x ≡ true) os' → Rs d v → Rs d v'
+    truth_case : (b : Bool) (os os' : List Op) (v v' : List Value) → OpsSlots (λ x. opens d x ≡ true) os → OpsSlots (λ x. opens d x ≡ true) os' →
+        Rs d v → Rs d v'
         → EffectAlike d (cond b (Does os v w) (Does os' v' w)) (cond b (Does os v (over s w)) (Does os' v' (over s w)))
     truth_case true os os' v v' p q r t = does os v p r
     truth_case false os os' v v' p q r t = does os' v' q t
 
-    decided_in : (b : Bool) (os os' : List Op) → OpsSlots (λ x. opens d x ≡ true) os → OpsSlots (λ x. opens d x ≡ true) os' → OpsSlots (λ x. opens d x ≡ true) (cond b os os')
+    decided_in : (b : Bool) (os os' : List Op) → OpsSlots (λ x. opens d x ≡ true) os → OpsSlots (λ x. opens d x ≡ true) os' →
+        OpsSlots (λ x. opens d x ≡ true) (cond b os os')
     decided_in true os os' p q = p
     decided_in false os os' p q = q
 
   -- after a store of no value left
-  stored_then : (p : Value) (z : ℤ) (x i : ℕ) (es : List ExpressionTree) (v : List Value) (w : World) (s : Owner → Variable) → A w s → R w.calls p → opens w.calls x ≡ true
-      → EachSlots (λ x. opens w.calls x ≡ true) es → Rs w.calls v → EffectAlike w.calls (initialise x i es v (store p z w)) (initialise x i es v (store p z (over s w)))
+  stored_then : (p : Value) (z : ℤ) (x i : ℕ) (es : List ExpressionTree) (v : List Value) (w : World) (s : Owner → Variable) → A w s → R w.calls p →
+      opens w.calls x ≡ true
+      → EachSlots (λ x. opens w.calls x ≡ true) es → Rs w.calls v → EffectAlike w.calls (initialise x i es v (store p z w))
+      (initialise x i es v (store p z (over s w)))
   stored_then (Designates o j) z x i es v w s a r p q t =
       initialise_alike (store (Designates o j) z w) (put o (with_number j z (s o)) s) (changed_alike opens Shaped (numbers j z) o w s r a) x i es v p q t
   stored_then (Integer n) z x i es v w s a r p q t = initialise_alike w s a x i es v p q t
@@ -231,7 +246,8 @@ module _ (opens : ℕ → ℕ → Bool) (Shaped : ℕ → ℕ → Variable → T
   stored_then Missing z x i es v w s a r p q t = initialise_alike w s a x i es v p q t
 
   -- all tasks of expressions
-  pub effect_alike : (o : Op) (v : List Value) (w : World) (s : Owner → Variable) → A w s → OpIn w.calls o → Rs w.calls v → EffectAlike w.calls (effect o v w) (effect o v (over s w))
+  pub effect_alike : (o : Op) (v : List Value) (w : World) (s : Owner → Variable) → A w s → OpIn w.calls o → Rs w.calls v →
+      EffectAlike w.calls (effect o v w) (effect o v (over s w))
   effect_alike (Computes (Typed kind node)) v w s a i r = node_alike w s a kind node v i r
   effect_alike (Finds (Var h)) v w s a i r =
       subst (λ o. EffectAlike w.calls (Does [] (Designates (owner h w) 0 ∷ v) w) (Does [] (Designates o 0 ∷ v) (over s w))) (owner_alike opens Shaped w s a h i)
@@ -243,34 +259,45 @@ module _ (opens : ℕ → ℕ → Bool) (Shaped : ℕ → ℕ → Variable → T
       (subst (λ o. OutcomeAlike w.calls (cell h (integer (top v)) w) (cell_of o (integer (top v)) (over s w))) (owner_alike opens Shaped w s a h i)
       (cell_alike w s a (owner h w) (integer (top v)) (owner_seen opens Shaped w s a h i)))
   effect_alike Loads v w s a i r =
-      subst (λ z. EffectAlike w.calls (Does [] (loaded (top v) w ∷ rest v) w) (Does [] (Integer z ∷ rest v) (over s w))) (load_alike opens Shaped w s a (top v) (top_refers w.calls v r))
+      subst (λ z. EffectAlike w.calls (Does [] (loaded (top v) w ∷ rest v) w) (Does [] (Integer z ∷ rest v) (over s w)))
+      (load_alike opens Shaped w s a (top v) (top_refers w.calls v r))
       (does w s a [] (loaded (top v) w ∷ rest v) tt (tt, rest_refers w.calls v r))
   effect_alike Fetches v w s a i r =
-      subst (λ z. EffectAlike w.calls (Does [] (loaded (top v) w ∷ v) w) (Does [] (Integer z ∷ v) (over s w))) (load_alike opens Shaped w s a (top v) (top_refers w.calls v r))
+      subst (λ z. EffectAlike w.calls (Does [] (loaded (top v) w ∷ v) w) (Does [] (Integer z ∷ v) (over s w)))
+      (load_alike opens Shaped w s a (top v) (top_refers w.calls v r))
       (does w s a [] (loaded (top v) w ∷ v) tt (tt, r))
-  effect_alike (AppliesUnary op k) v w s a i r = left_alike (rest v) (rest_refers w.calls v r) (result_alike w s a (unary_result op (operand_kind k) (integer (top v))))
+  effect_alike (AppliesUnary op k) v w s a i r = left_alike (rest v) (rest_refers w.calls v r)
+      (result_alike w s a (unary_result op (operand_kind k) (integer (top v))))
   effect_alike (AppliesBinary op j k) v w s a i r =
-      left_alike (rest (rest v)) (rest_refers w.calls (rest v) (rest_refers w.calls v r)) (result_alike w s a (binary_result op (operand_kind j) (operand_kind k) (integer (top (rest v))) (integer (top v))))
+      left_alike (rest (rest v)) (rest_refers w.calls (rest v) (rest_refers w.calls v r))
+      (result_alike w s a (binary_result op (operand_kind j) (operand_kind k) (integer (top (rest v))) (integer (top v))))
   effect_alike (Converts k) v w s a i r = does w s a [] (converted_value k (top v) ∷ rest v) tt (tt, rest_refers w.calls v r)
   effect_alike LeavesNothing v w s a i r = does w s a [] (Missing ∷ v) tt (tt, r)
   effect_alike (Ands b) v w s a i r =
-      truth_case w s a (holds (top v)) (Computes b ∷ Judges ∷ []) [] (rest v) (Integer (pos 0) ∷ rest v) (i, (tt, tt)) tt (rest_refers w.calls v r) (tt, rest_refers w.calls v r)
+      truth_case w s a (holds (top v)) (Computes b ∷ Judges ∷ []) [] (rest v) (Integer (pos 0) ∷ rest v) (i, (tt, tt)) tt (rest_refers w.calls v r)
+      (tt, rest_refers w.calls v r)
   effect_alike (Ors b) v w s a i r =
-      truth_case w s a (holds (top v)) [] (Computes b ∷ Judges ∷ []) (Integer (pos 1) ∷ rest v) (rest v) tt (i, (tt, tt)) (tt, rest_refers w.calls v r) (rest_refers w.calls v r)
+      truth_case w s a (holds (top v)) [] (Computes b ∷ Judges ∷ []) (Integer (pos 1) ∷ rest v) (rest v) tt (i, (tt, tt))
+      (tt, rest_refers w.calls v r) (rest_refers w.calls v r)
   effect_alike Judges v w s a i r = does w s a [] (truth_value (top v) ∷ rest v) tt (tt, rest_refers w.calls v r)
   effect_alike (Decides b c k) v w s a i r =
       does w s a (cond (holds (top v)) (Computes b ∷ conversion k) (Computes c ∷ conversion k)) (rest v)
-      (decided_in w s a (holds (top v)) (Computes b ∷ conversion k) (Computes c ∷ conversion k) (i.0, conversion_in w s a k) (i.1, conversion_in w s a k)) (rest_refers w.calls v r)
+      (decided_in w s a (holds (top v)) (Computes b ∷ conversion k) (Computes c ∷ conversion k) (i.0, conversion_in w s a k)
+      (i.1, conversion_in w s a k)) (rest_refers w.calls v r)
   effect_alike Stores v w s a i r =
-      left_alike (rest (rest v)) (rest_refers w.calls (rest v) (rest_refers w.calls v r)) (assign_alike w s a (top (rest v)) (top v) (top_refers w.calls (rest v) (rest_refers w.calls v r)))
+      left_alike (rest (rest v)) (rest_refers w.calls (rest v) (rest_refers w.calls v r))
+      (assign_alike w s a (top (rest v)) (top v) (top_refers w.calls (rest v) (rest_refers w.calls v r)))
   effect_alike (Counts up after) v w s a i r = left_alike (rest v) (rest_refers w.calls v r) (count_alike w s a up after (top v) (top_refers w.calls v r))
-  effect_alike (Calls m n) v w s a i r = ea_invokes m (last_values n [] v) (without_last n v) w s (last_refers w.calls n [] v tt r) (without_refers w.calls n v r) refl a
+  effect_alike (Calls m n) v w s a i r = ea_invokes m (last_values n [] v) (without_last n v) w s (last_refers w.calls n [] v tt r)
+      (without_refers w.calls n v r) refl a
   effect_alike (Ends true) v w s a i r = ea_leaves (Some (top v)) w s refl a
   effect_alike (Ends false) v w s a i r = ea_leaves None w s refl a
   effect_alike (Begins x es) v w s a i r = initialise_alike w s a x 0 es v i.0 i.1 r
   effect_alike (Sets x j es) v w s a i r =
-      stored_then (top (rest v)) (integer (top v)) x (suc j) es (rest (rest v)) w s a (top_refers w.calls (rest v) (rest_refers w.calls v r)) i.0 i.1 (rest_refers w.calls (rest v) (rest_refers w.calls v r))
+      stored_then (top (rest v)) (integer (top v)) x (suc j) es (rest (rest v)) w s a (top_refers w.calls (rest v) (rest_refers w.calls v r)) i.0 i.1
+      (rest_refers w.calls (rest v) (rest_refers w.calls v r))
   effect_alike (Clears x n) v w s a i r =
-      subst (λ o. EffectAlike w.calls (Does [] v (clear (H.Slot x) n w)) (Does [] v (over (put o (with_zeros n (s o)) s) w))) (owner_alike opens Shaped w s a (H.Slot x) i)
+      subst (λ o. EffectAlike w.calls (Does [] v (clear (H.Slot x) n w)) (Does [] v (over (put o (with_zeros n (s o)) s) w)))
+      (owner_alike opens Shaped w s a (H.Slot x) i)
       (ea_does [] v (clear (H.Slot x) n w) (put (owner (H.Slot x) w) (with_zeros n (s (owner (H.Slot x) w))) s) tt r refl
       (changed_alike opens Shaped (zeros n) (owner (H.Slot x) w) w s (owner_seen opens Shaped w s a (H.Slot x) i) a))

@@ -74,7 +74,8 @@ module _ (g : Goal) (out : enters_switches g ≡ false) where
   mutual
     pub caseless_seek : (a : Forest) (k : List Task) → Caseless a → seek g a k ≡ None
     caseless_seek Nil k h = refl
-    caseless_seek (Then x xs) k h = none_or _ _ (none_cond (is_goal g x) (Runs x ∷ items xs k) (seek_in g x (items xs k)) (no_arrival x (caseless_item x h.0) g out) (caseless_seek_in x (items xs k) h.0)) (caseless_seek xs k h.1)
+    caseless_seek (Then x xs) k h = none_or _ _ (none_cond (is_goal g x) (Runs x ∷ items xs k) (seek_in g x (items xs k))
+        (no_arrival x (caseless_item x h.0) g out) (caseless_seek_in x (items xs k) h.0)) (caseless_seek xs k h.1)
 
     pub caseless_seek_in : (x : Tree) (k : List Task) → IsCaseless x → seek_in g x k ≡ None
     caseless_seek_in (If t a b) k h = none_or _ _ (caseless_seek a k h.0) (caseless_seek b k h.1)
@@ -149,10 +150,12 @@ module _ (s : Setting) where
   mutual
     tests_caseless : (kind : IntKind) (v : ℕ) (names : Names) (a : Forest) → Caseless (tests s.number kind v names a)
     tests_caseless kind v names Nil = tt
-    tests_caseless kind v names (Then x a) = caseless_join (tests_in s.number kind v names x) (tests s.number kind v names a) (tests_caseless_in kind v names x) (tests_caseless kind v names a)
+    tests_caseless kind v names (Then x a) = caseless_join (tests_in s.number kind v names x) (tests s.number kind v names a)
+        (tests_caseless_in kind v names x) (tests_caseless kind v names a)
 
     tests_caseless_in : (kind : IntKind) (v : ℕ) (names : Names) (x : Tree) → Caseless (tests_in s.number kind v names x)
-    tests_caseless_in kind v names (If t a b) = caseless_join (tests s.number kind v names a) (tests s.number kind v names b) (tests_caseless kind v names a) (tests_caseless kind v names b)
+    tests_caseless_in kind v names (If t a b) = caseless_join (tests s.number kind v names a) (tests s.number kind v names b)
+        (tests_caseless kind v names a) (tests_caseless kind v names b)
     tests_caseless_in kind v names (While t a) = tests_caseless kind v names a
     tests_caseless_in kind v names (Do a t) = tests_caseless kind v names a
     tests_caseless_in kind v names (For f t u a) = tests_caseless kind v names a
@@ -163,13 +166,16 @@ module _ (s : Setting) where
 
   tests_caseless_for : (kind : IntKind) (v : ℕ) (names : Names) (es : List ExpressionTree) → Caseless (tests_for s.number kind v names es)
   tests_caseless_for kind v names [] = tt
-  tests_caseless_for kind v names (e ∷ es) = caseless_join (test_for s.number kind v names e) (tests_for s.number kind v names es) (test_caseless kind v names e) (tests_caseless_for kind v names es)
+  tests_caseless_for kind v names (e ∷ es) = caseless_join (test_for s.number kind v names e) (tests_for s.number kind v names es)
+      (test_caseless kind v names e) (tests_caseless_for kind v names es)
 
   tests_caseless_among : (kind : IntKind) (v : ℕ) (names : Names) (d : Sections) → Caseless (tests_among s.number kind v names d)
   tests_caseless_among kind v names NoSection = tt
   tests_caseless_among kind v names (Section cases default a ends d) =
-      caseless_join (tests_for s.number kind v names cases) (join (tests s.number kind v names a) (tests_among s.number kind v names d)) (tests_caseless_for kind v names cases)
-      (caseless_join (tests s.number kind v names a) (tests_among s.number kind v names d) (tests_caseless kind v names a) (tests_caseless_among kind v names d))
+      caseless_join (tests_for s.number kind v names cases) (join (tests s.number kind v names a) (tests_among s.number kind v names d))
+      (tests_caseless_for kind v names cases)
+      (caseless_join (tests s.number kind v names a) (tests_among s.number kind v names d) (tests_caseless kind v names a)
+      (tests_caseless_among kind v names d))
 
   mutual
     pub new_caseless : {m : Mode} {b c : Aim} {r : Arrivals} {xs xs' : Forest} → Looser s m b c r xs xs' → Caseless xs'
@@ -182,10 +188,14 @@ module _ (s : Setting) where
     new_caseless_in (lo_while t b' c' {a' = a'} i fa) = (caseless_join a' (mark_of c') (new_caseless fa) (caseless_mark c'), caseless_mark b')
     new_caseless_in (lo_do t b' c' {a' = a'} i fa) = (caseless_join a' (mark_of c') (new_caseless fa) (caseless_mark c'), caseless_mark b')
     new_caseless_in (lo_for t u b' c' {i' = i'} {a' = a'} i j fi fa) =
-        caseless_join i' (Then (For Nil t u (join a' (mark_of c'))) (mark_of b')) (new_caseless fi) (caseless_join a' (mark_of c') (new_caseless fa) (caseless_mark c'), caseless_mark b')
+        caseless_join i' (Then (For Nil t u (join a' (mark_of c'))) (mark_of b')) (new_caseless fi)
+        (caseless_join a' (mark_of c') (new_caseless fa) (caseless_mark c'), caseless_mark b')
     new_caseless_in (lo_for_while t u b' c' {i' = i'} {a' = a'} n i j fi fa) =
-        caseless_join i' (Then (While (Source (test_or_one t)) (with_third a' c' u)) (mark_of b')) (new_caseless fi)
-        (caseless_join a' (join (mark_of c') (third_items u)) (new_caseless fa) (caseless_join (mark_of c') (third_items u) (caseless_mark c') (caseless_third u)), caseless_mark b')
+        caseless_join i' (Then (While (Source (test_or_one t)) (with_third a' c' u)) (mark_of b')) (new_caseless fi) (
+          caseless_join a' (join (mark_of c') (third_items u)) (new_caseless fa)
+              (caseless_join (mark_of c') (third_items u) (caseless_mark c') (caseless_third u)),
+          caseless_mark b',
+        )
     new_caseless_in (lo_block fa) = new_caseless fa
     new_caseless_in (lo_keep_block fa) = (new_caseless fa, tt)
     new_caseless_in (lo_keep_for t u b' c' {a' = a'} z i j fi fa) = (caseless_join a' (mark_of c') (new_caseless fa) (caseless_mark c'), caseless_mark b')
@@ -213,11 +223,14 @@ module _ (s : Setting) where
 
     spread_caseless : {m : Mode} {b c : Aim} {names : Names} {d : Sections} {ys : Forest} → Spread s m b c names d ys → Caseless ys
     spread_caseless {b = b} ls_none = caseless_mark b
-    spread_caseless {names = names} (ls_last cases default {xs' = xs'} fa) = caseless_join (case_marks names cases default) xs' (caseless_marks names cases default) (new_caseless fa)
+    spread_caseless {names = names} (ls_last cases default {xs' = xs'} fa) =
+        caseless_join (case_marks names cases default) xs' (caseless_marks names cases default) (new_caseless fa)
     spread_caseless {names = names} (ls_falls cases default {xs' = xs'} {ys = ys} fa fs) =
-        caseless_join (case_marks names cases default) (join xs' ys) (caseless_marks names cases default) (caseless_join xs' ys (new_caseless fa) (spread_caseless fs))
+        caseless_join (case_marks names cases default) (join xs' ys) (caseless_marks names cases default)
+        (caseless_join xs' ys (new_caseless fa) (spread_caseless fs))
     spread_caseless {names = names} (ls_ends l cases default {xs' = xs'} {ys = ys} fa fs) =
-        caseless_join (case_marks names cases default) (join xs' (Then (Goto l) ys)) (caseless_marks names cases default) (caseless_join xs' (Then (Goto l) ys) (new_caseless fa) (tt, spread_caseless fs))
+        caseless_join (case_marks names cases default) (join xs' (Then (Goto l) ys)) (caseless_marks names cases default)
+        (caseless_join xs' (Then (Goto l) ys) (new_caseless fa) (tt, spread_caseless fs))
 
 -- ---- entries
 
@@ -228,19 +241,23 @@ module _ (s : Setting) (B : Forest) where
   Both None (Some j') = ⊥
   Both (Some j) None = ⊥
 
-  both_here : (y : Bool) (j j' : List Task) (o o' p p' : Option (List Task)) → Still s B j j' → o ≡ None → o' ≡ None → Both p p' → Both (or_else (cond y (Some j) o) p) (or_else (cond y (Some j') o') p')
+  both_here : (y : Bool) (j j' : List Task) (o o' p p' : Option (List Task)) → Still s B j j' → o ≡ None → o' ≡ None → Both p p' →
+      Both (or_else (cond y (Some j) o) p) (or_else (cond y (Some j') o') p')
   both_here true j j' o o' p p' h e f k = h
   both_here false j j' o o' p p' h e f k = subst (λ z. Both (or_else z p) (or_else o' p')) (sym e) (subst (λ z. Both p (or_else z p')) (sym f) k)
 
   module _ {b c b' c' : Aim} {k k' : List Task} (o : Control s B Open b' c' k k') (h : Control s B Open b c (Out ∷ k) (Out ∷ k')) where
-    seek_lo : {d d' : Sections} (g : Goal) → enters_switches g ≡ false → LooserSections s b c d d' → ArePlacedAmong B d' k' → Both (seek_sections g d k) (seek_sections g d' k')
+    seek_lo : {d d' : Sections} (g : Goal) → enters_switches g ≡ false → LooserSections s b c d d' → ArePlacedAmong B d' k' →
+        Both (seek_sections g d k) (seek_sections g d' k')
     seek_lo g q lc_none al = tt
     seek_lo g q (lc_section cases default e {xs = xs} {xs' = xs'} {d = d} {d' = d'} fa fs) al =
         both_here (is_section_goal g cases default) _ _ _ _ _ _ (st_control (tail_lo s B (lc_section cases default e fa fs) al o h))
-        (caseless_seek g q xs (end_of e (tail_tasks d k)) (old_caseless s fa)) (caseless_seek g q xs' (end_of e (tail_tasks d' k')) (new_caseless s fa)) (seek_lo g q fs al.1)
+        (caseless_seek g q xs (end_of e (tail_tasks d k)) (old_caseless s fa))
+        (caseless_seek g q xs' (end_of e (tail_tasks d' k')) (new_caseless s fa)) (seek_lo g q fs al.1)
     seek_lo g q (lc_ended cases default e {xs = xs} {xs' = xs'} {d = d} {d' = d'} fa fs) al =
         both_here (is_section_goal g cases default) _ _ _ _ _ _ (st_control (tail_lo s B (lc_ended cases default e fa fs) al o h))
-        (caseless_seek g q xs (end_of e (tail_tasks d k)) (old_caseless s fa)) (caseless_seek g q xs' (EndsSection ∷ tail_tasks d' k') (new_caseless s fa)) (seek_lo g q fs al.1)
+        (caseless_seek g q xs (end_of e (tail_tasks d k)) (old_caseless s fa))
+        (caseless_seek g q xs' (EndsSection ∷ tail_tasks d' k') (new_caseless s fa)) (seek_lo g q fs al.1)
 
     first_lo : (p q p' q' : Option (List Task)) → Both p p' → Both q q' → Still s B (first_of_three p q k) (first_of_three p' q' k')
     first_lo (Some j) q (Some j') q' x y = x
@@ -251,6 +268,8 @@ module _ (s : Setting) (B : Forest) where
     first_lo None (Some j) None None x y = absurd y
     first_lo None None None (Some j') x y = absurd y
 
-    pub entry_lo : {d d' : Sections} (kind : IntKind) (n : ℤ) → LooserSections s b c d d' → ArePlacedAmong B d' k' → Still s B (entry kind n d k) (entry kind n d' k')
+    pub entry_lo : {d d' : Sections} (kind : IntKind) (n : ℤ) → LooserSections s b c d d' → ArePlacedAmong B d' k' →
+        Still s B (entry kind n d k) (entry kind n d' k')
     entry_lo {d} {d'} kind n fs al =
-        first_lo (seek_sections (ToCase kind n) d k) (seek_sections ToDefault d k) (seek_sections (ToCase kind n) d' k') (seek_sections ToDefault d' k') (seek_lo (ToCase kind n) refl fs al) (seek_lo ToDefault refl fs al)
+        first_lo (seek_sections (ToCase kind n) d k) (seek_sections ToDefault d k) (seek_sections (ToCase kind n) d' k')
+        (seek_sections ToDefault d' k') (seek_lo (ToCase kind n) refl fs al) (seek_lo ToDefault refl fs al)

@@ -25,7 +25,11 @@ stay_join Nil b = omega arith
 stay_join (Then x a) b = let h = stay_join a b in omega (arith, h)
 
 pub joined : (a b : Forest) → Free a → Free b → Free (join a b)
-joined a b h k = (let e = free_join a b in let i = h.0 in let j = k.0 in omega (arith, e, i, j), let e = stay_join a b in let i = h.1 in let j = k.1 in omega (arith, e, i, j))
+joined a b h k = (
+  let e = free_join a b in let i = h.0 in let j = k.0 in omega (arith, e, i, j),
+  let e = stay_join a b in let i = h.1 in
+      let j = k.1 in omega (arith, e, i, j),
+)
 
 pub mark_free : (b : Aim) → Free (mark_of b)
 mark_free Stays = (refl, refl)
@@ -76,13 +80,15 @@ module _ (number : IntKind → ℤ → ExpressionTree) (k : IntKind) (v : ℕ) (
   pub tests_among_free : (d : Sections) → Free (tests_among number k v names d)
   tests_among_free NoSection = (refl, refl)
   tests_among_free (Section cases default a ends d) =
-      joined (tests_for number k v names cases) (join (tests number k v names a) (tests_among number k v names d)) (tests_for_free cases) (joined (tests number k v names a) (tests_among number k v names d) (tests_free a) (tests_among_free d))
+      joined (tests_for number k v names cases) (join (tests number k v names a) (tests_among number k v names d)) (tests_for_free cases)
+      (joined (tests number k v names a) (tests_among number k v names d) (tests_free a) (tests_among_free d))
 
 module _ (s : Setting) where
   mutual
     pub no_breaks : {m : Mode} {b c : Aim} {r : Arrivals} {xs ys : Forest} → Looser s m b c r xs ys → IsMoved b → breaks ys ≡ 0
     no_breaks la_nil n = refl
-    no_breaks (la_then {ys = ys} {xs' = xs'} fi fa) n = let e = free_join ys xs' in let h = no_breaks_in fi n in let k = no_breaks fa n in omega (arith, e, h, k)
+    no_breaks (la_then {ys = ys} {xs' = xs'} fi fa) n = let e = free_join ys xs' in let h = no_breaks_in fi n in let k = no_breaks fa n in
+        omega (arith, e, h, k)
     no_breaks (la_last last fi gone) n = no_breaks_in fi n
 
     no_breaks_in : {m : Mode} {b c : Aim} {r : Arrivals} {x : Tree} {ys : Forest} → LooserItem s m b c r x ys → IsMoved b → breaks ys ≡ 0
@@ -126,7 +132,9 @@ module _ (s : Setting) where
 
     no_breaks_spread : {m : Mode} {b c : Aim} {names : Names} {d : Sections} {ys : Forest} → Spread s m b c names d ys → IsMoved b → breaks ys ≡ 0
     no_breaks_spread {b = b} ls_none n = (mark_free b).0
-    no_breaks_spread {names = names} (ls_last cases default {xs' = xs'} fa) n = let e = free_join (case_marks names cases default) xs' in let h = (marks_free names cases default).0 in let k = no_breaks fa tt in omega (arith, e, h, k)
+    no_breaks_spread {names = names} (ls_last cases default {xs' = xs'} fa) n = let e = free_join (case_marks names cases default) xs' in let h =
+        (marks_free
+        names cases default).0 in let k = no_breaks fa tt in omega (arith, e, h, k)
     no_breaks_spread {names = names} (ls_falls cases default {xs' = xs'} {ys = ys} fa fs) n =
         let e = free_join (case_marks names cases default) (join xs' ys) in
         let f = free_join xs' ys in
@@ -143,7 +151,8 @@ module _ (s : Setting) where
   mutual
     pub no_continues : {m : Mode} {b c : Aim} {r : Arrivals} {xs ys : Forest} → Looser s m b c r xs ys → IsMoved c → continues ys ≡ 0
     no_continues la_nil n = refl
-    no_continues (la_then {ys = ys} {xs' = xs'} fi fa) n = let e = stay_join ys xs' in let h = no_continues_in fi n in let k = no_continues fa n in omega (arith, e, h, k)
+    no_continues (la_then {ys = ys} {xs' = xs'} fi fa) n = let e = stay_join ys xs' in let h = no_continues_in fi n in let k = no_continues fa n in
+        omega (arith, e, h, k)
     no_continues (la_last last fi gone) n = no_continues_in fi n
 
     no_continues_in : {m : Mode} {b c : Aim} {r : Arrivals} {x : Tree} {ys : Forest} → LooserItem s m b c r x ys → IsMoved c → continues ys ≡ 0
@@ -192,7 +201,9 @@ module _ (s : Setting) where
 
     no_continues_spread : {m : Mode} {b c : Aim} {names : Names} {d : Sections} {ys : Forest} → Spread s m b c names d ys → IsMoved c → continues ys ≡ 0
     no_continues_spread {b = b} ls_none n = (mark_free b).1
-    no_continues_spread {names = names} (ls_last cases default {xs' = xs'} fa) n = let e = stay_join (case_marks names cases default) xs' in let h = (marks_free names cases default).1 in let k = no_continues fa n in omega (arith, e, h, k)
+    no_continues_spread {names = names} (ls_last cases default {xs' = xs'} fa) n = let e = stay_join (case_marks names cases default) xs' in let h =
+        (marks_free
+        names cases default).1 in let k = no_continues fa n in omega (arith, e, h, k)
     no_continues_spread {names = names} (ls_falls cases default {xs' = xs'} {ys = ys} fa fs) n =
         let e = stay_join (case_marks names cases default) (join xs' ys) in
         let f = stay_join xs' ys in

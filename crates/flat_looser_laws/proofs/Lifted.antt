@@ -26,15 +26,18 @@ use Rattle.flat_looser_laws.proofs.Spelled.{spelled_numbers}
 -- the cores of looser programs are looser
 cores : {f h : FunctionTree} → LooserFunction f h → LooserFunction (core_function f) (core_function h)
 cores (lf_same e) = lf_same (ap core_function e)
-cores {f} {h} (lf_looser l) = subst (λ x. LooserFunction x (core_function h)) (sym (core_before l)) (subst (λ y. LooserFunction f y) (sym (core_after l)) (lf_looser l))
+cores {f} {h} (lf_looser l) = subst (λ x. LooserFunction x (core_function h)) (sym (core_before l))
+    (subst (λ y. LooserFunction f y) (sym (core_after l)) (lf_looser l))
 
 core_looser : (p q : Code) → LooserCode p q → LooserCode (core_code p) (core_code q)
 core_looser p q lo = record { functions = λ m. cores (lo.functions m); globals = lo.globals; cells = lo.cells }
 
-of_codes : (p q : Code) → ((m : List ℕ) → HoldsNumbers (p.globals m)) → HasMadeBodies p → HasMadeBodies q → LooserCode p q → IsSteadyCode p → IsSteadyCode q × SameBehaviour p q
+of_codes : (p q : Code) → ((m : List ℕ) → HoldsNumbers (p.globals m)) → HasMadeBodies p → HasMadeBodies q → LooserCode p q → IsSteadyCode p →
+    IsSteadyCode q × SameBehaviour p q
 of_codes p q held b d lo st =
     let c = core_looser p q lo in
-    between p q (placed p b) (placed q d) (λ safe. loosened (core_code p) (core_code q) c held safe) (λ safe. still_no_arm (core_code p) (core_code q) c held safe) st
+    between p q (placed p b) (placed q d) (λ safe. loosened (core_code p) (core_code q) c held safe)
+    (λ safe. still_no_arm (core_code p) (core_code q) c held safe) st
 
 -- ---- resolved programs
 
@@ -59,11 +62,13 @@ first_looser fd_none fd_none = lf_same refl
 abbrev Alike : (Function → Bool) → Type 0
 Alike test = (f h : Function) → IsLooser (function_tree f) (function_tree h) → test f ≡ test h
 
-same_top : (test : Function → Bool) (m : List ℕ) (t : Top) (ts us : List Top) → LooserFound (function_in test m ts) (function_in test m us) → LooserFound (function_in test m (t ∷ ts)) (function_in test m (t ∷ us))
+same_top : (test : Function → Bool) (m : List ℕ) (t : Top) (ts us : List Top) → LooserFound (function_in test m ts) (function_in test m us) →
+    LooserFound (function_in test m (t ∷ ts)) (function_in test m (t ∷ us))
 same_top test m (T.Function f) ts us h = found_if (bytes_eq f.name m && test f) (found_refl (Some (function_tree f))) h
 same_top test m _ ts us h = h
 
-found_looser : (test : Function → Bool) → Alike test → (m : List ℕ) {ts us : List Top} → LooserTops ts us → LooserFound (function_in test m ts) (function_in test m us)
+found_looser : (test : Function → Bool) → Alike test → (m : List ℕ) {ts us : List Top} → LooserTops ts us →
+    LooserFound (function_in test m ts) (function_in test m us)
 found_looser test same m lt_none = fd_none
 found_looser test same m (lt_more {t = t} {ts = ts} {us = us} (lt_same e) h) =
     subst (λ u. LooserFound (function_in test m (t ∷ ts)) (function_in test m (u ∷ us))) e (same_top test m t ts us (found_looser test same m h))
@@ -111,7 +116,12 @@ globals_hold m (_ ∷ ts) = globals_hold m ts
 
 of_programs : (p q : Program) → IsProgramInRange q → All IsTopMadeWell q.tops → LooserTops p.tops q.tops → IsSteady p → IsSteady q × BehaveTheSame p q
 of_programs p q ranged made lo st =
-    let c : LooserCode (code_of p) (code_of q) = record { functions = λ m. function_looser m lo; globals = λ m. globals_looser m lo; cells = cells_looser lo } in
+    let c : LooserCode (code_of p) (code_of q) = record {
+      functions = λ m. function_looser m lo;
+      globals = λ m. globals_looser m lo;
+      cells =
+          cells_looser lo;
+    } in
     let r = of_codes (code_of p) (code_of q) (λ m. globals_hold m p.tops) (made_bodies p st.made) (made_bodies q made) c st.states in
     (record { ranged = ranged; made = made; states = r.0 }, record { codes = r.1 })
 

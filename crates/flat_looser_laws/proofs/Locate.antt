@@ -39,30 +39,38 @@ module _ (s : Setting) (A B : Forest) (l n : ℕ) (lv : s.labels l ≡ Some n) w
     not_gone_in _ g p = g
 
   mutual
-    pub locate : {m : Mode} {b c : Aim} {r : Arrivals} {xs xs' : Forest} {k k' : List Task} → Looser s m b c r xs xs' → ArePlaced A xs k → ArePlaced B xs' k' → Control s B m b c k k' → Has l xs → There
+    pub locate : {m : Mode} {b c : Aim} {r : Arrivals} {xs xs' : Forest} {k k' : List Task} → Looser s m b c r xs xs' → ArePlaced A xs k →
+        ArePlaced B xs' k' → Control s B m b c k k' → Has l xs → There
     locate la_nil al bl h p = absurd p
-    locate {k' = k'} (la_then {ys = ys} {xs' = xs'} fi fa) al bl h (inl p) = let q = placed_join B ys xs' k' bl in locate_item fi al.0 q.0 (items_lo s B fa q.1 h) p
+    locate {k' = k'} (la_then {ys = ys} {xs' = xs'} fi fa) al bl h (inl p) = let q = placed_join B ys xs' k' bl in
+        locate_item fi al.0 q.0 (items_lo s B fa q.1 h) p
     locate {k' = k'} (la_then {ys = ys} {xs' = xs'} fi fa) al bl h (inr p) = locate fa al.1 (placed_join B ys xs' k' bl).1 h p
     locate (la_last {xs = xs} last fi gone) al bl h (inl p) = locate_item fi al.0 bl (ended_more s B xs last h) p
     locate (la_last {xs = xs} last fi gone) al bl h (inr p) = absurd (not_gone xs gone p)
 
-    locate_item : {m : Mode} {b c : Aim} {r : Arrivals} {x : Tree} {ys : Forest} {k k' : List Task} → LooserItem s m b c r x ys → IsPlaced A x k → ArePlaced B ys k' → Control s B m b c k k' → HasIn l x → There
+    locate_item : {m : Mode} {b c : Aim} {r : Arrivals} {x : Tree} {ys : Forest} {k k' : List Task} → LooserItem s m b c r x ys → IsPlaced A x k →
+        ArePlaced B ys k' → Control s B m b c k k' → HasIn l x → There
     locate_item (lo_if t i fx fy) al bl h (inl p) = locate fx al.0 bl.0.0 h p
     locate_item (lo_if t i fx fy) al bl h (inr p) = locate fy al.1 bl.0.1 h p
     locate_item {k' = k'} (lo_while t b' c' {a' = a'} i fa) al bl h p =
-        locate fa al (placed_join B a' (mark_of c') (Loops (WhileLoop (Source t) (join a' (mark_of c'))) ∷ behind_mark b' k') bl.0).0 (behind_mark_lo s B c' (ct_while t b' c' i fa bl.0 bl.1 h)) p
+        locate fa al (placed_join B a' (mark_of c') (Loops (WhileLoop (Source t) (join a' (mark_of c'))) ∷ behind_mark b' k') bl.0).0
+        (behind_mark_lo s B c' (ct_while t b' c' i fa bl.0 bl.1 h)) p
     locate_item {k' = k'} (lo_do t b' c' {a' = a'} i fa) al bl h p =
-        locate fa al (placed_join B a' (mark_of c') (Loops (DoLoop (join a' (mark_of c')) (Source t)) ∷ behind_mark b' k') bl.0).0 (behind_mark_lo s B c' (ct_do t b' c' i fa bl.0 bl.1 h)) p
+        locate fa al (placed_join B a' (mark_of c') (Loops (DoLoop (join a' (mark_of c')) (Source t)) ∷ behind_mark b' k') bl.0).0
+        (behind_mark_lo s B c' (ct_do t b' c' i fa bl.0 bl.1 h)) p
     locate_item {k' = k'} (lo_for t u b' c' {i' = i'} {a' = a'} i j fi fa) al bl h p =
         let q = placed_join B i' (Then (For Nil t u (join a' (mark_of c'))) (mark_of b')) k' bl in
-        locate fa al (placed_join B a' (mark_of c') (Loops (ForLoop t u (join a' (mark_of c'))) ∷ behind_mark b' k') q.1.0).0 (behind_mark_lo s B c' (ct_for t u b' c' i j fa q.1.0 q.1.1 h)) p
+        locate fa al (placed_join B a' (mark_of c') (Loops (ForLoop t u (join a' (mark_of c'))) ∷ behind_mark b' k') q.1.0).0
+        (behind_mark_lo s B c' (ct_for t u b' c' i j fa q.1.0 q.1.1 h)) p
     locate_item {k' = k'} (lo_for_while t u b' c' {i' = i'} {a' = a'} n i j fi fa) al bl h p =
         let q = placed_join B i' (Then (While (Source (test_or_one t)) (with_third a' c' u)) (mark_of b')) k' bl in
-        locate fa al (placed_join B a' (join (mark_of c') (third_items u)) (Loops (WhileLoop (Source (test_or_one t)) (with_third a' c' u)) ∷ behind_mark b' k') q.1.0).0 (third_lo s B t u b' c' n i j fa q.1.0 q.1.1 h) p
+        locate fa al (placed_join B a' (join (mark_of c') (third_items u))
+        (Loops (WhileLoop (Source (test_or_one t)) (with_third a' c' u)) ∷ behind_mark b' k') q.1.0).0 (third_lo s B t u b' c' n i j fa q.1.0 q.1.1 h) p
     locate_item (lo_block fa) al bl h p = locate fa al bl h p
     locate_item (lo_keep_block fa) al bl h p = locate fa al bl.0 h p
     locate_item {k' = k'} (lo_keep_for t u b' c' {a' = a'} z i j fi fa) al bl h p =
-        locate fa al (placed_join B a' (mark_of c') (Loops (ForLoop t u (join a' (mark_of c'))) ∷ behind_mark b' k') bl.0).0 (behind_mark_lo s B c' (ct_for t u b' c' i j fa bl.0 bl.1 h)) p
+        locate fa al (placed_join B a' (mark_of c') (Loops (ForLoop t u (join a' (mark_of c'))) ∷ behind_mark b' k') bl.0).0
+        (behind_mark_lo s B c' (ct_for t u b' c' i j fa bl.0 bl.1 h)) p
     locate_item (lo_keep_declares x) al bl h p = absurd p
     locate_item (lo_keep_local x es b i) al bl h p = absurd p
     locate_item (lo_switch e b' i fs) al bl h p = locate_sections fs al bl.0 (behind_mark_lo s B b' h) (ct_out b' bl.1 h) p
@@ -71,7 +79,8 @@ module _ (s : Setting) (A B : Forest) (l n : ℕ) (lv : s.labels l ≡ Some n) w
     locate_item {k = k} {k' = k'} (lo_mark m i e) al bl h p =
         let q : n ≡ i = ap or_zero (sym lv ∙ ap s.labels p ∙ e) in
         subst (λ z. Still s B (find z A) (find n B)) (sym p) (subst (λ z. Still s B (find m A) (find z B)) (sym q)
-        (subst (λ z. Still s B z (find i B)) (sym al) (subst (λ z. Still s B (Runs (Mark m) ∷ k) z) (sym bl.0) (st_control (ct_item (lo_mark {r = NoArrival} m i e) bl h)))))
+        (subst (λ z. Still s B z (find i B)) (sym al) (subst (λ z. Still s B (Runs (Mark m) ∷ k) z) (sym bl.0)
+        (st_control (ct_item (lo_mark {r = NoArrival} m i e) bl h)))))
     locate_item (lo_drop m e) al bl h p = absurd (not_dropped m e p)
     locate_item (lo_evaluate e i) al bl h p = absurd p
     locate_item (lo_return e i) al bl h p = absurd p
@@ -88,16 +97,21 @@ module _ (s : Setting) (A B : Forest) (l n : ℕ) (lv : s.labels l ≡ Some n) w
     locate_item (lo_goto m i e) al bl h p = absurd p
     locate_item (lo_arrival names e) al bl h p = absurd p
 
-    locate_sections : {b c b' c' : Aim} {d d' : Sections} {k k' : List Task} → LooserSections s b c d d' → ArePlacedAmong A d k → ArePlacedAmong B d' k' → Control s B Open b' c' k k' → Control s B Open b c (Out ∷ k) (Out ∷ k') → HasAmong l d → There
+    locate_sections : {b c b' c' : Aim} {d d' : Sections} {k k' : List Task} → LooserSections s b c d d' → ArePlacedAmong A d k →
+        ArePlacedAmong B d' k' → Control s B Open b' c' k k' → Control s B Open b c (Out ∷ k) (Out ∷ k') → HasAmong l d → There
     locate_sections lc_none al bl o h p = absurd p
-    locate_sections (lc_section cases default e {d = d} {d' = d'} fa fs) al bl o h (inl p) = locate fa al.0 bl.0 (end_lo s B d d' e o (tail_lo s B fs bl.1 o h)) p
+    locate_sections (lc_section cases default e {d = d} {d' = d'} fa fs) al bl o h (inl p) =
+        locate fa al.0 bl.0 (end_lo s B d d' e o (tail_lo s B fs bl.1 o h)) p
     locate_sections (lc_section cases default e fa fs) al bl o h (inr p) = locate_sections fs al.1 bl.1 o h p
-    locate_sections (lc_ended cases default e {d = d} {d' = d'} fa fs) al bl o h (inl p) = locate fa al.0 bl.0 (ended_lo s B d d' e o (tail_lo s B fs bl.1 o h)) p
+    locate_sections (lc_ended cases default e {d = d} {d' = d'} fa fs) al bl o h (inl p) =
+        locate fa al.0 bl.0 (ended_lo s B d d' e o (tail_lo s B fs bl.1 o h)) p
     locate_sections (lc_ended cases default e fa fs) al bl o h (inr p) = locate_sections fs al.1 bl.1 o h p
 
-    locate_spread : {m n : Mode} {b0 c b : Aim} {names : Names} {d : Sections} {ys : Forest} {k k' : List Task} → IsMoved b → Spread s n b c names d ys → Inner m n → ArePlacedAmong A d k → ArePlaced B ys k' → Control s B m b0 c k k' → HasAmong l d → There
+    locate_spread : {m n : Mode} {b0 c b : Aim} {names : Names} {d : Sections} {ys : Forest} {k k' : List Task} → IsMoved b →
+        Spread s n b c names d ys → Inner m n → ArePlacedAmong A d k → ArePlaced B ys k' → Control s B m b0 c k k' → HasAmong l d → There
     locate_spread n ls_none z al bl o p = absurd p
-    locate_spread {names = names} {k' = k'} n (ls_last cases default {xs' = xs'} fa) (in_last last) al bl o (inl p) = locate fa al.0 (placed_join B (case_marks names cases default) xs' k' bl).1 (ct_jumped last refl o) p
+    locate_spread {names = names} {k' = k'} n (ls_last cases default {xs' = xs'} fa) (in_last last) al bl o (inl p) =
+        locate fa al.0 (placed_join B (case_marks names cases default) xs' k' bl).1 (ct_jumped last refl o) p
     locate_spread n (ls_last cases default fa) (in_last last) al bl o (inr p) = absurd p
     locate_spread {names = names} {k' = k'} n (ls_falls cases default {xs' = xs'} {ys = ys} {d = d} fa fs) z al bl o (inl p) =
         let q = placed_join B xs' ys k' (placed_join B (case_marks names cases default) (join xs' ys) k' bl).1 in

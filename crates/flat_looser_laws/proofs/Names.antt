@@ -54,7 +54,8 @@ same_params (lf_same e) = ap (λ f. f.params) e
 same_params (lf_looser l) = l.params
 
 -- a slot of both has the same kind and cells
-entry_extend : (ss ts : List Slot) (x : ℕ) → ExtendSlots ss ts → x < length ss → ((entry_or no_slot ss x).kind ≡ (entry_or no_slot ts x).kind) × ((entry_or no_slot ss x).cells ≡ (entry_or no_slot ts x).cells)
+entry_extend : (ss ts : List Slot) (x : ℕ) → ExtendSlots ss ts → x < length ss →
+    ((entry_or no_slot ss x).kind ≡ (entry_or no_slot ts x).kind) × ((entry_or no_slot ss x).cells ≡ (entry_or no_slot ts x).cells)
 entry_extend [] ts x h b = absurd (omega (arith, b))
 entry_extend (s ∷ ss) [] x h b = absurd h
 entry_extend (s ∷ ss) (t ∷ ts) zero h b = (h.0, h.1)
@@ -89,7 +90,8 @@ start_shaped : {f h : FunctionTree} (l : LooserFunction f h) (vs : List Value) (
 start_shaped (lf_same e) vs x = tt
 start_shaped {f} {h} (lf_looser l) vs x = λ b.
     let n : nat_lt x h.params ≡ false = nat_lt_false x h.params (subst (λ z. z ≤ x) (l.same_params ∙ l.params) b) in
-    subst (λ y. HasShape (slot_of l.setting x) (cond y (parameter (entry_or no_slot h.slots x) (entry_or Missing vs x)) (zeros (entry_or no_slot h.slots x)))) (sym n)
+    subst (λ y. HasShape (slot_of l.setting x) (cond y (parameter (entry_or no_slot h.slots x) (entry_or Missing vs x))
+    (zeros (entry_or no_slot h.slots x)))) (sym n)
     (subst (λ ss. HasShape (entry_or no_slot ss x) (zeros (entry_or no_slot h.slots x))) (sym l.same_new) (refl, refl))
 
 -- ---- names of calls
@@ -153,7 +155,11 @@ module _ (p q : Code) (lo : LooserCode p q) where
 
     pub seen_kept : (c : ℕ) (o : Owner) → c ≤ d → SeenIn names c o → SeenIn names' c o
     seen_kept c (OfFile n) h i = tt
-    seen_kept c (OfCall b x) h i = (i.0, let j = i.0 in subst (λ n. opens_of (lo.functions n) x ≡ true) (sym (calling_earlier b d m names (omega (arith, h, j)))) i.1)
+    seen_kept c (OfCall b x) h i = (
+      i.0,
+      let j = i.0 in subst (λ n. opens_of (lo.functions n) x ≡ true)
+          (sym (calling_earlier b d m names (omega (arith, h, j)))) i.1,
+    )
 
     pub refers_kept : (c : ℕ) (v : Value) → c ≤ d → RefersIn names c v → RefersIn names' c v
     refers_kept c (Integer n) h i = tt
@@ -194,7 +200,8 @@ module _ (p q : Code) (lo : LooserCode p q) where
 
       start_refers : (x : ℕ) → RefersTo (opens names') (Shapes names') (suc d) (slot_at_start f vs x)
       start_refers x =
-          chosen (RefersTo (opens names') (Shapes names') (suc d)) (nat_lt x f.params) (parameter (entry_or no_slot f.slots x) (entry_or Missing vs x)) (zeros (entry_or no_slot f.slots x))
+          chosen (RefersTo (opens names') (Shapes names') (suc d)) (nat_lt x f.params)
+          (parameter (entry_or no_slot f.slots x) (entry_or Missing vs x)) (zeros (entry_or no_slot f.slots x))
           (λ i. parameter_refers (entry_or no_slot f.slots x) (entry_or Missing vs x) (entry_refers vs x rs)) (λ i. tt)
 
       seen_old : (c : ℕ) (x : ℕ) → c ≤ d → opens_of (lo.functions (names c)) x ≡ true → SeenIn names w.calls (OfCall c x)
@@ -210,13 +217,15 @@ module _ (p q : Code) (lo : LooserCode p q) where
 
       closed_at : (c x : ℕ) (b : Bool) → eqb (suc d) c ≡ b → c ≤ suc d → opens_of (lo.functions (cond b m (names c))) x ≡ true
           → RefersTo (opens names') (Shapes names') c (cond b (slot_at_start f vs x) (w.variables (OfCall c x)))
-      closed_at c x true i b o = let j : suc d ≡ c = eqb-true (suc d) c i in subst (λ z. RefersTo (opens names') (Shapes names') z (slot_at_start f vs x)) j (start_refers x)
+      closed_at c x true i b o = let j : suc d ≡ c = eqb-true (suc d) c i in
+          subst (λ z. RefersTo (opens names') (Shapes names') z (slot_at_start f vs x)) j (start_refers x)
       closed_at c x false i b o = let l = not_last c i b in variable_kept c (w.variables (OfCall c x)) l (a.closed (OfCall c x) (seen_old c x l o))
         where
           not_last : (c : ℕ) → eqb (suc d) c ≡ false → c ≤ suc d → c ≤ d
           not_last c i b = grind (arith, i, b)
 
-      shaped_at : (c x : ℕ) (b : Bool) → eqb (suc d) c ≡ b → 1 ≤ c → c ≤ suc d → IsShapedFor (lo.functions (cond b m (names c))) x (cond b (slot_at_start h vs x) (s (OfCall c x)))
+      shaped_at : (c x : ℕ) (b : Bool) → eqb (suc d) c ≡ b → 1 ≤ c → c ≤ suc d →
+          IsShapedFor (lo.functions (cond b m (names c))) x (cond b (slot_at_start h vs x) (s (OfCall c x)))
       shaped_at c x true i l b = start_shaped (lo.functions m) vs x
       shaped_at c x false i l b = a.shaped c x l (subst (λ z. c ≤ z) (sym e) (not_last c i b))
         where
@@ -233,7 +242,8 @@ module _ (p q : Code) (lo : LooserCode p q) where
           agree (OfFile n) i = a.agree (OfFile n) tt
           agree (OfCall c x) i = agree_at c x (eqb (suc d) c) refl i.0 i.1
 
-          closed : (o : Owner) → SeenIn names' (suc d) o → RefersTo (opens names') (Shapes names') (call_of o) (put_call (suc d) (slot_at_start f vs) w.variables o)
+          closed : (o : Owner) → SeenIn names' (suc d) o → RefersTo (opens names') (Shapes names') (call_of o)
+              (put_call (suc d) (slot_at_start f vs) w.variables o)
           closed (OfFile n) i = variable_kept 0 (w.variables (OfFile n)) (omega arith) (a.closed (OfFile n) tt)
           closed (OfCall c x) i = closed_at c x (eqb (suc d) c) refl i.0 i.1
 
@@ -242,7 +252,8 @@ module _ (p q : Code) (lo : LooserCode p q) where
       ps_ok : (w : World) (s : Owner → Variable) → w.calls ≡ suc d → AlikeIn names' w s → Pushed (Ok w) (Ok (over s w))
       ps_err : (t : Trap) → Pushed (Err t) (Err t)
 
-    pub push_alike : (vs : List Value) (w : World) (s : Owner → Variable) → RefersAllIn names d vs → w.calls ≡ d → AlikeIn names w s → Pushed (push (p.functions m) vs w) (push (q.functions m) vs (over s w))
+    pub push_alike : (vs : List Value) (w : World) (s : Owner → Variable) → RefersAllIn names d vs → w.calls ≡ d → AlikeIn names w s →
+        Pushed (push (p.functions m) vs w) (push (q.functions m) vs (over s w))
     push_alike vs w s rs e a =
         let f = p.functions m in
         let h = q.functions m in
@@ -250,13 +261,23 @@ module _ (p q : Code) (lo : LooserCode p q) where
         (Ok (record w { variables = put_call (suc w.calls) (slot_at_start h vs) s; calls = suc w.calls; cells = w.cells + n }))))) (same_cells (lo.functions m))
         (at (nat_lt most_calls (suc w.calls)) (nat_lt most_cells (w.cells + cells_of f.slots)))
       where
-        ok : Pushed (Ok (enter_call (p.functions m) vs w)) (Ok (over (put_call (suc w.calls) (slot_at_start (q.functions m) vs) s) (enter_call (p.functions m) vs w)))
-        ok = subst (λ z. Pushed (Ok (record w { variables = put_call (suc z) (slot_at_start (p.functions m) vs) w.variables; calls = suc z; cells = w.cells + cells_of (p.functions m).slots }))
-            (Ok (record w { variables = put_call (suc z) (slot_at_start (q.functions m) vs) s; calls = suc z; cells = w.cells + cells_of (p.functions m).slots }))) (sym e)
+        ok : Pushed (Ok (enter_call (p.functions m) vs w))
+            (Ok (over (put_call (suc w.calls) (slot_at_start (q.functions m) vs) s) (enter_call (p.functions m) vs w)))
+        ok = subst (λ z. Pushed (Ok (record w {
+          variables = put_call (suc z) (slot_at_start (p.functions m) vs) w.variables;
+          calls = suc z;
+          cells = w.cells + cells_of (p.functions m).slots;
+        }))
+            (Ok (record w {
+              variables = put_call (suc z) (slot_at_start (q.functions m) vs) s;
+              calls = suc z;
+              cells = w.cells + cells_of (p.functions m).slots;
+            }))) (sym e)
             (ps_ok (entered vs rs w s e a) (memory vs rs w s e a) refl (entered_alike vs rs w s e a))
 
         at : (x y : Bool) → Pushed (cond x (Err Trap.Calls) (cond y (Err Trap.Cells) (Ok (enter_call (p.functions m) vs w))))
-            (cond x (Err Trap.Calls) (cond y (Err Trap.Cells) (Ok (over (put_call (suc w.calls) (slot_at_start (q.functions m) vs) s) (enter_call (p.functions m) vs w)))))
+            (cond x (Err Trap.Calls) (cond y (Err Trap.Cells)
+            (Ok (over (put_call (suc w.calls) (slot_at_start (q.functions m) vs) s) (enter_call (p.functions m) vs w)))))
         at true y = ps_err Trap.Calls
         at false true = ps_err Trap.Cells
         at false false = ok

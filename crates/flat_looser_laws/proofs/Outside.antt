@@ -96,13 +96,16 @@ module _ (opens : ℕ → ℕ → Bool) (Shaped : ℕ → ℕ → Variable → T
   either_alike d true x y x' y' p q = p
   either_alike d false x y x' y' p q = q
 
-  pub outside_alike : (m : List ℕ) (h : FunctionTree) (vs : List Value) (w : World) (s : Owner → Variable) → Alike opens Shaped w s → O w.calls (call_without_body m h vs w) (call_without_body m h vs (over s w))
+  pub outside_alike : (m : List ℕ) (h : FunctionTree) (vs : List Value) (w : World) (s : Owner → Variable) → Alike opens Shaped w s →
+      O w.calls (call_without_body m h vs w) (call_without_body m h vs (over s w))
   outside_alike m h vs w s a =
       let d = w.calls in
       let called = Called m (converted_arguments h.slots vs) ∷ [] in
       either_alike d (bytes_eq m (codes "getchar")) _ _ _ _ (read_alike w s a w.input)
-      (either_alike d (bytes_eq m (codes "putchar")) _ _ _ _ (oa_gives (Integer (pos (residue UChar (next vs)))) (emit (Byte (residue UChar (next vs)) ∷ []) w) s tt refl (with_events w s a (Byte (residue UChar (next vs)) ∷ [])))
-      (either_alike d (bytes_eq m (codes "printf")) _ _ _ _ (oa_gives (Integer (converted Int (pos (length (printed_bytes vs))))) (emit (map Byte (printed_bytes vs)) w) s tt refl (with_events w s a (map Byte (printed_bytes vs))))
+      (either_alike d (bytes_eq m (codes "putchar")) _ _ _ _ (oa_gives (Integer (pos (residue UChar (next vs))))
+      (emit (Byte (residue UChar (next vs)) ∷ []) w) s tt refl (with_events w s a (Byte (residue UChar (next vs)) ∷ [])))
+      (either_alike d (bytes_eq m (codes "printf")) _ _ _ _ (oa_gives (Integer (converted Int (pos (length (printed_bytes vs)))))
+      (emit (map Byte (printed_bytes vs)) w) s tt refl (with_events w s a (map Byte (printed_bytes vs))))
       (either_alike d (bytes_eq m (codes "exit")) _ _ _ _ (oa_exits (converted Int (next vs)) w s)
       (either_alike d (bytes_eq m (codes "abort")) _ _ _ _ (oa_traps Trap.Abort w s)
       (answered_alike (emit called w) s (with_events w s a called) h.result w.answers)))))

@@ -50,7 +50,8 @@ mutual
 
   unguarded_core_in : (c : Sections) (w : Follow) → EverywhereIn IsUnguarded c → core_sections c w ≡ c
   unguarded_core_in NoSection w h = refl
-  unguarded_core_in (Section cases default a ends c) w h = ap₂ (λ a c. Section cases default a ends c) (unguarded_core a (after_section ends c w) h.0) (unguarded_core_in c w h.1)
+  unguarded_core_in (Section cases default a ends c) w h = ap₂ (λ a c. Section cases default a ends c) (unguarded_core a (after_section ends c w) h.0)
+      (unguarded_core_in c w h.1)
 
 -- ---- lists
 
@@ -82,13 +83,15 @@ module _ (s : Setting) where
     test_unguarded : (e : ExpressionTree) → Everywhere IsUnguarded (test_for s.number kind v names e)
     test_unguarded e = at (case_number kind e)
       where
-        at : (o : Option ℤ) → Everywhere IsUnguarded (option_map_or (λ n. one (If (Source (is_number kind v (s.number kind n))) (one (Goto (names (Some e)))) Nil)) o Nil)
+        at : (o : Option ℤ) → Everywhere IsUnguarded
+            (option_map_or (λ n. one (If (Source (is_number kind v (s.number kind n))) (one (Goto (names (Some e)))) Nil)) o Nil)
         at None = tt
         at (Some n) = ((tt, (tt, tt), tt), tt)
 
     tests_for_unguarded : (es : List ExpressionTree) → Everywhere IsUnguarded (tests_for s.number kind v names es)
     tests_for_unguarded [] = tt
-    tests_for_unguarded (e ∷ es) = join_unguarded (test_for s.number kind v names e) (tests_for s.number kind v names es) (test_unguarded e) (tests_for_unguarded es)
+    tests_for_unguarded (e ∷ es) = join_unguarded (test_for s.number kind v names e) (tests_for s.number kind v names es) (test_unguarded e)
+        (tests_for_unguarded es)
 
     mutual
       tests_unguarded : (a : Forest) → Everywhere IsUnguarded (tests s.number kind v names a)
@@ -108,7 +111,8 @@ module _ (s : Setting) where
     tests_among_unguarded : (d : Sections) → Everywhere IsUnguarded (tests_among s.number kind v names d)
     tests_among_unguarded NoSection = tt
     tests_among_unguarded (Section cases default a ends d) =
-        join_unguarded (tests_for s.number kind v names cases) (join (tests s.number kind v names a) (tests_among s.number kind v names d)) (tests_for_unguarded cases)
+        join_unguarded (tests_for s.number kind v names cases) (join (tests s.number kind v names a) (tests_among s.number kind v names d))
+        (tests_for_unguarded cases)
         (join_unguarded (tests s.number kind v names a) (tests_among s.number kind v names d) (tests_unguarded a) (tests_among_unguarded d))
 
   -- ---- the first
@@ -184,13 +188,21 @@ module _ (s : Setting) where
     new_unguarded_in (lo_while t b' c' {a' = a'} i fa) = ((tt, join_unguarded a' (mark_of c') (new_unguarded fa) (mark_unguarded c')), mark_unguarded b')
     new_unguarded_in (lo_do t b' c' {a' = a'} i fa) = ((tt, join_unguarded a' (mark_of c') (new_unguarded fa) (mark_unguarded c')), mark_unguarded b')
     new_unguarded_in (lo_for t u b' c' {i' = i'} {a' = a'} i j fi fa) =
-        join_unguarded i' (Then (For Nil t u (join a' (mark_of c'))) (mark_of b')) (new_unguarded fi) ((tt, tt, join_unguarded a' (mark_of c') (new_unguarded fa) (mark_unguarded c')), mark_unguarded b')
+        join_unguarded i' (Then (For Nil t u (join a' (mark_of c'))) (mark_of b')) (new_unguarded fi)
+        ((tt, tt, join_unguarded a' (mark_of c') (new_unguarded fa) (mark_unguarded c')), mark_unguarded b')
     new_unguarded_in (lo_for_while t u b' c' {i' = i'} {a' = a'} n i j fi fa) =
-        join_unguarded i' (Then (While (Source (test_or_one t)) (with_third a' c' u)) (mark_of b')) (new_unguarded fi)
-        ((tt, join_unguarded a' (join (mark_of c') (third_items u)) (new_unguarded fa) (join_unguarded (mark_of c') (third_items u) (mark_unguarded c') (third_unguarded u))), mark_unguarded b')
+        join_unguarded i' (Then (While (Source (test_or_one t)) (with_third a' c' u)) (mark_of b')) (new_unguarded fi) (
+          (
+            tt,
+            join_unguarded a' (join (mark_of c') (third_items u)) (new_unguarded fa)
+                (join_unguarded (mark_of c') (third_items u) (mark_unguarded c') (third_unguarded u)),
+          ),
+          mark_unguarded b',
+        )
     new_unguarded_in (lo_block fa) = new_unguarded fa
     new_unguarded_in (lo_keep_block fa) = ((tt, new_unguarded fa), tt)
-    new_unguarded_in (lo_keep_for t u b' c' {a' = a'} z i j fi fa) = ((tt, new_unguarded fi, join_unguarded a' (mark_of c') (new_unguarded fa) (mark_unguarded c')), mark_unguarded b')
+    new_unguarded_in (lo_keep_for t u b' c' {a' = a'} z i j fi fa) =
+        ((tt, new_unguarded fi, join_unguarded a' (mark_of c') (new_unguarded fa) (mark_unguarded c')), mark_unguarded b')
     new_unguarded_in (lo_keep_declares x) = (tt, tt)
     new_unguarded_in (lo_keep_local x es b i) = (tt, tt)
     new_unguarded_in (lo_array k x es m i c t) = cells_unguarded k x 0 es m
@@ -220,11 +232,14 @@ module _ (s : Setting) where
 
     new_unguarded_spread : {m : Mode} {b c : Aim} {names : Names} {d : Sections} {ys : Forest} → Spread s m b c names d ys → Everywhere IsUnguarded ys
     new_unguarded_spread {b = b} ls_none = mark_unguarded b
-    new_unguarded_spread {names = names} (ls_last cases default {xs' = xs'} fa) = join_unguarded (case_marks names cases default) xs' (marks_unguarded names cases default) (new_unguarded fa)
+    new_unguarded_spread {names = names} (ls_last cases default {xs' = xs'} fa) =
+        join_unguarded (case_marks names cases default) xs' (marks_unguarded names cases default) (new_unguarded fa)
     new_unguarded_spread {names = names} (ls_falls cases default {xs' = xs'} {ys = ys} fa fs) =
-        join_unguarded (case_marks names cases default) (join xs' ys) (marks_unguarded names cases default) (join_unguarded xs' ys (new_unguarded fa) (new_unguarded_spread fs))
+        join_unguarded (case_marks names cases default) (join xs' ys) (marks_unguarded names cases default)
+        (join_unguarded xs' ys (new_unguarded fa) (new_unguarded_spread fs))
     new_unguarded_spread {names = names} (ls_ends l cases default {xs' = xs'} {ys = ys} fa fs) =
-        join_unguarded (case_marks names cases default) (join xs' (Then (Goto l) ys)) (marks_unguarded names cases default) (join_unguarded xs' (Then (Goto l) ys) (new_unguarded fa) (tt, new_unguarded_spread fs))
+        join_unguarded (case_marks names cases default) (join xs' (Then (Goto l) ys)) (marks_unguarded names cases default)
+        (join_unguarded xs' (Then (Goto l) ys) (new_unguarded fa) (tt, new_unguarded_spread fs))
 
 -- ---- functions
 

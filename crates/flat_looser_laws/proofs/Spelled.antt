@@ -65,9 +65,15 @@ less_long n h =
 
 -- a negative number of a signed kind, which is the least one or not
 module _ (k : IntKind) (n : ℕ) (minus : int_le (negsuc n) (least k) ≡ false → unary_result Minus k (pos (suc n)) ≡ Ok (negsuc n))
-    (less : int_le (negsuc n) (least k) ≡ true → (unary_result Minus k (greatest k) ≡ Ok (neg_ℤ (greatest k))) × (binary_result (Arith Sub) k k (neg_ℤ (greatest k)) (pos 1) ≡ Ok (negsuc n))) where
-  negative : (b : Bool) → int_le (negsuc n) (least k) ≡ b → IsNumber (cond b (least_constant k) (Typed (Some k) (Unary Minus (number k (pos (suc n)))))) k (negsuc n)
-  negative true e = let h = less e in record { kind = refl; spelled = sp_binary Sub (Some k) (sp_unary Minus (Some k) (sp_number (Some k) (greatest k)) h.0) (sp_number (Some k) (pos 1)) h.1 }
+    (less : int_le (negsuc n) (least k) ≡ true → (unary_result Minus k (greatest k) ≡ Ok (neg_ℤ (greatest k))) ×
+    (binary_result (Arith Sub) k k (neg_ℤ (greatest k)) (pos 1) ≡ Ok (negsuc n))) where
+  negative : (b : Bool) → int_le (negsuc n) (least k) ≡ b → IsNumber
+      (cond b (least_constant k) (Typed (Some k) (Unary Minus (number k (pos (suc n)))))) k (negsuc n)
+  negative true e = let h = less e in record {
+    kind = refl;
+    spelled = sp_binary Sub (Some k)
+        (sp_unary Minus (Some k) (sp_number (Some k) (greatest k)) h.0) (sp_number (Some k) (pos 1)) h.1;
+  }
   negative false e = record { kind = refl; spelled = sp_unary Minus (Some k) (sp_number (Some k) (pos (suc n))) (minus e) }
 
   pub as_negative : IsNumber (constant k (negsuc n)) k (negsuc n)
@@ -85,11 +91,13 @@ is_spelled Char (negsuc n) r =
 is_spelled Int (negsuc n) r =
     let l = r.from_least in
     as_negative Int n (λ e. minus_int (suc n) (grind (arith, ints, e, l)))
-    (λ e. let i : n ≡ 2147483647 = grind (arith, ints, e, l) in (minus_int 2147483647 (omega arith), less_int 2147483647 (omega arith) ∙ ap (λ m. Ok (negsuc m)) (sym i)))
+    (λ e. let i : n ≡ 2147483647 = grind (arith, ints, e, l) in
+    (minus_int 2147483647 (omega arith), less_int 2147483647 (omega arith) ∙ ap (λ m. Ok (negsuc m)) (sym i)))
 is_spelled Long (negsuc n) r =
     let l = r.from_least in
     as_negative Long n (λ e. minus_long (suc n) (grind (arith, ints, e, l)))
-    (λ e. let i : n ≡ 9223372036854775807 = grind (arith, ints, e, l) in (minus_long 9223372036854775807 (omega arith), less_long 9223372036854775807 (omega arith) ∙ ap (λ m. Ok (negsuc m)) (sym i)))
+    (λ e. let i : n ≡ 9223372036854775807 = grind (arith, ints, e, l) in
+    (minus_long 9223372036854775807 (omega arith), less_long 9223372036854775807 (omega arith) ∙ ap (λ m. Ok (negsuc m)) (sym i)))
 is_spelled UChar (negsuc n) r = absurd (no_negative UChar n refl r refl)
 is_spelled UInt (negsuc n) r = absurd (no_negative UInt n refl r refl)
 is_spelled ULong (negsuc n) r = absurd (no_negative ULong n refl r refl)

@@ -72,15 +72,18 @@ no_zeros k n cells = ap (Holds k (Some n)) (fun_ext (λ j. at j (nat_lt j n)))
     at j true = refl
     at j false = refl
 
-one_zero : (k : IntKind) (n i : ℕ) (cells : ℕ → ℤ) → i < n → with_zeros (suc i) (with_number i (pos 0) (Holds k (Some n) cells)) ≡ with_zeros i (Holds k (Some n) cells)
+one_zero : (k : IntKind) (n i : ℕ) (cells : ℕ → ℤ) → i < n → with_zeros (suc i) (with_number i (pos 0) (Holds k (Some n) cells)) ≡ with_zeros i
+    (Holds k (Some n) cells)
 one_zero k n i cells l = ap (Holds k (Some n)) (fun_ext (λ j. at j (eqb i j) refl))
   where
-    at : (j : ℕ) (b : Bool) → eqb i j ≡ b → cond (nat_lt j (suc i)) (cond b (converted k (pos 0)) (cells j)) (cond (nat_lt j n) (pos 0) (cond b (converted k (pos 0)) (cells j))) ≡ cond (nat_lt j i) (cells j) (cond (nat_lt j n) (pos 0) (cells j))
+    at : (j : ℕ) (b : Bool) → eqb i j ≡ b → cond (nat_lt j (suc i)) (cond b (converted k (pos 0)) (cells j))
+        (cond (nat_lt j n) (pos 0) (cond b (converted k (pos 0)) (cells j))) ≡ cond (nat_lt j i) (cells j) (cond (nat_lt j n) (pos 0) (cells j))
     at j true e =
         let d : i ≡ j = eqb-true i j e in
         ap (λ b. cond b (converted k (pos 0)) (cond (nat_lt j n) (pos 0) (converted k (pos 0)))) (lt_true j (suc i) (omega (arith, d)))
         ∙ zero_converted k
-        ∙ sym (ap (λ b. cond b (cells j) (cond (nat_lt j n) (pos 0) (cells j))) (lt_false j i (omega (arith, d))) ∙ ap (λ b. cond b (pos 0) (cells j)) (lt_true j n (omega (arith, d, l))))
+        ∙ sym (ap (λ b. cond b (cells j) (cond (nat_lt j n) (pos 0) (cells j))) (lt_false j i (omega (arith, d))) ∙
+        ap (λ b. cond b (pos 0) (cells j)) (lt_true j n (omega (arith, d, l))))
     at j false e = ap (λ b. cond b (cells j) (cond (nat_lt j n) (pos 0) (cells j))) (same j e)
       where
         same : (j : ℕ) → eqb i j ≡ false → nat_lt j (suc i) ≡ nat_lt j i
@@ -88,32 +91,42 @@ one_zero k n i cells l = ap (Holds k (Some n)) (fun_ext (λ j. at j (eqb i j) re
 
 module _ (q : Code) (f : List ℕ) (g : Guards) (cs : List Frame) where
   -- to the place of an assignment
-  pub number_place : (w : World) (k : IntKind) (x : ℕ) (e : ExpressionTree) (kd : IntKind) (cells : ℕ → ℤ) (K : List Task) → w.variables (OfCall w.calls x) ≡ Holds kd None cells
-      → Reach q SafeAt (At f g (Runs (Evaluate (assign_number k x e)) ∷ K) [] cs w) (At f g (Works (Computes e) ∷ Works Stores ∷ Works Drops ∷ K) (Designates (OfCall w.calls x) 0 ∷ []) cs w)
+  pub number_place : (w : World) (k : IntKind) (x : ℕ) (e : ExpressionTree) (kd : IntKind) (cells : ℕ → ℤ) (K : List Task) →
+      w.variables (OfCall w.calls x) ≡ Holds kd None cells
+      → Reach q SafeAt (At f g (Runs (Evaluate (assign_number k x e)) ∷ K) [] cs w)
+      (At f g (Works (Computes e) ∷ Works Stores ∷ Works Drops ∷ K) (Designates (OfCall w.calls x) 0 ∷ []) cs w)
   number_place w k x e kd cells K held =
       let o : owner (H.Slot x) w ≡ OfCall w.calls x = ap (holder (OfCall w.calls x)) held in
       more tt (more tt (more tt (turn q f g cs w (ap (λ z. At f g (Works (Computes e) ∷ Works Stores ∷ Works Drops ∷ K) (Designates z 0 ∷ []) cs w) o) stay)))
 
-  pub cell_place : (w : World) (k : IntKind) (x i n : ℕ) (e : ExpressionTree) (kd : IntKind) (cells : ℕ → ℤ) (K : List Task) → w.variables (OfCall w.calls x) ≡ Holds kd (Some n) cells → i < n
-      → Reach q SafeAt (At f g (Runs (Evaluate (assign_cell k x i e)) ∷ K) [] cs w) (At f g (Works (Computes e) ∷ Works Stores ∷ Works Drops ∷ K) (Designates (OfCall w.calls x) i ∷ []) cs w)
+  pub cell_place : (w : World) (k : IntKind) (x i n : ℕ) (e : ExpressionTree) (kd : IntKind) (cells : ℕ → ℤ) (K : List Task) →
+      w.variables (OfCall w.calls x) ≡ Holds kd (Some n) cells → i < n
+      → Reach q SafeAt (At f g (Runs (Evaluate (assign_cell k x i e)) ∷ K) [] cs w)
+      (At f g (Works (Computes e) ∷ Works Stores ∷ Works Drops ∷ K) (Designates (OfCall w.calls x) i ∷ []) cs w)
   cell_place w k x i n e kd cells K held b =
       let o : owner (H.Slot x) w ≡ OfCall w.calls x = ap (holder (OfCall w.calls x)) held in
       let c : cell (H.Slot x) (pos i) w ≡ Gives (Designates (OfCall w.calls x) i) w =
       ap (λ z. cell_of z (pos i) w) o ∙ ap (λ v. cond (nat_lt i (cells_held v)) (Gives (Designates (OfCall w.calls x) i) w) (Traps Trap.Index w)) held
       ∙ ap (λ y. cond y (Gives (Designates (OfCall w.calls x) i) w) (Traps Trap.Index w)) (lt_true i n b) in
-      more tt (more tt (more tt (more tt (more tt (turn q f g cs w (ap (λ z. perform q (left z []) f g (Works (Computes e) ∷ Works Stores ∷ Works Drops ∷ K) cs) c) stay)))))
+      more tt (more tt (more tt (more tt
+      (more tt (turn q f g cs w (ap (λ z. perform q (left z []) f g (Works (Computes e) ∷ Works Stores ∷ Works Drops ∷ K) cs) c) stay)))))
 
-  one_cell : (w : World) (k : IntKind) (x i n : ℕ) (kd : IntKind) (cells : ℕ → ℤ) (K : List Task) → w.variables (OfCall w.calls x) ≡ Holds kd (Some n) cells → i < n
-      → Reach q SafeAt (At f g (Runs (Evaluate (assign_cell k x i zero_tree)) ∷ K) [] cs w) (At f g K [] cs (over (put (OfCall w.calls x) (with_number i (pos 0) (w.variables (OfCall w.calls x))) w.variables) w))
+  one_cell : (w : World) (k : IntKind) (x i n : ℕ) (kd : IntKind) (cells : ℕ → ℤ) (K : List Task) →
+      w.variables (OfCall w.calls x) ≡ Holds kd (Some n) cells → i < n
+      → Reach q SafeAt (At f g (Runs (Evaluate (assign_cell k x i zero_tree)) ∷ K) [] cs w)
+      (At f g K [] cs (over (put (OfCall w.calls x) (with_number i (pos 0) (w.variables (OfCall w.calls x))) w.variables) w))
   one_cell w k x i n kd cells K held b = reach_on (cell_place w k x i n zero_tree kd cells K held b) (more tt (more tt (more tt stay)))
 
   -- zeros from cell i on
-  pub zero_cells : (w : World) (k : IntKind) (x i m n : ℕ) (kd : IntKind) (cells : ℕ → ℤ) (K : List Task) → i + m ≡ n → w.variables (OfCall w.calls x) ≡ Holds kd (Some n) cells
-      → Reach q SafeAt (At f g (items (assigned_cells k x i [] m) K) [] cs w) (At f g K [] cs (over (put (OfCall w.calls x) (with_zeros i (w.variables (OfCall w.calls x))) w.variables) w))
+  pub zero_cells : (w : World) (k : IntKind) (x i m n : ℕ) (kd : IntKind) (cells : ℕ → ℤ) (K : List Task) → i + m ≡ n →
+      w.variables (OfCall w.calls x) ≡ Holds kd (Some n) cells
+      → Reach q SafeAt (At f g (items (assigned_cells k x i [] m) K) [] cs w)
+      (At f g K [] cs (over (put (OfCall w.calls x) (with_zeros i (w.variables (OfCall w.calls x))) w.variables) w))
   zero_cells w k x i zero n kd cells K e held =
       let o = OfCall w.calls x in
       let d : i ≡ n = omega (arith, e) in
-      let z : with_zeros i (w.variables o) ≡ w.variables o = ap (λ j. with_zeros j (w.variables o)) d ∙ ap (with_zeros n) held ∙ no_zeros kd n cells ∙ sym held in
+      let z : with_zeros i (w.variables o) ≡ w.variables o = ap (λ j. with_zeros j (w.variables o)) d ∙ ap (with_zeros n) held ∙ no_zeros kd n cells ∙
+      sym held in
       turn q f g cs w (ap (λ s. At f g K [] cs (over s w)) (sym (ap (λ v. put o v w.variables) z ∙ put_same o w.variables))) stay
   zero_cells w k x i (suc m) n kd cells K e held =
       let o = OfCall w.calls x in
@@ -122,6 +135,8 @@ module _ (q : Code) (f : List ℕ) (g : Guards) (cs : List Frame) where
       let s1 = put o v1 w.variables in
       let h1 : s1 o ≡ with_number i (pos 0) (Holds kd (Some n) cells) = put_here o v1 w.variables ∙ ap (with_number i (pos 0)) held in
       let z : with_zeros (suc i) (s1 o) ≡ with_zeros i (w.variables o) = ap (with_zeros (suc i)) h1 ∙ one_zero kd n i cells l ∙ ap (with_zeros i) (sym held) in
-      let s : put o (with_zeros (suc i) (s1 o)) s1 ≡ put o (with_zeros i (w.variables o)) w.variables = put_twice o v1 (with_zeros (suc i) (s1 o)) w.variables ∙ ap (λ v. put o v w.variables) z in
+      let s : put o (with_zeros (suc i) (s1 o)) s1 ≡ put o (with_zeros i (w.variables o)) w.variables =
+      put_twice o v1 (with_zeros (suc i) (s1 o)) w.variables ∙ ap (λ v. put o v w.variables) z in
       reach_on (one_cell w k x i n kd cells (items (assigned_cells k x (suc i) [] m) K) held l)
-      (turned q f g cs w (zero_cells (over s1 w) k x (suc i) m n kd (λ j. cond (eqb i j) (converted kd (pos 0)) (cells j)) K (omega (arith, e)) h1) (ap (λ s. At f g K [] cs (over s w)) s))
+      (turned q f g cs w (zero_cells (over s1 w) k x (suc i) m n kd (λ j. cond (eqb i j) (converted kd (pos 0)) (cells j)) K (omega (arith, e)) h1)
+      (ap (λ s. At f g K [] cs (over s w)) s))

@@ -41,10 +41,12 @@ usual_promoted Long = refl
 usual_promoted ULong = refl
 
 -- two numbers of a promoted kind are compared as they are
-compared : (j : IntKind) (x y : ℤ) → binary_result Equal (promoted j) (promoted j) (converted (promoted j) x) (converted (promoted j) y) ≡ Ok (truth (int_eq (converted (promoted j) x) (converted (promoted j) y)))
+compared : (j : IntKind) (x y : ℤ) → binary_result Equal (promoted j) (promoted j) (converted (promoted j) x) (converted (promoted j) y) ≡ Ok
+    (truth (int_eq (converted (promoted j) x) (converted (promoted j) y)))
 compared j x y =
     let k = promoted j in
-    ap₂ (λ a b. Ok (truth (int_eq a b))) (ap (λ i. converted i (converted k x)) (usual_promoted j) ∙ converted_twice k x) (ap (λ i. converted i (converted k y)) (usual_promoted j) ∙ converted_twice k y)
+    ap₂ (λ a b. Ok (truth (int_eq a b))) (ap (λ i. converted i (converted k x)) (usual_promoted j) ∙ converted_twice k x)
+    (ap (λ i. converted i (converted k y)) (usual_promoted j) ∙ converted_twice k y)
 
 module _ (q : Code) (f : List ℕ) (g : Guards) (cs : List Frame) (w : World) where
   abbrev pub at : List Task → List Value → State
@@ -74,7 +76,8 @@ module _ (q : Code) (f : List ℕ) (g : Guards) (cs : List Frame) (w : World) wh
 
   module _ (v : ℕ) (kind : IntKind) (cells : ℕ → ℤ) (n : ℤ) (held : w.variables (OfCall w.calls v) ≡ Holds kind None cells) (is : cells 0 ≡ n) where
     -- the variable that keeps the selector
-    reads : (j : Option IntKind) (k : List Task) (u : List Value) → RunsTo (at (Works (Computes (Typed j (Read (Var (H.Slot v))))) ∷ k) u) (at k (Integer n ∷ u))
+    reads : (j : Option IntKind) (k : List Task) (u : List Value) → RunsTo (at (Works (Computes (Typed j (Read (Var (H.Slot v))))) ∷ k) u)
+        (at k (Integer n ∷ u))
     reads j k u =
         let o : owner (H.Slot v) w ≡ OfCall w.calls v = ap (holder (OfCall w.calls v)) held in
         more tt (more tt (turn (ap (λ z. at (Works Loads ∷ k) (Designates z 0 ∷ u)) o) (more tt
@@ -88,16 +91,20 @@ module _ (q : Code) (f : List ℕ) (g : Guards) (cs : List Frame) (w : World) wh
       jumps : (m : ℕ) (k : List Task) → RunsTo (here (Runs (Goto m) ∷ k)) (here (find m (items_of (q.functions f))))
       jumps m k = more tt stay
 
-      equal : (i : Option IntKind) (y : ℤ) → i ≡ Some (promoted j) → binary_result Equal (operand_kind (Some (promoted j))) (operand_kind i) n (converted (promoted j) y) ≡ Ok (truth (int_eq n (converted (promoted j) y)))
+      equal : (i : Option IntKind) (y : ℤ) → i ≡ Some (promoted j) → binary_result Equal (operand_kind (Some (promoted j))) (operand_kind i) n
+          (converted (promoted j) y) ≡ Ok (truth (int_eq n (converted (promoted j) y)))
       equal i y e =
           ap (λ i. binary_result Equal (promoted j) (operand_kind i) n (converted (promoted j) y)) e
-          ∙ subst (λ n. binary_result Equal (promoted j) (promoted j) n (converted (promoted j) y) ≡ Ok (truth (int_eq n (converted (promoted j) y)))) (sym nk) (compared j x y)
+          ∙ subst (λ n. binary_result Equal (promoted j) (promoted j) n (converted (promoted j) y) ≡ Ok (truth (int_eq n (converted (promoted j) y))))
+          (sym nk) (compared j x y)
 
       branch : (b : Bool) (m : ℕ) (k : List Task) → RunsTo (here (cond (holds (Integer (truth b))) (Runs (Goto m) ∷ k) k)) (here (cond b (Runs (Goto m) ∷ k) k))
       branch true m k = stay
       branch false m k = stay
 
-      one_test : (y : ℤ) (m : ℕ) (k : List Task) → RunsTo (here (Runs (If (Source (is_number (promoted j) v (number (promoted j) (converted (promoted j) y)))) (one (Goto m)) Nil) ∷ k)) (here (cond (int_eq n (converted (promoted j) y)) (Runs (Goto m) ∷ k) k))
+      one_test : (y : ℤ) (m : ℕ) (k : List Task) → RunsTo
+          (here (Runs (If (Source (is_number (promoted j) v (number (promoted j) (converted (promoted j) y)))) (one (Goto m)) Nil) ∷ k))
+          (here (cond (int_eq n (converted (promoted j) y)) (Runs (Goto m) ∷ k) k))
       one_test y m k =
           let c = number (promoted j) (converted (promoted j) y) in
           let h = numbers (promoted j) y in
@@ -105,7 +112,8 @@ module _ (q : Code) (f : List ℕ) (g : Guards) (cs : List Frame) (w : World) wh
           let marks = Works (AppliesBinary Equal (Some (promoted j)) (kind_of c)) ∷ rest in
           more tt (more tt (more tt (reach_on (reads (Some (promoted j)) (Works (Computes c) ∷ marks) [])
           (reach_on (spelled h.spelled marks (Integer n ∷ []))
-          (more tt (reach_on (given (binary_result Equal (operand_kind (Some (promoted j))) (operand_kind (kind_of c)) n (converted (promoted j) y)) (truth (int_eq n (converted (promoted j) y))) rest [] (equal (kind_of c) y h.kind))
+          (more tt (reach_on (given (binary_result Equal (operand_kind (Some (promoted j))) (operand_kind (kind_of c)) n (converted (promoted j) y))
+          (truth (int_eq n (converted (promoted j) y))) rest [] (equal (kind_of c) y h.kind))
           (more tt (branch (int_eq n (converted (promoted j) y)) m k))))))))
 
       -- the tests of some labels go to the one that is wanted, or past them
@@ -127,28 +135,37 @@ module _ (q : Code) (f : List ℕ) (g : Guards) (cs : List Frame) (w : World) wh
       goes_one : (e : ExpressionTree) (k : List Task) → GoesTo (label_if (is_case (promoted j) n e) (names (Some e))) (test_for number (promoted j) v names e) k
       goes_one e k = at_value (constant_value e)
         where
-          at_test : (b : Bool) (y : ℤ) → int_eq n (converted (promoted j) y) ≡ b → GoesTo (label_if b (names (Some e))) (one (If (Source (is_number (promoted j) v (number (promoted j) (converted (promoted j) y)))) (one (Goto (names (Some e)))) Nil)) k
-          at_test true y h = reach_on (turned (one_test y (names (Some e)) k) (ap (λ b. here (cond b (Runs (Goto (names (Some e))) ∷ k) k)) h)) (jumps (names (Some e)) k)
+          at_test : (b : Bool) (y : ℤ) → int_eq n (converted (promoted j) y) ≡ b →
+              GoesTo (label_if b (names (Some e)))
+              (one (If (Source (is_number (promoted j) v (number (promoted j) (converted (promoted j) y)))) (one (Goto (names (Some e)))) Nil)) k
+          at_test true y h = reach_on (turned (one_test y (names (Some e)) k) (ap (λ b. here (cond b (Runs (Goto (names (Some e))) ∷ k) k)) h))
+              (jumps (names (Some e)) k)
           at_test false y h = turned (one_test y (names (Some e)) k) (ap (λ b. here (cond b (Runs (Goto (names (Some e))) ∷ k) k)) h)
 
           at_value : (o : Option ℤ) → GoesTo (label_if (option_map_or (int_eq n) (option_map (converted (promoted j)) o) false) (names (Some e)))
-              (option_map_or (λ z. one (If (Source (is_number (promoted j) v (number (promoted j) z))) (one (Goto (names (Some e)))) Nil)) (option_map (converted (promoted j)) o) Nil) k
+              (option_map_or (λ z. one (If (Source (is_number (promoted j) v (number (promoted j) z))) (one (Goto (names (Some e)))) Nil))
+              (option_map (converted (promoted j)) o) Nil) k
           at_value None = nothing k
           at_value (Some y) = at_test (int_eq n (converted (promoted j) y)) y refl
 
-      goes_cases : (es : List ExpressionTree) (default : Bool) (k : List Task) → GoesTo (wanted_case goal names es default) (tests_for number (promoted j) v names es) k
+      goes_cases : (es : List ExpressionTree) (default : Bool) (k : List Task) →
+          GoesTo (wanted_case goal names es default) (tests_for number (promoted j) v names es) k
       goes_cases [] true k = nothing k
       goes_cases [] false k = nothing k
       goes_cases (e ∷ es) default k =
-          goes_join (label_if (is_case (promoted j) n e) (names (Some e))) (wanted_case goal names es default) (test_for number (promoted j) v names e) (tests_for number (promoted j) v names es) k (goes_one e (items (tests_for number (promoted j) v names es) k)) (goes_cases es default k)
+          goes_join (label_if (is_case (promoted j) n e) (names (Some e))) (wanted_case goal names es default)
+          (test_for number (promoted j) v names e) (tests_for number (promoted j) v names es) k
+          (goes_one e (items (tests_for number (promoted j) v names es) k)) (goes_cases es default k)
 
       mutual
         goes : (a : Forest) (k : List Task) → GoesTo (wanted goal names a) (tests number (promoted j) v names a) k
         goes Nil k = nothing k
-        goes (Then y a) k = goes_join (wanted_in goal names y) (wanted goal names a) (tests_in number (promoted j) v names y) (tests number (promoted j) v names a) k (goes_in y (items (tests number (promoted j) v names a) k)) (goes a k)
+        goes (Then y a) k = goes_join (wanted_in goal names y) (wanted goal names a) (tests_in number (promoted j) v names y)
+            (tests number (promoted j) v names a) k (goes_in y (items (tests number (promoted j) v names a) k)) (goes a k)
 
         goes_in : (y : Tree) (k : List Task) → GoesTo (wanted_in goal names y) (tests_in number (promoted j) v names y) k
-        goes_in (If t a b) k = goes_join (wanted goal names a) (wanted goal names b) (tests number (promoted j) v names a) (tests number (promoted j) v names b) k (goes a (items (tests number (promoted j) v names b) k)) (goes b k)
+        goes_in (If t a b) k = goes_join (wanted goal names a) (wanted goal names b) (tests number (promoted j) v names a)
+            (tests number (promoted j) v names b) k (goes a (items (tests number (promoted j) v names b) k)) (goes b k)
         goes_in (While t a) k = goes a k
         goes_in (Do a t) k = goes a k
         goes_in (For i t u a) k = goes a k
@@ -171,6 +188,8 @@ module _ (q : Code) (f : List ℕ) (g : Guards) (cs : List Frame) (w : World) wh
       pub goes_among : (d : Sections) (k : List Task) → GoesTo (wanted_among goal names d) (tests_among number (promoted j) v names d) k
       goes_among NoSection k = nothing k
       goes_among (Section cases default a ends d) k =
-          goes_join (wanted_case goal names cases default) (or_else (wanted goal names a) (wanted_among goal names d)) (tests_for number (promoted j) v names cases) (join (tests number (promoted j) v names a) (tests_among number (promoted j) v names d)) k
+          goes_join (wanted_case goal names cases default) (or_else (wanted goal names a) (wanted_among goal names d))
+          (tests_for number (promoted j) v names cases) (join (tests number (promoted j) v names a) (tests_among number (promoted j) v names d)) k
           (goes_cases cases default (items (join (tests number (promoted j) v names a) (tests_among number (promoted j) v names d)) k))
-          (goes_join (wanted goal names a) (wanted_among goal names d) (tests number (promoted j) v names a) (tests_among number (promoted j) v names d) k (goes a (items (tests_among number (promoted j) v names d) k)) (goes_among d k))
+          (goes_join (wanted goal names a) (wanted_among goal names d) (tests number (promoted j) v names a)
+          (tests_among number (promoted j) v names d) k (goes a (items (tests_among number (promoted j) v names d) k)) (goes_among d k))

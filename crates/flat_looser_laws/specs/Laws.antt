@@ -15,7 +15,8 @@ use Rattle.flat_looser_laws.specs.Loose.{LooserCode, LooserTops}
 
 -- where a program is steady, one of which each function is the same or looser is steady too and behaves the same
 pub record LooseLaws : Type 0 where
-  pub of_codes : (p q : Code) → ((m : List ℕ) → HoldsNumbers (p.globals m)) → HasMadeBodies p → HasMadeBodies q → LooserCode p q → IsSteadyCode p → IsSteadyCode q × SameBehaviour p q
+  pub of_codes : (p q : Code) → ((m : List ℕ) → HoldsNumbers (p.globals m)) → HasMadeBodies p → HasMadeBodies q → LooserCode p q → IsSteadyCode p →
+      IsSteadyCode q × SameBehaviour p q
   pub of_programs : (p q : Program) → IsProgramInRange q → All IsTopMadeWell q.tops → LooserTops p.tops q.tops → IsSteady p → IsSteady q × BehaveTheSame p q
   -- the constants that a dissolved switch compares with
   pub numbers : (k : IntKind) (z : ℤ) → IsNumber (constant k (converted k z)) k (converted k z)

@@ -99,28 +99,35 @@ mutual
     lo_return : {b c : Aim} {r : Arrivals} (e : ExpressionTree) → In s e → LooserItem s Open b c r (Return (Some e)) (one (Return (Some e)))
     lo_return_none : {b c : Aim} {r : Arrivals} → LooserItem s Open b c r (Return None) (one (Return None))
     lo_note : {b c : Aim} {r : Arrivals} (bs : List ℕ) → LooserItem s Open b c r (Note bs) (one (Note bs))
-    lo_if : {b c : Aim} {r : Arrivals} (t : ExpressionTree) {x x' y y' : Forest} → In s t → Looser s Open b c r x x' → Looser s Open b c r y y' → LooserItem s Open b c r (If (Source t) x y) (one (If (Source t) x' y'))
+    lo_if : {b c : Aim} {r : Arrivals} (t : ExpressionTree) {x x' y y' : Forest} → In s t → Looser s Open b c r x x' → Looser s Open b c r y y' →
+        LooserItem s Open b c r (If (Source t) x y) (one (If (Source t) x' y'))
     -- loops: the label of their `continue` stands last in the body, that of their `break` behind them
     lo_while : {b c : Aim} {r : Arrivals} (t : ExpressionTree) (b' c' : Aim) {a a' : Forest} → In s t → Looser s Open b' c' r a a'
         → LooserItem s Open b c r (While (Source t) a) (Then (While (Source t) (join a' (mark_of c'))) (mark_of b'))
     lo_do : {b c : Aim} {r : Arrivals} (t : ExpressionTree) (b' c' : Aim) {a a' : Forest} → In s t → Looser s Open b' c' r a a'
         → LooserItem s Open b c r (Do a (Source t)) (Then (Do (join a' (mark_of c')) (Source t)) (mark_of b'))
-    lo_for : {b c : Aim} {r : Arrivals} (t u : Option ExpressionTree) (b' c' : Aim) {i i' a a' : Forest} → IfSome t (In s) → IfSome u (In s) → Looser s Open b c NoArrival i i' → Looser s Open b' c' r a a'
+    lo_for : {b c : Aim} {r : Arrivals} (t u : Option ExpressionTree) (b' c' : Aim) {i i' a a' : Forest} → IfSome t (In s) → IfSome u (In s) →
+        Looser s Open b c NoArrival i i' → Looser s Open b' c' r a a'
         → LooserItem s Open b c r (For i t u a) (join i' (Then (For Nil t u (join a' (mark_of c'))) (mark_of b')))
     -- a `for` as a `while`
-    lo_for_while : {b c : Aim} {r : Arrivals} (t u : Option ExpressionTree) (b' c' : Aim) {i i' a a' : Forest} → IsMoved c' → IfSome t (In s) → IfSome u (In s) → Looser s Open b c NoArrival i i' → Looser s Open b' c' r a a'
+    lo_for_while : {b c : Aim} {r : Arrivals} (t u : Option ExpressionTree) (b' c' : Aim) {i i' a a' : Forest} → IsMoved c' → IfSome t (In s) →
+        IfSome u (In s) → Looser s Open b c NoArrival i i' → Looser s Open b' c' r a a'
         → LooserItem s Open b c r (For i t u a) (join i' (Then (While (Source (test_or_one t)) (with_third a' c' u)) (mark_of b')))
     -- blocks and declarations
     lo_block : {m : Mode} {b c : Aim} {r : Arrivals} {a a' : Forest} → Looser s m b c r a a' → LooserItem s m b c r (Block a) a'
     lo_declares : {b c : Aim} {r : Arrivals} (x : ℕ) → LooserItem s Open b c r (Local x None) Nil
-    lo_number : {b c : Aim} {r : Arrivals} (k : IntKind) (x : ℕ) (e : ExpressionTree) → IsLocal s x → (slot_of s x).cells ≡ None → In s e → LooserItem s Open b c r (Local x (Some (e ∷ []))) (one (Evaluate (assign_number k x e)))
-    lo_array : {b c : Aim} {r : Arrivals} (k : IntKind) (x : ℕ) (es : List ExpressionTree) (m : ℕ) → IsLocal s x → (slot_of s x).cells ≡ Some (length es + m) → AreIn s es → LooserItem s Open b c r (Local x (Some es)) (assigned_cells k x 0 es m)
+    lo_number : {b c : Aim} {r : Arrivals} (k : IntKind) (x : ℕ) (e : ExpressionTree) → IsLocal s x → (slot_of s x).cells ≡ None → In s e →
+        LooserItem s Open b c r (Local x (Some (e ∷ []))) (one (Evaluate (assign_number k x e)))
+    lo_array : {b c : Aim} {r : Arrivals} (k : IntKind) (x : ℕ) (es : List ExpressionTree) (m : ℕ) → IsLocal s x →
+        (slot_of s x).cells ≡ Some (length es + m) → AreIn s es → LooserItem s Open b c r (Local x (Some es)) (assigned_cells k x 0 es m)
     -- blocks, first parts and declarations that stay
     lo_keep_block : {b c : Aim} {r : Arrivals} {a a' : Forest} → Looser s Open b c r a a' → LooserItem s Open b c r (Block a) (one (Block a'))
-    lo_keep_for : {b c : Aim} {r : Arrivals} (t u : Option ExpressionTree) (b' c' : Aim) {i i' a a' : Forest} → IsUnlabelled i' → IfSome t (In s) → IfSome u (In s) → Looser s Open b c NoArrival i i' → Looser s Open b' c' r a a'
+    lo_keep_for : {b c : Aim} {r : Arrivals} (t u : Option ExpressionTree) (b' c' : Aim) {i i' a a' : Forest} → IsUnlabelled i' → IfSome t (In s) →
+        IfSome u (In s) → Looser s Open b c NoArrival i i' → Looser s Open b' c' r a a'
         → LooserItem s Open b c r (For i t u a) (Then (For i' t u (join a' (mark_of c'))) (mark_of b'))
     lo_keep_declares : {b c : Aim} {r : Arrivals} (x : ℕ) → LooserItem s Open b c r (Local x None) (one (Local x None))
-    lo_keep_local : {b c : Aim} {r : Arrivals} (x : ℕ) (es : List ExpressionTree) → x < length s.old → AreIn s es → LooserItem s Open b c r (Local x (Some es)) (one (Local x (Some es)))
+    lo_keep_local : {b c : Aim} {r : Arrivals} (x : ℕ) (es : List ExpressionTree) → x < length s.old → AreIn s es →
+        LooserItem s Open b c r (Local x (Some es)) (one (Local x (Some es)))
     -- exits
     lo_break : {c : Aim} {r : Arrivals} → LooserItem s Open Stays c r Break (one Break)
     lo_break_to : {c : Aim} {r : Arrivals} (l : ℕ) → LooserItem s Open (Becomes l) c r Break (one (Goto l))
@@ -133,24 +140,31 @@ mutual
     lo_drop : {b c : Aim} {r : Arrivals} (l : ℕ) → s.labels l ≡ None → LooserItem s Open b c r (Mark l) Nil
     lo_arrival : {b c : Aim} (names : Names) (e : Option ExpressionTree) → LooserItem s Open b c (Arrives names) (Arrival e) (one (Mark (names e)))
     -- a switch that stays, and one that is dissolved: into `v = e`, the tests of its cases, a goto, and its lists
-    lo_switch : {b c : Aim} {r : Arrivals} (e : ExpressionTree) (b' : Aim) {d d' : Sections} → In s e → LooserSections s b' c d d' → LooserItem s Open b c r (Switch (Selects e) d) (Then (Switch (Selects e) d') (mark_of b'))
-    lo_scatter : {m n : Mode} {b c : Aim} {r : Arrivals} (e : ExpressionTree) (b' : Aim) (names : Names) (v l : ℕ) {d : Sections} {ys : Forest} → In s e → IsMoved b' → Inner m n
-        → IsNew s v → (slot_of s v).cells ≡ None → (slot_of s v).kind ≡ switch_kind (Selects e) → IsOtherwise (wanted_among ToDefault names d) b' l → Spread s n b' c names d ys
+    lo_switch : {b c : Aim} {r : Arrivals} (e : ExpressionTree) (b' : Aim) {d d' : Sections} → In s e → LooserSections s b' c d d' →
+        LooserItem s Open b c r (Switch (Selects e) d) (Then (Switch (Selects e) d') (mark_of b'))
+    lo_scatter : {m n : Mode} {b c : Aim} {r : Arrivals} (e : ExpressionTree) (b' : Aim) (names : Names) (v l : ℕ) {d : Sections} {ys : Forest} →
+        In s e → IsMoved b' → Inner m n
+        → IsNew s v → (slot_of s v).cells ≡ None → (slot_of s v).kind ≡ switch_kind (Selects e) → IsOtherwise (wanted_among ToDefault names d) b' l →
+        Spread s n b' c names d ys
         → LooserItem s m b c r (Switch (Selects e) d)
         (Then (Evaluate (assign_number (switch_kind (Selects e)) v e)) (join (tests_among s.number (switch_kind (Selects e)) v names d) (Then (Goto l) ys)))
 
   -- of a list
   pub data Looser (s : Setting) : Mode → Aim → Aim → Arrivals → Forest → Forest → Type 0 where
     la_nil : {b c : Aim} {r : Arrivals} → Looser s Open b c r Nil Nil
-    la_then : {m : Mode} {b c : Aim} {r : Arrivals} {x : Tree} {ys xs xs' : Forest} → LooserItem s Open b c r x ys → Looser s m b c r xs xs' → Looser s m b c r (Then x xs) (join ys xs')
-    la_last : {m : Mode} {b c : Aim} {r : Arrivals} {x : Tree} {ys xs : Forest} → IsLast m → LooserItem s m b c r x ys → AreGone s xs → Looser s m b c r (Then x xs) ys
+    la_then : {m : Mode} {b c : Aim} {r : Arrivals} {x : Tree} {ys xs xs' : Forest} → LooserItem s Open b c r x ys → Looser s m b c r xs xs' →
+        Looser s m b c r (Then x xs) (join ys xs')
+    la_last : {m : Mode} {b c : Aim} {r : Arrivals} {x : Tree} {ys xs : Forest} → IsLast m → LooserItem s m b c r x ys → AreGone s xs →
+        Looser s m b c r (Then x xs) ys
 
   -- of the sections of a switch that stays
   pub data LooserSections (s : Setting) : Aim → Aim → Sections → Sections → Type 0 where
     lc_none : {b c : Aim} → LooserSections s b c NoSection NoSection
-    lc_section : {b c : Aim} (cases : List ExpressionTree) (default ends : Bool) {xs xs' : Forest} {d d' : Sections} → Looser s Open b c NoArrival xs xs' → LooserSections s b c d d'
+    lc_section : {b c : Aim} (cases : List ExpressionTree) (default ends : Bool) {xs xs' : Forest} {d d' : Sections} →
+        Looser s Open b c NoArrival xs xs' → LooserSections s b c d d'
         → LooserSections s b c (Section cases default xs ends d) (Section cases default xs' ends d')
-    lc_ended : {b c : Aim} (cases : List ExpressionTree) (default ends : Bool) {xs xs' : Forest} {d d' : Sections} → Looser s Ended b c NoArrival xs xs' → LooserSections s b c d d'
+    lc_ended : {b c : Aim} (cases : List ExpressionTree) (default ends : Bool) {xs xs' : Forest} {d d' : Sections} →
+        Looser s Ended b c NoArrival xs xs' → LooserSections s b c d d'
         → LooserSections s b c (Section cases default xs ends d) (Section cases default xs' true d')
 
   -- the lists of a switch that is dissolved, each behind its labels
@@ -158,9 +172,11 @@ mutual
     ls_none : {b c : Aim} {names : Names} → Spread s Open b c names NoSection (mark_of b)
     ls_last : {c : Aim} {names : Names} (cases : List ExpressionTree) (default : Bool) {xs xs' : Forest} → Looser s Jumped Absent c (Arrives names) xs xs'
         → Spread s Jumped Absent c names (Section cases default xs false NoSection) (join (case_marks names cases default) xs')
-    ls_falls : {m : Mode} {b c : Aim} {names : Names} (cases : List ExpressionTree) (default : Bool) {xs xs' ys : Forest} {d : Sections} → Looser s Open b c (Arrives names) xs xs' → Spread s m b c names d ys
+    ls_falls : {m : Mode} {b c : Aim} {names : Names} (cases : List ExpressionTree) (default : Bool) {xs xs' ys : Forest} {d : Sections} →
+        Looser s Open b c (Arrives names) xs xs' → Spread s m b c names d ys
         → Spread s m b c names (Section cases default xs false d) (join (case_marks names cases default) (join xs' ys))
-    ls_ends : {c : Aim} {names : Names} (l : ℕ) (cases : List ExpressionTree) (default : Bool) {xs xs' ys : Forest} {d : Sections} → Looser s Open (Becomes l) c (Arrives names) xs xs' → Spread s Open (Becomes l) c names d ys
+    ls_ends : {c : Aim} {names : Names} (l : ℕ) (cases : List ExpressionTree) (default : Bool) {xs xs' ys : Forest} {d : Sections} →
+        Looser s Open (Becomes l) c (Arrives names) xs xs' → Spread s Open (Becomes l) c names d ys
         → Spread s Open (Becomes l) c names (Section cases default xs true d) (join (case_marks names cases default) (join xs' (Then (Goto l) ys)))
 
 -- ---- functions and programs

@@ -112,8 +112,10 @@ wanted_among g names (Section cases default a ends c) = or_else (wanted_case g n
 -- the expression is the number, spelled by numbers and marks
 pub data Spells : ExpressionTree → ℤ → Type 0 where
   sp_number : (k : Option IntKind) (n : ℤ) → Spells (Typed k (Number n)) n
-  sp_unary : (op : UnaryOp) (k : Option IntKind) {a : ExpressionTree} {m n : ℤ} → Spells a m → unary_result op (operand_kind (kind_of a)) m ≡ Ok n → Spells (Typed k (Unary op a)) n
-  sp_binary : (op : ArithOp) (k : Option IntKind) {a b : ExpressionTree} {m i n : ℤ} → Spells a m → Spells b i → binary_result (Arith op) (operand_kind (kind_of a)) (operand_kind (kind_of b)) m i ≡ Ok n → Spells (Typed k (Binary (Arith op) a b)) n
+  sp_unary : (op : UnaryOp) (k : Option IntKind) {a : ExpressionTree} {m n : ℤ} → Spells a m → unary_result op (operand_kind (kind_of a)) m ≡ Ok n →
+      Spells (Typed k (Unary op a)) n
+  sp_binary : (op : ArithOp) (k : Option IntKind) {a b : ExpressionTree} {m i n : ℤ} → Spells a m → Spells b i →
+      binary_result (Arith op) (operand_kind (kind_of a)) (operand_kind (kind_of b)) m i ≡ Ok n → Spells (Typed k (Binary (Arith op) a b)) n
 
 -- it is the number n as a constant of kind k
 pub record IsNumber (e : ExpressionTree) (k : IntKind) (n : ℤ) : Type 0 where

@@ -12,19 +12,23 @@ cases_step k i n g h = let e : n - i ≡ suc (n - (i + 1)) = omega arith in ap (
 pub cases_end : (k i n : ℕ) (g : Given) → n ≤ i → name_cases k (i + 1) (n - i) g ≡ g
 cases_end k i n g h = let e : n - i ≡ 0 = omega arith in ap (λ m. name_cases k (i + 1) m g) e
 
-pub constructs_step : (cs : List Construct) (i : ℕ) (g : Given) (d : Construct) → i < length cs → name_constructs (i + 1) (drop i cs) g ≡ name_constructs (i + 1 + 1) (drop (i + 1) cs) (name_construct (i + 1) (get_or cs i d) g)
+pub constructs_step : (cs : List Construct) (i : ℕ) (g : Given) (d : Construct) → i < length cs →
+    name_constructs (i + 1) (drop i cs) g ≡ name_constructs (i + 1 + 1) (drop (i + 1) cs) (name_construct (i + 1) (get_or cs i d) g)
 constructs_step cs i g d h = at_drop_more (λ z. name_constructs (i + 1) z g) cs i d h
 
 pub constructs_end : (cs : List Construct) (i : ℕ) (g : Given) → length cs ≤ i → name_constructs (i + 1) (drop i cs) g ≡ g
 constructs_end cs i g h = at_drop_all (λ z. name_constructs (i + 1) z g) cs i h
 
 pub labels_step : (labels : List (List ℕ)) (m : Made) (used : List (List ℕ)) (cs : List ℕ) (i d : ℕ) (out : List (List ℕ)) → i < length cs
-    → (let n = naming labels m (label_of (length labels) (get_or cs i d)) in out ++ label_names labels m used (drop i cs) ≡ (out ++ chosen n used ∷ []) ++ label_names labels m (used_then n used) (drop (i + 1) cs))
+    → (let n = naming labels m (label_of (length labels) (get_or cs i d)) in
+    out ++ label_names labels m used (drop i cs) ≡ (out ++ chosen n used ∷ []) ++ label_names labels m (used_then n used) (drop (i + 1) cs))
 labels_step labels m used cs i d out h =
     let n = naming labels m (label_of (length labels) (get_or cs i d)) in
-    ap (λ z. out ++ z) (at_drop_more (label_names labels m used) cs i d h) ∙ sym (append_assoc out (chosen n used ∷ []) (label_names labels m (used_then n used) (drop (i + 1) cs)))
+    ap (λ z. out ++ z) (at_drop_more (label_names labels m used) cs i d h) ∙
+    sym (append_assoc out (chosen n used ∷ []) (label_names labels m (used_then n used) (drop (i + 1) cs)))
 
-pub labels_end : (labels : List (List ℕ)) (m : Made) (used : List (List ℕ)) (cs : List ℕ) (i : ℕ) (out : List (List ℕ)) → length cs ≤ i → out ++ label_names labels m used (drop i cs) ≡ out
+pub labels_end : (labels : List (List ℕ)) (m : Made) (used : List (List ℕ)) (cs : List ℕ) (i : ℕ) (out : List (List ℕ)) → length cs ≤ i →
+    out ++ label_names labels m used (drop i cs) ≡ out
 labels_end labels m used cs i out h = ap (λ z. out ++ z) (at_drop_all (label_names labels m used) cs i h) ∙ append-nil out
 
 same_named : {a b : List Slot} {u v : List (List ℕ)} → a ≡ b → u ≡ v → (let n : Named = record { slots = a; used = u } in n) ≡ record { slots = b; used = v }

@@ -52,13 +52,18 @@ unfolding digits
 given_made = refl
 
 -- `int n, switch_1; { int x; const int y; .. } { int x; .. }` where the file has an x
-renamed : (named_slots 0 file used (int_slot (codes "n") ∷ int_slot (codes "switch_1") ∷ int_slot (codes "x") ∷ const_slot (codes "y") ∷ int_slot (codes "x") ∷ [])).slots
+renamed : (named_slots 0 file used (int_slot (codes "n") ∷ int_slot (codes "switch_1") ∷ int_slot (codes "x") ∷ const_slot (codes "y") ∷ int_slot
+    (codes "x") ∷ [])).slots
     ≡ int_slot (codes "n") ∷ int_slot (codes "switch_1") ∷ int_slot (codes "x_2") ∷ int_slot (codes "y") ∷ int_slot (codes "x_3") ∷ []
 unfolding digits
 renamed = refl
 
 -- the labels in their order: those of the switch, `again`, and those of the exits of the third loop or switch
-labelled : (let m : Made = record { cases = codes "case_1_1" ∷ codes "case_1_2" ∷ []; defaults = None ∷ None ∷ None ∷ []; breaks = Some (codes "break_1") ∷ None ∷ None ∷ [] } in label_names (codes "again" ∷ []) m used (4 ∷ 8 ∷ 1 ∷ 0 ∷ 10 ∷ 9 ∷ []))
+labelled : (let m : Made = record {
+  cases = codes "case_1_1" ∷ codes "case_1_2" ∷ [];
+  defaults = None ∷ None ∷ None ∷ [];
+  breaks = Some (codes "break_1") ∷ None ∷ None ∷ [];
+} in label_names (codes "again" ∷ []) m used (4 ∷ 8 ∷ 1 ∷ 0 ∷ 10 ∷ 9 ∷ []))
     ≡ codes "case_1_1" ∷ codes "case_1_2" ∷ codes "break_1" ∷ codes "again" ∷ codes "continue_3" ∷ codes "break_3" ∷ []
 unfolding digits
 labelled = refl

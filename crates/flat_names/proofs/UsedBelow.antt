@@ -18,7 +18,8 @@ use Rattle.flat_names.specs.Numbers.{Numbers, found, or_first, with_number, IsUs
 
 -- ---- the map
 
-pub found_in : (name : List ℕ) (es : List (Bor (List ℕ) × ℕ)) → lookup (is_at (λ k. slice_cmp nat_cmp name k.now)) es ≡ found name (map (λ e. (e.0.now, e.1)) es)
+pub found_in : (name : List ℕ) (es : List (Bor (List ℕ) × ℕ)) → lookup (is_at (λ k. slice_cmp nat_cmp name k.now)) es ≡ found name
+    (map (λ e. (e.0.now, e.1)) es)
 found_in name [] = refl
 found_in name (e ∷ es) = λ i. cond (is_eq-slice_cmp name e.0.now i) (Some e.1) (found_in name es i)
 
@@ -61,21 +62,30 @@ next_is used name (e ∷ es) h = at (bytes_eq name e.0) refl (next_is used name 
 same_name : (n x : List ℕ) → name_cmp n x ≡ Equal → n ≡ x
 same_name n x e = (bytes_eq-Decides n x).0 (sym (is_eq-slice_cmp n x) ∙ ap is_eq e)
 
-pub number_kept : (used : List (List ℕ)) (name : List ℕ) (n : ℕ) (es : Numbers) → AreUsedBelow used es → IsNext used name n → AreUsedBelow used (with_number name n es)
+pub number_kept : (used : List (List ℕ)) (name : List ℕ) (n : ℕ) (es : Numbers) → AreUsedBelow used es → IsNext used name n →
+    AreUsedBelow used (with_number name n es)
 number_kept used name n [] h w = (w, tt)
 number_kept used name n (e ∷ es) h w = at (name_cmp name e.0) refl (number_kept used name n es h.1 w)
   where
-    at : (o : Ordering) → name_cmp name e.0 ≡ o → AreUsedBelow used (with_number name n es) → AreUsedBelow used (match_ordering o ((name, n) ∷ e ∷ es) ((e.0, n) ∷ es) (e ∷ with_number name n es))
+    at : (o : Ordering) → name_cmp name e.0 ≡ o → AreUsedBelow used (with_number name n es) →
+        AreUsedBelow used (match_ordering o ((name, n) ∷ e ∷ es) ((e.0, n) ∷ es) (e ∷ with_number name n es))
     at Less i rest = (w, h)
     at Equal i rest = (subst (λ m. IsNext used m n) (same_name name e.0 i) w, h.1)
     at Greater i rest = (h.0, rest)
 
 -- of a name that is written so
-pub next_of : (used : List (List ℕ)) (base key : List ℕ) (es : Numbers) (n : ℕ) → key ≡ base → n ≡ or_first (found key es) → AreUsedBelow used es → IsNext used base n
+pub next_of : (used : List (List ℕ)) (base key : List ℕ) (es : Numbers) (n : ℕ) → key ≡ base → n ≡ or_first (found key es) → AreUsedBelow used es →
+    IsNext used base n
 next_of used base key es n k e h = subst (λ b. IsNext used b n) k (subst (IsNext used key) (sym e) (next_is used key es h))
 
 -- one more name
 pub more_used : (used : List (List ℕ)) (name : List ℕ) (es : Numbers) → AreUsedBelow used es → AreUsedBelow (with_name used name) es
 more_used used name [] h = tt
-more_used used name (e ∷ es) h =
-    ((h.0.0, λ i a b. has_name-with_name used name (numbered e.0 i) ∙ or_right (bytes_eq (numbered e.0 i) name) (has_name used (numbered e.0 i)) (h.0.1 i a b)), more_used used name es h.1)
+more_used used name (e ∷ es) h = (
+  (
+    h.0.0,
+    λ i a b. has_name-with_name used name (numbered e.0 i) ∙ or_right (bytes_eq (numbered e.0 i) name) (has_name used (numbered e.0 i))
+        (h.0.1 i a b),
+  ),
+  more_used used name es h.1,
+)

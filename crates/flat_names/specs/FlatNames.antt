@@ -23,7 +23,8 @@ use Rattle.flat_names.specs.declared.constructs.Construct.TheVariants.{Stays, Sc
 -- a switch: of a scattered one the kind of its variable, how many cases it has, whether it has a default, and whether a
 -- goto leads behind it
 abbrev pub switch_construct : SelectorTree → Sections → Construct
-switch_construct s d = cond (is_scattered d) (Scattered (switch_kind s) (length (cases_among (switch_labels d))) (has_default (switch_labels d)) (leaves d)) Stays
+switch_construct s d = cond (is_scattered d) (Scattered (switch_kind s) (length (cases_among (switch_labels d))) (has_default (switch_labels d))
+    (leaves d)) Stays
 
 abbrev mutual
   -- the loops and switches of a list, in text order
@@ -139,7 +140,8 @@ slot_used false taken used s = cond (has_name taken s.name) (with_name used (fre
 -- the variables, of which the first so many are parameters
 abbrev pub named_slots : ℕ → List (List ℕ) → List (List ℕ) → List Slot → Named
 named_slots n taken used [] = record { slots = []; used = used }
-named_slots n taken used (s ∷ ss) = let p = nat_lt 0 n in with_slot (slot_named p taken used s) (named_slots (n - 1) (slot_taken p taken used s) (slot_used p taken used s) ss)
+named_slots n taken used (s ∷ ss) = let p = nat_lt 0 n in with_slot (slot_named p taken used s)
+    (named_slots (n - 1) (slot_taken p taken used s) (slot_used p taken used s) ss)
 
 -- ---- labels
 

@@ -32,20 +32,25 @@ gone_is Breaks h = absurd (false≢true h)
 gone_is Jumps h = absurd (false≢true h)
 gone_is Otherwise h = absurd (false≢true h)
 
-ending_at : (live : ℕ → Bool) (xs : List Item) (i : ℕ) (x : Item) → i < length xs → x ≡ get_or xs i x → ending live (trees_of (drop i xs)) ≡ later (ending live (trees_of (drop (i + 1) xs))) (ending_of live (tree_at x))
+ending_at : (live : ℕ → Bool) (xs : List Item) (i : ℕ) (x : Item) → i < length xs → x ≡ get_or xs i x →
+    ending live (trees_of (drop i xs)) ≡ later (ending live (trees_of (drop (i + 1) xs))) (ending_of live (tree_at x))
 ending_at live xs i x h e = ap (ending live) (trees-at xs i x h e)
 
 pub goes_end : (live : ℕ → Bool) (xs : List Item) (i : ℕ) → length xs ≤ i → goes live xs i ≡ true
 goes_end live xs i h = ap (λ t. is_gone (ending live t)) (trees-end xs i h)
 
 -- one item before, if that goes as well
-pub goes_before : (live : ℕ → Bool) (xs : List Item) (i m j : ℕ) (x : Item) → i < length xs → i + 1 ≡ m → j ≡ i → x ≡ get_or xs i x → goes live xs m ≡ true → is_gone (ending_of live (tree_at x)) ≡ true → goes live xs j ≡ true
+pub goes_before : (live : ℕ → Bool) (xs : List Item) (i m j : ℕ) (x : Item) → i < length xs → i + 1 ≡ m → j ≡ i → x ≡ get_or xs i x →
+    goes live xs m ≡ true → is_gone (ending_of live (tree_at x)) ≡ true → goes live xs j ≡ true
 goes_before live xs i m j x h e f g r s =
-    ap (goes live xs) f ∙ ap is_gone (ending_at live xs i x h g ∙ later_gone (ending live (trees_of (drop (i + 1) xs))) (ending_of live (tree_at x)) (ap (goes live xs) e ∙ r)) ∙ s
+    ap (goes live xs) f ∙ ap is_gone (ending_at live xs i x h g ∙ later_gone (ending live (trees_of (drop (i + 1) xs))) (ending_of live (tree_at x))
+    (ap (goes live xs) e ∙ r)) ∙ s
 
 -- an item stays behind which all goes: the list from it on ends as it does
-pub ends_here : (live : ℕ → Bool) (xs : List Item) (i m : ℕ) (x : Item) → i < length xs → i + 1 ≡ m → x ≡ get_or xs i x → goes live xs m ≡ true → ending live (trees_of (drop i xs)) ≡ ending_of live (tree_at x)
-ends_here live xs i m x h e g r = ending_at live xs i x h g ∙ later_gone (ending live (trees_of (drop (i + 1) xs))) (ending_of live (tree_at x)) (ap (goes live xs) e ∙ r)
+pub ends_here : (live : ℕ → Bool) (xs : List Item) (i m : ℕ) (x : Item) → i < length xs → i + 1 ≡ m → x ≡ get_or xs i x → goes live xs m ≡ true →
+    ending live (trees_of (drop i xs)) ≡ ending_of live (tree_at x)
+ends_here live xs i m x h e g r = ending_at live xs i x h g ∙ later_gone (ending live (trees_of (drop (i + 1) xs))) (ending_of live (tree_at x))
+    (ap (goes live xs) e ∙ r)
 
 -- where something stays from a place on, the list ends as from there on
 pub ends_from : (live : ℕ → Bool) (xs : List Item) (i : ℕ) → goes live xs i ≡ false → ending live (trees_of xs) ≡ ending live (trees_of (drop i xs))
@@ -57,11 +62,13 @@ ends_from live (x ∷ xs) (suc i) h =
 
 -- ---- sections
 
-pub last_at : (live : ℕ → Bool) (cs : List Real.Section) (i : ℕ) (c : Real.Section) → i + 1 ≡ length cs → c ≡ get_or cs i c → last_ending live (sections_of cs) ≡ ending live (trees_of (list_of c))
+pub last_at : (live : ℕ → Bool) (cs : List Real.Section) (i : ℕ) (c : Real.Section) → i + 1 ≡ length cs → c ≡ get_or cs i c →
+    last_ending live (sections_of cs) ≡ ending live (trees_of (list_of c))
 last_at live [] i c h e = absurd (omega arith)
 last_at live (d ∷ []) i c h e =
     let z : i ≡ 0 = omega arith in
-    ap (last_ending live) (section-first d [] ∙ ap (before d) sections-none) ∙ ap (λ y. ending live (trees_of (list_of y))) (sym (e ∙ ap (λ n. get_or (d ∷ []) n c) z))
+    ap (last_ending live) (section-first d [] ∙ ap (before d) sections-none) ∙
+    ap (λ y. ending live (trees_of (list_of y))) (sym (e ∙ ap (λ n. get_or (d ∷ []) n c) z))
 last_at live (d ∷ f ∷ cs) zero c h e = absurd (omega arith)
 last_at live (d ∷ f ∷ cs) (suc i) c h e =
     let inner = section-first f cs in

@@ -13,7 +13,8 @@ or_false : (a : Bool) → (a || false) ≡ a
 or_false true = refl
 or_false false = refl
 
-pub flag_set : (flags old : List Bool) (label : ℕ) → label < length flags → ((l : ℕ) → is_flagged flags l ≡ is_flagged old l) → (l : ℕ) → is_flagged (set flags label true) l ≡ (is_flagged old l || eqb l label)
+pub flag_set : (flags old : List Bool) (label : ℕ) → label < length flags → ((l : ℕ) → is_flagged flags l ≡ is_flagged old l) → (l : ℕ) →
+    is_flagged (set flags label true) l ≡ (is_flagged old l || eqb l label)
 flag_set flags old label h same l = elim (eqb l label) as (λ y. eqb l label ≡ y → is_flagged (set flags label true) l ≡ (is_flagged old l || y)) [
   | true ↦ λ e. ap (is_flagged (set flags label true)) (eqb-true l label e) ∙ get_or-set_same flags label true false h ∙ or_true (is_flagged old l)
   | false ↦ λ e. get_or-set_other flags label l true false (eqb-false l label e) ∙ same l ∙ sym (or_false (is_flagged old l))

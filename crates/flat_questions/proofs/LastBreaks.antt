@@ -41,7 +41,8 @@ some_counted r (suc zero) e = let g : r ≡ 1 = omega (arith, e) in ap (λ z. no
 some_counted r (suc (suc m)) e = let g : r ≡ 2 = omega (arith, e) in ap (λ z. not (nat_eq z 0)) g
 
 -- of an item with m breaks and what stands behind it, with n
-by_last : (e f : Ending) (m n a b : ℕ) → (is_gone e ≡ true → n ≡ 0) → (f ≡ Breaks → m ≡ suc a) → (e ≡ Breaks → n ≡ suc b) → later e f ≡ Breaks → m + n ≡ suc (cond (is_gone e) a (m + b))
+by_last : (e f : Ending) (m n a b : ℕ) → (is_gone e ≡ true → n ≡ 0) → (f ≡ Breaks → m ≡ suc a) → (e ≡ Breaks → n ≡ suc b) → later e f ≡ Breaks →
+    m + n ≡ suc (cond (is_gone e) a (m + b))
 by_last Gone f m n a b z g k h = let i = z refl in let j = g h in omega (arith, i, j)
 by_last Breaks f m n a b z g k h = let j = k refl in omega (arith, j)
 by_last Jumps f m n a b z g k h = cc
@@ -69,7 +70,8 @@ module _ (live : ℕ → Bool) where
     pub one_break_more : (xs : Forest) → ending live xs ≡ Breaks → breaks xs ≡ suc (breaks (trimmed live xs))
     one_break_more Nil h = cc
     one_break_more (Then x xs) h =
-        by_last (ending live xs) (ending_of live x) (breaks_of x) (breaks xs) (breaks (trimmed_item live x)) (breaks (trimmed live xs)) (no_breaks xs) (one_break_more_in x) (one_break_more xs) h
+        by_last (ending live xs) (ending_of live x) (breaks_of x) (breaks xs) (breaks (trimmed_item live x)) (breaks (trimmed live xs)) (no_breaks xs)
+        (one_break_more_in x) (one_break_more xs) h
         ∙ ap suc (sym (cond_breaks (is_gone (ending live xs)) (trimmed_item live x) (Then x (trimmed live xs))))
 
     one_break_more_in : (x : Tree) → ending_of live x ≡ Breaks → breaks_of x ≡ suc (breaks (trimmed_item live x))

@@ -56,10 +56,12 @@ section_cases (e ∷ es) d = ap (λ z. e ∷ z) (section_cases es d)
 abbrev pub numbers_in : IntKind → Real.Section → List (Option ℤ)
 numbers_in k c = let o = Real.out-Section c in map (case_number k) (expression_trees o.cases) ++ map (case_number k) (cases_among (arrivals (trees_of o.list)))
 
-pub numbers_append : (k : IntKind) (xs ys : List (Option ExpressionTree)) → map (case_number k) (cases_among (xs ++ ys)) ≡ map (case_number k) (cases_among xs) ++ map (case_number k) (cases_among ys)
+pub numbers_append : (k : IntKind) (xs ys : List (Option ExpressionTree)) →
+    map (case_number k) (cases_among (xs ++ ys)) ≡ map (case_number k) (cases_among xs) ++ map (case_number k) (cases_among ys)
 numbers_append k xs ys = ap (map (case_number k)) (cases_append xs ys) ∙ map-append (case_number k) (cases_among xs) (cases_among ys)
 
-pub numbers_more : (k : IntKind) (c : Real.Section) (d : Sections) → map (case_number k) (cases_among (switch_labels (before c d))) ≡ numbers_in k c ++ map (case_number k) (cases_among (switch_labels d))
+pub numbers_more : (k : IntKind) (c : Real.Section) (d : Sections) → map (case_number k) (cases_among (switch_labels (before c d))) ≡ numbers_in k
+    c ++ map (case_number k) (cases_among (switch_labels d))
 numbers_more k c d =
     let o = Real.out-Section c in
     let a = arrivals (trees_of o.list) in
@@ -67,4 +69,5 @@ numbers_more k c d =
     numbers_append k s (a ++ switch_labels d)
     ∙ ap (λ z. map (case_number k) z ++ map (case_number k) (cases_among (a ++ switch_labels d))) (section_cases (expression_trees o.cases) o.default)
     ∙ ap (λ z. map (case_number k) (expression_trees o.cases) ++ z) (numbers_append k a (switch_labels d))
-    ∙ sym (append_assoc (map (case_number k) (expression_trees o.cases)) (map (case_number k) (cases_among a)) (map (case_number k) (cases_among (switch_labels d))))
+    ∙ sym (append_assoc (map (case_number k) (expression_trees o.cases)) (map (case_number k) (cases_among a))
+    (map (case_number k) (cases_among (switch_labels d))))

@@ -27,7 +27,8 @@ leap_within l i j steps body a h t = slice_get_within a i (Leap l) (sym (item_of
 
 -- what was found in the list
 
-pub place_is : (body : List Item) (at : Path) → IsHeldBefore body at → (l : ℕ) (a : List Item) (k : ℕ) → Some l ≡ label_at body at → Some a ≡ list_at body at.steps → k < at.item
+pub place_is : (body : List Item) (at : Path) → IsHeldBefore body at → (l : ℕ) (a : List Item) (k : ℕ) → Some l ≡ label_at body at →
+    Some a ≡ list_at body at.steps → k < at.item
     → Holds (λ x. 0 < lands_inside l (tree_of x)) (slice_get a k) → CanLift l at.item k at.steps body
 place_is body at h l a k e t b f = record {
   leap = h.applies.leap ∙ ap (λ (m : ℕ). Some (Leap m)) (same_label body at h.label l h.applies.leap e);

@@ -44,7 +44,8 @@ declared_start x n out =
     let f : x + 0 ≡ x = omega arith in
     ap (λ y. join out (declarations y (n - 0))) f ∙ ap (λ m. join out (declarations x m)) e
 
-pub declared_step : (x i n : ℕ) (out new all : Forest) → i < n → new ≡ join out (one (Local (x + i) None)) → join out (declarations (x + i) (n - i)) ≡ all → join new (declarations (x + (i + 1)) (n - (i + 1))) ≡ all
+pub declared_step : (x i n : ℕ) (out new all : Forest) → i < n → new ≡ join out (one (Local (x + i) None)) →
+    join out (declarations (x + i) (n - i)) ≡ all → join new (declarations (x + (i + 1)) (n - (i + 1))) ≡ all
 declared_step x i n out new all h q inv =
     let e : n - i ≡ suc (n - (i + 1)) = omega arith in
     let f : x + (i + 1) ≡ suc (x + i) = omega arith in
@@ -56,8 +57,10 @@ declared_end x i n out all h inv = let e : n - i ≡ 0 = omega arith in sym (joi
 
 -- ---- the items
 
-pub renumbered_step : (f : ℕ → ℕ) (x : Item) (xs : List Item) (out new all : Forest) → new ≡ join out (one (renumbered_item f (tree_at x))) → join out (renumbered f (trees_of (x ∷ xs))) ≡ all → join new (renumbered f (trees_of xs)) ≡ all
-renumbered_step f x xs out new all n inv = one_more out new (renumbered_item f (tree_at x)) (renumbered f (trees_of xs)) n ∙ sym (ap (λ a. join out (renumbered f a)) (trees-first x xs)) ∙ inv
+pub renumbered_step : (f : ℕ → ℕ) (x : Item) (xs : List Item) (out new all : Forest) → new ≡ join out (one (renumbered_item f (tree_at x))) →
+    join out (renumbered f (trees_of (x ∷ xs))) ≡ all → join new (renumbered f (trees_of xs)) ≡ all
+renumbered_step f x xs out new all n inv = one_more out new (renumbered_item f (tree_at x)) (renumbered f (trees_of xs)) n ∙ sym
+    (ap (λ a. join out (renumbered f a)) (trees-first x xs)) ∙ inv
 
 pub renumbered_end : (f : ℕ → ℕ) (out all : Forest) → join out (renumbered f (trees_of [])) ≡ all → out ≡ all
 renumbered_end f out all inv = sym (join-nil out) ∙ sym (ap (λ a. join out (renumbered f a)) trees-none) ∙ inv
@@ -91,11 +94,14 @@ lone_long [] l h = let n : None ≡ Some l = sym (ap lone_goto trees-none) ∙ h
 lone_long (x ∷ xs) l h = omega arith
 
 -- with another goto in its place
-pub set_lone : (f : ℕ → ℕ) (xs : List Item) (l m : ℕ) → lone_goto (trees_of xs) ≡ Some l → m ≡ f l → trees_of (slice_set xs 0 (I.Goto m)) ≡ renumbered_goto f (trees_of xs)
+pub set_lone : (f : ℕ → ℕ) (xs : List Item) (l m : ℕ) → lone_goto (trees_of xs) ≡ Some l → m ≡ f l →
+    trees_of (slice_set xs 0 (I.Goto m)) ≡ renumbered_goto f (trees_of xs)
 set_lone f [] l m h e = let n : None ≡ Some l = sym (ap lone_goto trees-none) ∙ h in cc
 set_lone f (x ∷ []) l m h e =
     let t : trees_of (x ∷ []) ≡ Then (tree_at x) Nil = trees-first x [] ∙ ap (Then (tree_at x)) trees-none in
     let g = goto_is (tree_at x) l (sym (one_of (tree_at x)) ∙ sym (ap lone_goto t) ∙ h) in
-    trees-first (I.Goto m) [] ∙ ap (Then (tree_at (I.Goto m))) trees-none ∙ ap (λ u. Then u Nil) (at-Goto m) ∙ ap (λ n. Then (Goto n) Nil) e ∙ sym (ap (renumbered_goto f) (t ∙ ap (λ u. Then u Nil) g))
+    trees-first (I.Goto m) [] ∙ ap (Then (tree_at (I.Goto m))) trees-none ∙ ap (λ u. Then u Nil) (at-Goto m) ∙ ap (λ n. Then (Goto n) Nil) e ∙
+    sym (ap (renumbered_goto f) (t ∙ ap (λ u. Then u Nil) g))
 set_lone f (x ∷ y ∷ ys) l m h e =
-    let n : None ≡ Some l = sym (two_of (tree_at x) (tree_at y) (trees_of ys)) ∙ sym (ap lone_goto (trees-first x (y ∷ ys) ∙ ap (Then (tree_at x)) (trees-first y ys))) ∙ h in cc
+    let n : None ≡ Some l = sym (two_of (tree_at x) (tree_at y) (trees_of ys)) ∙
+    sym (ap lone_goto (trees-first x (y ∷ ys) ∙ ap (Then (tree_at x)) (trees-first y ys))) ∙ h in cc

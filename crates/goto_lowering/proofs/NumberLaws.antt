@@ -107,7 +107,9 @@ module _ (f : ℕ → ℕ) where
   -- ---- switches
 
   module _ (number : IntKind → ℤ → ExpressionTree) (k : IntKind) (v : ℕ) (names : Names) where
-    test_one : (e : ExpressionTree) (n : Option ℤ) → renumbered f (option_map_or (λ n. one (If (Source (is_number k v (number k n))) (one (Goto (names (Some e)))) Nil)) n Nil) ≡ option_map_or (λ n. one (If (Source (is_number k v (number k n))) (one (Goto (f (names (Some e))))) Nil)) n Nil
+    test_one : (e : ExpressionTree) (n : Option ℤ) → renumbered f
+        (option_map_or (λ n. one (If (Source (is_number k v (number k n))) (one (Goto (names (Some e)))) Nil)) n Nil) ≡ option_map_or
+        (λ n. one (If (Source (is_number k v (number k n))) (one (Goto (f (names (Some e))))) Nil)) n Nil
     test_one e None = refl
     test_one e (Some n) = refl
 
@@ -133,7 +135,8 @@ module _ (f : ℕ → ℕ) where
     tested_among : (d : Sections) → renumbered f (tests_among number k v names d) ≡ tests_among number k v (λ e. f (names e)) d
     tested_among NoSection = refl
     tested_among (Section cases default a ends d) =
-        both (tests_for number k v names cases) (join (tests number k v names a) (tests_among number k v names d)) (these cases) (both (tests number k v names a) (tests_among number k v names d) (tested a) (tested_among d))
+        both (tests_for number k v names cases) (join (tests number k v names a) (tests_among number k v names d)) (these cases)
+        (both (tests number k v names a) (tests_among number k v names d) (tested a) (tested_among d))
 
   labelled : (names : Names) (es : List ExpressionTree) (default : Bool) → renumbered f (case_marks names es default) ≡ case_marks (λ e. f (names e)) es default
   labelled names [] true = refl
@@ -154,40 +157,52 @@ module _ (f : ℕ → ℕ) where
 
   otherwise : (p : Layout) (h : Here) (d : Sections) → f (otherwise_label p.plan h d) ≡ otherwise_label (moved p).plan h d
   otherwise p h d = by (has_default (switch_labels d)) where
-    by : (y : Bool) → f (cond y (p.plan.default_label h.construct) (p.plan.break_label h.construct)) ≡ cond y (f (p.plan.default_label h.construct)) (f (p.plan.break_label h.construct))
+    by : (y : Bool) → f (cond y (p.plan.default_label h.construct) (p.plan.break_label h.construct)) ≡ cond y (f (p.plan.default_label h.construct))
+        (f (p.plan.break_label h.construct))
     by true = refl
     by false = refl
 
-  dissolves : (p : Layout) (h : Here) (s : SelectorTree) (d : Sections) (ys : Forest) {ys' : Forest} → renumbered f ys ≡ ys' → renumbered f (dissolved p.plan h s d ys) ≡ dissolved (moved p).plan h s d ys'
+  dissolves : (p : Layout) (h : Here) (s : SelectorTree) (d : Sections) (ys : Forest) {ys' : Forest} → renumbered f ys ≡ ys' →
+      renumbered f (dissolved p.plan h s d ys) ≡ dissolved (moved p).plan h s d ys'
   dissolves p h s d ys {ys'} e =
       let k = switch_kind s in
       let ts = tests_among p.plan.number k h.variable (names_of p.plan h k d) d in
       ap (Then (Evaluate (assign_number k h.variable (selector_source s))))
-      (both ts (Then (Goto (otherwise_label p.plan h d)) ys) (tested_among p.plan.number k h.variable (names_of p.plan h k d) d ∙ ap (λ ns. tests_among p.plan.number k h.variable ns d) (named p h k d))
+      (both ts (Then (Goto (otherwise_label p.plan h d)) ys)
+      (tested_among p.plan.number k h.variable (names_of p.plan h k d) d ∙ ap (λ ns. tests_among p.plan.number k h.variable ns d) (named p h k d))
       (ap (λ l. Then (Goto l) (renumbered f ys)) (otherwise p h d) ∙ ap (Then (Goto (otherwise_label (moved p).plan h d))) e))
 
   -- ---- loops and `if`s
 
-  chooses : (p : Layout) (h : Here) (t : TestTree) (o : Option ℕ) (a b : Forest) {a' b' : Forest} → renumbered f a ≡ a' → renumbered f b ≡ b' → renumbered f (lowered_if p h t o a b) ≡ lowered_if (moved p) h t o a' b'
+  chooses : (p : Layout) (h : Here) (t : TestTree) (o : Option ℕ) (a b : Forest) {a' b' : Forest} → renumbered f a ≡ a' → renumbered f b ≡ b' →
+      renumbered f (lowered_if p h t o a b) ≡ lowered_if (moved p) h t o a' b'
   chooses p h t (Some l) a b ea eb = refl
   chooses p h t None a b {a'} {b'} ea eb =
       let e = p.plan.break_label h.construct in
       let l = p.list_label h.construct in
-      ap (Then (jump_if t (f l))) (both b (Then (Goto e) (Then (Mark l) (join a (one (Mark e))))) eb (ap (λ z. Then (Goto (f e)) (Then (Mark (f l)) z)) (both a (one (Mark e)) ea refl)))
+      ap (Then (jump_if t (f l))) (both b (Then (Goto e) (Then (Mark l) (join a (one (Mark e))))) eb
+      (ap (λ z. Then (Goto (f e)) (Then (Mark (f l)) z)) (both a (one (Mark e)) ea refl)))
 
-  whiles : (t : TestTree) (h b e : ℕ) (a : Forest) {a' : Forest} → renumbered f a ≡ a' → renumbered f (while_items t h b e a) ≡ while_items t (f h) (f b) (f e) a'
-  whiles t h b e a q = ap (λ z. Then (Mark (f h)) (Then (jump_if t (f b)) (Then (Goto (f e)) (Then (Mark (f b)) z)))) (both a (Then (Goto h) (one (Mark e))) q refl)
+  whiles : (t : TestTree) (h b e : ℕ) (a : Forest) {a' : Forest} → renumbered f a ≡ a' →
+      renumbered f (while_items t h b e a) ≡ while_items t (f h) (f b) (f e) a'
+  whiles t h b e a q = ap (λ z. Then (Mark (f h)) (Then (jump_if t (f b)) (Then (Goto (f e)) (Then (Mark (f b)) z))))
+      (both a (Then (Goto h) (one (Mark e))) q refl)
 
-  dos : (p : Layout) (h : Here) (t : TestTree) (a : Forest) (b c : Aim) {a' : Forest} → renumbered f a ≡ a' → renumbered f (lowered_do p h t a b c) ≡ lowered_do (moved p) h t a' (aim_moved b) (aim_moved c)
+  dos : (p : Layout) (h : Here) (t : TestTree) (a : Forest) (b c : Aim) {a' : Forest} → renumbered f a ≡ a' →
+      renumbered f (lowered_do p h t a b c) ≡ lowered_do (moved p) h t a' (aim_moved b) (aim_moved c)
   dos p h t a b c q =
       let l = p.list_label h.construct in
-      both (do_items t l (join a (mark_of c))) (mark_of b) (ap (Then (Mark (f l))) (both (join a (mark_of c)) (one (jump_if t l)) (both a (mark_of c) q (marked c)) refl)) (marked b)
+      both (do_items t l (join a (mark_of c))) (mark_of b)
+      (ap (Then (Mark (f l))) (both (join a (mark_of c)) (one (jump_if t l)) (both a (mark_of c) q (marked c)) refl)) (marked b)
 
-  thirds : (a : Forest) (c : Aim) (u : Option ExpressionTree) {a' : Forest} → renumbered f a ≡ a' → renumbered f (with_third a c u) ≡ with_third a' (aim_moved c) u
+  thirds : (a : Forest) (c : Aim) (u : Option ExpressionTree) {a' : Forest} → renumbered f a ≡ a' →
+      renumbered f (with_third a c u) ≡ with_third a' (aim_moved c) u
   thirds a c u q = both a (join (mark_of c) (third_items u)) q (both (mark_of c) (third_items u) (marked c) (third u))
 
-  fors : (p : Layout) (h : Here) (t u : Option ExpressionTree) (a : Forest) (b c : Aim) {a' : Forest} → renumbered f a ≡ a' → renumbered f (lowered_for p h t u a b c) ≡ lowered_for (moved p) h t u a' (aim_moved b) (aim_moved c)
-  fors p h (Some t) u a b c q = whiles (Source t) (p.head_label h.construct) (p.list_label h.construct) (p.plan.break_label h.construct) (with_third a c u) (thirds a c u q)
+  fors : (p : Layout) (h : Here) (t u : Option ExpressionTree) (a : Forest) (b c : Aim) {a' : Forest} → renumbered f a ≡ a' →
+      renumbered f (lowered_for p h t u a b c) ≡ lowered_for (moved p) h t u a' (aim_moved b) (aim_moved c)
+  fors p h (Some t) u a b c q = whiles (Source t) (p.head_label h.construct) (p.list_label h.construct) (p.plan.break_label h.construct)
+      (with_third a c u) (thirds a c u q)
   fors p h None u a b c q =
       let l = p.head_label h.construct in
       both (ever_items l (with_third a c u)) (mark_of b) (ap (Then (Mark (f l))) (both (with_third a c u) (one (Goto l)) (thirds a c u q) refl)) (marked b)
@@ -199,24 +214,30 @@ module _ (f : ℕ → ℕ) where
   -- ---- the body
 
   mutual
-    moves : (p : Layout) (h : Here) (b c : Aim) (r : Arrivals) (xs : Forest) → renumbered f (lowered p h b c r xs) ≡ lowered (moved p) h (aim_moved b) (aim_moved c) (arrivals_moved r) xs
+    moves : (p : Layout) (h : Here) (b c : Aim) (r : Arrivals) (xs : Forest) →
+        renumbered f (lowered p h b c r xs) ≡ lowered (moved p) h (aim_moved b) (aim_moved c) (arrivals_moved r) xs
     moves p h b c r Nil = refl
     moves p h b c r (Then x xs) = both (lowered_item p h b c r x) (lowered p (past_item x h) b c r xs) (moves_in p h b c r x) (moves p (past_item x h) b c r xs)
 
-    moves_in : (p : Layout) (h : Here) (b c : Aim) (r : Arrivals) (x : Tree) → renumbered f (lowered_item p h b c r x) ≡ lowered_item (moved p) h (aim_moved b) (aim_moved c) (arrivals_moved r) x
+    moves_in : (p : Layout) (h : Here) (b c : Aim) (r : Arrivals) (x : Tree) →
+        renumbered f (lowered_item p h b c r x) ≡ lowered_item (moved p) h (aim_moved b) (aim_moved c) (arrivals_moved r) x
     moves_in p h b c r (If t x y) =
-        chooses p h t (jump_of p.plan.live x y) (lowered p (inside (If t x y) h) b c r x) (lowered p (past x (inside (If t x y) h)) b c r y) (moves p (inside (If t x y) h) b c r x) (moves p (past x (inside (If t x y) h)) b c r y)
+        chooses p h t (jump_of p.plan.live x y) (lowered p (inside (If t x y) h) b c r x) (lowered p (past x (inside (If t x y) h)) b c r y)
+        (moves p (inside (If t x y) h) b c r x) (moves p (past x (inside (If t x y) h)) b c r y)
     moves_in p h b c r (While t a) =
         let e = p.plan.break_label h.construct in
         let l = p.head_label h.construct in
-        whiles t l (p.list_label h.construct) e (lowered p (inside (While t a) h) (Becomes e) (Becomes l) r a) (moves p (inside (While t a) h) (Becomes e) (Becomes l) r a)
+        whiles t l (p.list_label h.construct) e (lowered p (inside (While t a) h) (Becomes e) (Becomes l) r a)
+        (moves p (inside (While t a) h) (Becomes e) (Becomes l) r a)
     moves_in p h b c r (Do a t) =
         let i = inside (Do a t) h in
         let b' = break_aim p h a in
         let c' = continue_aim p h a in
         dos p h t (lowered p i b' c' r a) b' c' (moves p i b' c' r a)
-        ∙ ap (λ z. lowered_do (moved p) h t (lowered (moved p) i z (aim_moved c') (arrivals_moved r) a) z (aim_moved c')) (aimed true (breaks a) (p.plan.break_label h.construct))
-        ∙ ap (λ z. lowered_do (moved p) h t (lowered (moved p) i (break_aim (moved p) h a) z (arrivals_moved r) a) (break_aim (moved p) h a) z) (aimed true (continues a) (p.plan.continue_label h.construct))
+        ∙ ap (λ z. lowered_do (moved p) h t (lowered (moved p) i z (aim_moved c') (arrivals_moved r) a) z (aim_moved c'))
+        (aimed true (breaks a) (p.plan.break_label h.construct))
+        ∙ ap (λ z. lowered_do (moved p) h t (lowered (moved p) i (break_aim (moved p) h a) z (arrivals_moved r) a) (break_aim (moved p) h a) z)
+        (aimed true (continues a) (p.plan.continue_label h.construct))
     moves_in p h b c r (For first t u a) =
         let i = inside (For first t u a) h in
         let j = past first i in
@@ -225,7 +246,8 @@ module _ (f : ℕ → ℕ) where
         both (lowered p i b c NoArrival first) (lowered_for p h t u (lowered p j b' c' r a) b' c') (moves p i b c NoArrival first)
         (fors p h t u (lowered p j b' c' r a) b' c' (moves p j b' c' r a)
         ∙ ap (λ z. lowered_for (moved p) h t u (lowered (moved p) j z (aim_moved c') (arrivals_moved r) a) z (aim_moved c')) (for_aimed p h t a)
-        ∙ ap (λ z. lowered_for (moved p) h t u (lowered (moved p) j (for_aim (moved p) h t a) z (arrivals_moved r) a) (for_aim (moved p) h t a) z) (aimed true (continues a) (p.plan.continue_label h.construct)))
+        ∙ ap (λ z. lowered_for (moved p) h t u (lowered (moved p) j (for_aim (moved p) h t a) z (arrivals_moved r) a) (for_aim (moved p) h t a) z)
+        (aimed true (continues a) (p.plan.continue_label h.construct)))
     moves_in p h b c r (Block a) = moves p h b c r a
     moves_in p h b c r (Local x None) = refl
     moves_in p h b c r (Local x (Some es)) = given (entry_or no_slot p.plan.slots x).kind x (entry_or no_slot p.plan.slots x).cells es
@@ -249,13 +271,16 @@ module _ (f : ℕ → ℕ) where
     moves_in p h b c r (Land l) = refl
     moves_in p h b c r (Note bs) = refl
 
-    moves_among : (p : Layout) (h : Here) (b c : Aim) (names : Names) (d : Sections) → renumbered f (lowered_among p h b c names d) ≡ lowered_among (moved p) h (aim_moved b) (aim_moved c) (λ e. f (names e)) d
+    moves_among : (p : Layout) (h : Here) (b c : Aim) (names : Names) (d : Sections) →
+        renumbered f (lowered_among p h b c names d) ≡ lowered_among (moved p) h (aim_moved b) (aim_moved c) (λ e. f (names e)) d
     moves_among p h b c names NoSection = marked b
     moves_among p h b c names (Section cases default a ends d) =
-        both (case_marks names cases default) (join (lowered p h b c (Arrives names) a) (join (end_goto ends b) (lowered_among p (past a h) b c names d))) (labelled names cases default)
+        both (case_marks names cases default)
+        (join (lowered p h b c (Arrives names) a) (join (end_goto ends b) (lowered_among p (past a h) b c names d))) (labelled names cases default)
         (both (lowered p h b c (Arrives names) a) (join (end_goto ends b) (lowered_among p (past a h) b c names d)) (moves p h b c (Arrives names) a)
         (both (end_goto ends b) (lowered_among p (past a h) b c names d) (ended ends b) (moves_among p (past a h) b c names d)))
 
 -- where the labels have the numbers of their places
-pub placed_is : (ls : List ℕ) (p : Layout) (h : Here) (body : Forest) → renumbered (place_in ls) (lowered p h Stays Stays NoArrival body) ≡ lowered (placed ls p) h Stays Stays NoArrival body
+pub placed_is : (ls : List ℕ) (p : Layout) (h : Here) (body : Forest) →
+    renumbered (place_in ls) (lowered p h Stays Stays NoArrival body) ≡ lowered (placed ls p) h Stays Stays NoArrival body
 placed_is ls p h body = moves (place_in ls) p h Stays Stays NoArrival body

@@ -9,7 +9,8 @@ use Rattle.goto_lowering.specs.Tops.{IsNext}
 abbrev pub Awaits : List (List ℕ) → List (List ℕ) → List Top → List Top → List Top → Type 0
 Awaits names file all done rest = (us : List Top) → LoweredTops names file rest us → LoweredTops names file all (done ++ us)
 
-pub awaits_next : (names file : List (List ℕ)) (all done new : List Top) (t : Top) (rest : List Top) → IsNext names file t done new → Awaits names file all done (t ∷ rest) → Awaits names file all new rest
+pub awaits_next : (names file : List (List ℕ)) (all done new : List Top) (t : Top) (rest : List Top) → IsNext names file t done new →
+    Awaits names file all done (t ∷ rest) → Awaits names file all new rest
 awaits_next names file all done new t rest n a us h =
     subst (LoweredTops names file all) (sym (append_assoc done (n.one ∷ []) us) ∙ sym (ap (λ z. z ++ us) n.tops)) (a (n.one ∷ us) (lt_more n.lowered h))
 
@@ -22,4 +23,5 @@ gotos_next (y ∷ xs) x = let e = gotos_next xs x in omega arith
 
 -- one more behind the others
 pub gotos_more : (old new : List Top) (t : Top) (m n s : ℕ) → m ≡ tops_gotos old → n ≡ top_gotos t → s ≡ m + n → new ≡ old ++ t ∷ [] → s ≡ tops_gotos new
-gotos_more old new t m n s o g e p = let b = gotos_next old t in let all : s ≡ tops_gotos (old ++ t ∷ []) = omega (arith, o, g, e, b) in all ∙ sym (ap tops_gotos p)
+gotos_more old new t m n s o g e p = let b = gotos_next old t in let all : s ≡ tops_gotos (old ++ t ∷ []) = omega (arith, o, g, e, b) in
+    all ∙ sym (ap tops_gotos p)

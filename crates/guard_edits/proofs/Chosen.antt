@@ -15,7 +15,8 @@ use Rattle.guard_edits.proofs.Pairs.{one_item, pair_of}
 abbrev found : (old : List Item) (c : Choice) → Among c (choices (trees_of old)) → Located (λ l. barred l (trees_of old)) old c
 found old c h = located (λ l. barred l (trees_of old)) c.path.steps old c refl h
 
-may_here : (bar : ℕ → Bool) (xs : List Item) (x : Item) (c : Choice) → slice_get xs c.path.item ≡ Some x → OwnAt bar c.path.item (tree_of x) (trees_of (drop (suc c.path.item) xs)) c → (c.kind ≡ Z5 → ⊥)
+may_here : (bar : ℕ → Bool) (xs : List Item) (x : Item) (c : Choice) → slice_get xs c.path.item ≡ Some x →
+    OwnAt bar c.path.item (tree_of x) (trees_of (drop (suc c.path.item) xs)) c → (c.kind ≡ Z5 → ⊥)
     → MayEdit c.kind xs c.path.item
 may_here bar xs x c e h n = elim h [
   | inl a ↦ subst (λ k. MayEdit k xs c.path.item) (sym a.0) tt
@@ -34,10 +35,12 @@ may_here bar xs x c e h n = elim h [
 some_same : (xs ys : List Item) → Some xs ≡ Some ys → xs ≡ ys
 some_same xs ys e = cc
 
-pub may_edit : (old xs : List Item) (c : Choice) → Among c (choices (trees_of old)) → (c.kind ≡ Z5 → ⊥) → list_at old c.path.steps ≡ Some xs → MayEdit c.kind xs c.path.item
+pub may_edit : (old xs : List Item) (c : Choice) → Among c (choices (trees_of old)) → (c.kind ≡ Z5 → ⊥) → list_at old c.path.steps ≡ Some xs →
+    MayEdit c.kind xs c.path.item
 may_edit old xs c h n e =
     let l = found old c h in
-    subst (λ z. MayEdit c.kind z c.path.item) (some_same l.list xs (sym l.list_is ∙ e)) (may_here (λ l. barred l (trees_of old)) l.list l.item c l.item_is l.shape n)
+    subst (λ z. MayEdit c.kind z c.path.item) (some_same l.list xs (sym l.list_is ∙ e))
+    (may_here (λ l. barred l (trees_of old)) l.list l.item c l.item_is l.shape n)
 
 pub within_list : (old xs : List Item) (c : Choice) → Among c (choices (trees_of old)) → list_at old c.path.steps ≡ Some xs → c.path.item < length xs
 within_list old xs c h e =

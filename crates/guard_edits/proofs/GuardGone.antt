@@ -35,29 +35,35 @@ gone_layer l _ h = cc
 pub gone : (l : ℕ) (x : Item) → goes l x ≡ true → dropped_item (eqb l) (tree_of x) ≡ Nil
 gone l x h = ap (dropped_item (eqb l)) (tree-out x) ∙ gone_layer l (out-Item x) h
 
-pub in_if : (l : ℕ) (x : Item) (t : Test) (a b v w : List Item) → x ≡ If t a b → trees_of v ≡ dropped (eqb l) (trees_of a) → trees_of w ≡ dropped (eqb l) (trees_of b)
+pub in_if : (l : ℕ) (x : Item) (t : Test) (a b v w : List Item) → x ≡ If t a b → trees_of v ≡ dropped (eqb l) (trees_of a) →
+    trees_of w ≡ dropped (eqb l) (trees_of b)
     → one (tree_of (If t v w)) ≡ dropped_item (eqb l) (tree_of x)
 in_if l x t a b v w e f g =
     ap one (tree-If t v w ∙ ap (λ z. P.If (test_tree t) z (trees_of w)) f ∙ ap (P.If (test_tree t) (dropped (eqb l) (trees_of a))) g)
     ∙ sym (ap (dropped_item (eqb l)) (ap tree_of e ∙ tree-If t a b))
 
-pub in_while : (l : ℕ) (x : Item) (t : Test) (a v : List Item) → x ≡ While t a → trees_of v ≡ dropped (eqb l) (trees_of a) → one (tree_of (While t v)) ≡ dropped_item (eqb l) (tree_of x)
+pub in_while : (l : ℕ) (x : Item) (t : Test) (a v : List Item) → x ≡ While t a → trees_of v ≡ dropped (eqb l) (trees_of a) →
+    one (tree_of (While t v)) ≡ dropped_item (eqb l) (tree_of x)
 in_while l x t a v e f = ap one (tree-While t v ∙ ap (P.While (test_tree t)) f) ∙ sym (ap (dropped_item (eqb l)) (ap tree_of e ∙ tree-While t a))
 
-pub in_do : (l : ℕ) (x : Item) (t : Test) (a v : List Item) → x ≡ Do a t → trees_of v ≡ dropped (eqb l) (trees_of a) → one (tree_of (Do v t)) ≡ dropped_item (eqb l) (tree_of x)
+pub in_do : (l : ℕ) (x : Item) (t : Test) (a v : List Item) → x ≡ Do a t → trees_of v ≡ dropped (eqb l) (trees_of a) →
+    one (tree_of (Do v t)) ≡ dropped_item (eqb l) (tree_of x)
 in_do l x t a v e f = ap one (tree-Do v t ∙ ap (λ z. P.Do z (test_tree t)) f) ∙ sym (ap (dropped_item (eqb l)) (ap tree_of e ∙ tree-Do a t))
 
-pub in_for : (l : ℕ) (x : Item) (a : List Item) (t u : Option Expression) (b v w : List Item) → x ≡ For a t u b → trees_of v ≡ dropped (eqb l) (trees_of a) → trees_of w ≡ dropped (eqb l) (trees_of b)
+pub in_for : (l : ℕ) (x : Item) (a : List Item) (t u : Option Expression) (b v w : List Item) → x ≡ For a t u b →
+    trees_of v ≡ dropped (eqb l) (trees_of a) → trees_of w ≡ dropped (eqb l) (trees_of b)
     → one (tree_of (For v t u w)) ≡ dropped_item (eqb l) (tree_of x)
 in_for l x a t u b v w e f g =
     ap one (tree-For v t u w ∙ ap (λ z. P.For z (option_map expression_tree t) (option_map expression_tree u) (trees_of w)) f
     ∙ ap (P.For (dropped (eqb l) (trees_of a)) (option_map expression_tree t) (option_map expression_tree u)) g)
     ∙ sym (ap (dropped_item (eqb l)) (ap tree_of e ∙ tree-For a t u b))
 
-pub in_switch : (l : ℕ) (x : Item) (s : Selector) (c d : List Section) → x ≡ Switch s c → sections_of d ≡ dropped_sections (eqb l) (sections_of c) → one (tree_of (Switch s d)) ≡ dropped_item (eqb l) (tree_of x)
+pub in_switch : (l : ℕ) (x : Item) (s : Selector) (c d : List Section) → x ≡ Switch s c → sections_of d ≡ dropped_sections (eqb l) (sections_of c) →
+    one (tree_of (Switch s d)) ≡ dropped_item (eqb l) (tree_of x)
 in_switch l x s c d e f = ap one (tree-Switch s d ∙ ap (P.Switch (selector_tree s)) f) ∙ sym (ap (dropped_item (eqb l)) (ap tree_of e ∙ tree-Switch s c))
 
-pub in_block : (l : ℕ) (x : Item) (a v : List Item) → x ≡ Block a → trees_of v ≡ dropped (eqb l) (trees_of a) → one (tree_of (Block v)) ≡ dropped_item (eqb l) (tree_of x)
+pub in_block : (l : ℕ) (x : Item) (a v : List Item) → x ≡ Block a → trees_of v ≡ dropped (eqb l) (trees_of a) →
+    one (tree_of (Block v)) ≡ dropped_item (eqb l) (tree_of x)
 in_block l x a v e f = ap one (tree-Block v ∙ ap P.Block f) ∙ sym (ap (dropped_item (eqb l)) (ap tree_of e ∙ tree-Block a))
 
 kept_layer : (l : ℕ) (x : Item) (y : Item-F Item Section) → x ≡ roll-Item y
@@ -89,12 +95,14 @@ kept l x y f h p q r s u v w =
 pub arm_evaluates : (l m : ℕ) (e : Expression) → l ≡ m → one (tree_of (Evaluate e)) ≡ dropped_item (eqb l) (tree_of (Arm m (Some e)))
 arm_evaluates l m e h =
     ap one (tree-Evaluate e)
-    ∙ sym (ap (dropped_item (eqb l)) (tree-Arm m (Some e)) ∙ ap (λ b. cond b (one (P.Evaluate (expression_tree e))) (one (P.Arm m (Some (expression_tree e))))) (eq-eqb l m h))
+    ∙ sym (ap (dropped_item (eqb l)) (tree-Arm m (Some e)) ∙
+    ap (λ b. cond b (one (P.Evaluate (expression_tree e))) (one (P.Arm m (Some (expression_tree e))))) (eq-eqb l m h))
 
 pub arm_stays : (l m : ℕ) (e : Expression) → l ≢ m → one (tree_of (Arm m (Some e))) ≡ dropped_item (eqb l) (tree_of (Arm m (Some e)))
 arm_stays l m e h =
     ap one (tree-Arm m (Some e))
-    ∙ sym (ap (dropped_item (eqb l)) (tree-Arm m (Some e)) ∙ ap (λ b. cond b (one (P.Evaluate (expression_tree e))) (one (P.Arm m (Some (expression_tree e))))) (ne_eqb l m h))
+    ∙ sym (ap (dropped_item (eqb l)) (tree-Arm m (Some e)) ∙
+    ap (λ b. cond b (one (P.Evaluate (expression_tree e))) (one (P.Arm m (Some (expression_tree e))))) (ne_eqb l m h))
 
 pub arm_none : (l m : ℕ) → goes l (Arm m None) ≡ false → one (tree_of (Arm m None)) ≡ dropped_item (eqb l) (tree_of (Arm m None))
 arm_none l m h =
@@ -107,13 +115,16 @@ dropped_from d zero xs = dropped d xs
 dropped_from d (suc i) Nil = Nil
 dropped_from d (suc i) (Then x xs) = Then x (dropped_from d i xs)
 
-removed_at : (l : ℕ) (x : Item) → goes l x ≡ true → (xs : List Item) (i : ℕ) → slice_get xs i ≡ Some x → dropped_from (eqb l) i (trees_of (remove xs i)) ≡ dropped_from (eqb l) i (trees_of xs)
+removed_at : (l : ℕ) (x : Item) → goes l x ≡ true → (xs : List Item) (i : ℕ) → slice_get xs i ≡ Some x →
+    dropped_from (eqb l) i (trees_of (remove xs i)) ≡ dropped_from (eqb l) i (trees_of xs)
 unfolding trees_of
 removed_at l x h [] i e = cc
-removed_at l x h (z ∷ zs) zero e = let g : x ≡ z = cc in sym (ap (λ w. join w (dropped (eqb l) (trees_of zs))) (ap (λ w. dropped_item (eqb l) (tree_of w)) (sym g) ∙ gone l x h))
+removed_at l x h (z ∷ zs) zero e = let g : x ≡ z = cc in sym
+    (ap (λ w. join w (dropped (eqb l) (trees_of zs))) (ap (λ w. dropped_item (eqb l) (tree_of w)) (sym g) ∙ gone l x h))
 removed_at l x h (z ∷ zs) (suc i) e = ap (Then (tree_of z)) (removed_at l x h zs i e)
 
-pub one_goes : (l : ℕ) (xs ys : List Item) (i : ℕ) (x : Item) → slice_get xs i ≡ Some x → goes l x ≡ true → ys ≡ remove xs i → dropped_from (eqb l) i (trees_of ys) ≡ dropped_from (eqb l) i (trees_of xs)
+pub one_goes : (l : ℕ) (xs ys : List Item) (i : ℕ) (x : Item) → slice_get xs i ≡ Some x → goes l x ≡ true → ys ≡ remove xs i →
+    dropped_from (eqb l) i (trees_of ys) ≡ dropped_from (eqb l) i (trees_of xs)
 one_goes l xs ys i x e h f = ap (λ z. dropped_from (eqb l) i (trees_of z)) f ∙ removed_at l x h xs i e
 
 pub one_stays : (l : ℕ) (xs : List Item) (i : ℕ) (x y : Item) → slice_get xs i ≡ Some x → one (tree_of y) ≡ dropped_item (eqb l) (tree_of x)
@@ -137,16 +148,20 @@ sections_from d zero c = dropped_sections d c
 sections_from d (suc k) NoSection = NoSection
 sections_from d (suc k) (P.Section cases default a ends c) = P.Section cases default a ends (sections_from d k c)
 
-section_drops : (l : ℕ) (s t : Section) (rest : Sections) → IsWithoutGuard l s t → first (section_tree t) (dropped_sections (eqb l) rest) ≡ dropped_sections (eqb l) (first (section_tree s) rest)
+section_drops : (l : ℕ) (s t : Section) (rest : Sections) → IsWithoutGuard l s t →
+    first (section_tree t) (dropped_sections (eqb l) rest) ≡ dropped_sections (eqb l) (first (section_tree s) rest)
 section_drops l s t rest h =
     let o = section_tree s in
     ap (λ z. first z (dropped_sections (eqb l) rest)) (ap section_tree h.is ∙ section-with h.list s)
-    ∙ ap (λ z. P.Section o.cases o.default z o.ends (dropped_sections (eqb l) rest)) (h.trees ∙ ap (dropped (eqb l)) (sym (ap (λ (z : SectionTree). z.list) (section-parts s))))
+    ∙ ap (λ z. P.Section o.cases o.default z o.ends (dropped_sections (eqb l) rest))
+    (h.trees ∙ ap (dropped (eqb l)) (sym (ap (λ (z : SectionTree). z.list) (section-parts s))))
 
-pub section_done : (l : ℕ) (cs : List Section) (k : ℕ) (s t : Section) → slice_get cs k ≡ Some s → IsWithoutGuard l s t → sections_from (eqb l) (suc k) (sections_of (slice_set cs k t)) ≡ sections_from (eqb l) k (sections_of cs)
+pub section_done : (l : ℕ) (cs : List Section) (k : ℕ) (s t : Section) → slice_get cs k ≡ Some s → IsWithoutGuard l s t →
+    sections_from (eqb l) (suc k) (sections_of (slice_set cs k t)) ≡ sections_from (eqb l) k (sections_of cs)
 unfolding sections_of
 section_done l [] k s t e h = cc
-section_done l (c ∷ cs) zero s t e h = let g : s ≡ c = cc in section_drops l s t (sections_of cs) h ∙ ap (λ z. dropped_sections (eqb l) (first (section_tree z) (sections_of cs))) g
+section_done l (c ∷ cs) zero s t e h = let g : s ≡ c = cc in section_drops l s t (sections_of cs) h ∙
+    ap (λ z. dropped_sections (eqb l) (first (section_tree z) (sections_of cs))) g
 section_done l (c ∷ cs) (suc k) s t e h =
     let z = section_tree c in
     ap (λ r. P.Section z.cases z.default z.list z.ends r) (section_done l cs k s t e h)
@@ -181,7 +196,8 @@ of_while x t a e = ap items_of (ap tree_of e ∙ tree-While t a)
 pub of_do : (x : Item) (t : Test) (a : List Item) → x ≡ Do a t → items_of (tree_of x) ≡ 1 + items (trees_of a)
 of_do x t a e = ap items_of (ap tree_of e ∙ tree-Do a t)
 
-pub of_for : (x : Item) (a : List Item) (t u : Option Expression) (b : List Item) → x ≡ For a t u b → items_of (tree_of x) ≡ 1 + items (trees_of a) + items (trees_of b)
+pub of_for : (x : Item) (a : List Item) (t u : Option Expression) (b : List Item) → x ≡ For a t u b →
+    items_of (tree_of x) ≡ 1 + items (trees_of a) + items (trees_of b)
 of_for x a t u b e = ap items_of (ap tree_of e ∙ tree-For a t u b)
 
 pub of_switch : (x : Item) (s : Selector) (c : List Section) → x ≡ Switch s c → items_of (tree_of x) ≡ 1 + items_in (sections_of c)
@@ -190,18 +206,21 @@ of_switch x s c e = ap items_of (ap tree_of e ∙ tree-Switch s c)
 pub of_block : (x : Item) (a : List Item) → x ≡ Block a → items_of (tree_of x) ≡ 1 + items (trees_of a)
 of_block x a e = ap items_of (ap tree_of e ∙ tree-Block a)
 
-item_and_rest : (xs : List Item) (i : ℕ) (x : Item) → slice_get xs i ≡ Some x → items (trees_of (drop i xs)) ≡ items_of (tree_of x) + items (trees_of (drop (suc i) xs))
+item_and_rest : (xs : List Item) (i : ℕ) (x : Item) → slice_get xs i ≡ Some x →
+    items (trees_of (drop i xs)) ≡ items_of (tree_of x) + items (trees_of (drop (suc i) xs))
 unfolding trees_of
 item_and_rest [] i x e = cc
 item_and_rest (z ∷ zs) zero x e = let g : x ≡ z = cc in ap (λ w. items_of (tree_of w) + items (trees_of zs)) (sym g)
 item_and_rest (z ∷ zs) (suc i) x e = item_and_rest zs i x e
 
-section_and_rest : (cs : List Section) (k : ℕ) (s : Section) → slice_get cs k ≡ Some s → items_in (sections_of (drop k cs)) ≡ items (trees_of (list_of s)) + items_in (sections_of (drop (suc k) cs))
+section_and_rest : (cs : List Section) (k : ℕ) (s : Section) → slice_get cs k ≡ Some s →
+    items_in (sections_of (drop k cs)) ≡ items (trees_of (list_of s)) + items_in (sections_of (drop (suc k) cs))
 unfolding sections_of
 section_and_rest [] k s e = cc
 section_and_rest (z ∷ zs) zero s e =
     let g : s ≡ z = cc in
-    ap (λ (w : SectionTree). items w.list + items_in (sections_of zs)) (section-parts z) ∙ ap (λ w. items (trees_of (list_of w)) + items_in (sections_of zs)) (sym g)
+    ap (λ (w : SectionTree). items w.list + items_in (sections_of zs)) (section-parts z) ∙
+    ap (λ w. items (trees_of (list_of w)) + items_in (sections_of zs)) (sym g)
 section_and_rest (z ∷ zs) (suc k) s e = section_and_rest zs k s e
 
 after_set : {A : Type 0} (xs : List A) (i : ℕ) (y : A) → drop (suc i) (slice_set xs i y) ≡ drop (suc i) xs
@@ -223,13 +242,15 @@ pub record IsDroppedTo (l i : ℕ) (old new : List Item) : Type 0 where
 pub starts : (l : ℕ) (xs : List Item) → IsDroppedTo l 0 xs xs
 starts l xs = record { dropped = refl; left = omega arith }
 
-pub item_gone : (l i : ℕ) (old new other : List Item) (x : Item) → slice_get new i ≡ Some x → goes l x ≡ true → other ≡ remove new i → IsDroppedTo l i old new → IsDroppedTo l i old other
+pub item_gone : (l i : ℕ) (old new other : List Item) (x : Item) → slice_get new i ≡ Some x → goes l x ≡ true → other ≡ remove new i →
+    IsDroppedTo l i old new → IsDroppedTo l i old other
 item_gone l i old new other x e h f d =
     let n = item_and_rest new i x e in
     let m = ap (λ z. items (trees_of (drop i z))) f ∙ ap (λ z. items (trees_of z)) (after_remove new i x e) in
     record { dropped = one_goes l new other i x e h f ∙ d.dropped; left = omega (arith, n, m, d.left) }
 
-pub item_kept : (l i : ℕ) (old new : List Item) (x y : Item) → slice_get new i ≡ Some x → one (tree_of y) ≡ dropped_item (eqb l) (tree_of x) → IsDroppedTo l i old new → IsDroppedTo l (suc i) old (slice_set new i y)
+pub item_kept : (l i : ℕ) (old new : List Item) (x y : Item) → slice_get new i ≡ Some x → one (tree_of y) ≡ dropped_item (eqb l) (tree_of x) →
+    IsDroppedTo l i old new → IsDroppedTo l (suc i) old (slice_set new i y)
 item_kept l i old new x y e h d =
     let n = item_and_rest new i x e in
     let m = ap (λ z. items (trees_of z)) (after_set new i y) in
@@ -245,16 +266,19 @@ pub record AreDroppedTo (l k : ℕ) (old new : List Section) : Type 0 where
   pub dropped : sections_from (eqb l) k (sections_of new) ≡ dropped_sections (eqb l) (sections_of old)
   pub left : items_in (sections_of (drop k new)) ≤ items_in (sections_of old)
 
-pub section_gone : (l k : ℕ) (old new : List Section) (s t : Section) → slice_get new k ≡ Some s → IsWithoutGuard l s t → AreDroppedTo l k old new → AreDroppedTo l (suc k) old (slice_set new k t)
+pub section_gone : (l k : ℕ) (old new : List Section) (s t : Section) → slice_get new k ≡ Some s → IsWithoutGuard l s t → AreDroppedTo l k old new →
+    AreDroppedTo l (suc k) old (slice_set new k t)
 section_gone l k old new s t e h d =
     let n = section_and_rest new k s e in
     let m = ap (λ z. items_in (sections_of z)) (after_set new k t) in
     record { dropped = section_done l new k s t e h ∙ d.dropped; left = omega (arith, n, m, d.left) }
 
-pub all_sections_done : (l k : ℕ) (old new : List Section) → length new ≤ k → AreDroppedTo l k old new → sections_of new ≡ dropped_sections (eqb l) (sections_of old)
+pub all_sections_done : (l k : ℕ) (old new : List Section) → length new ≤ k → AreDroppedTo l k old new →
+    sections_of new ≡ dropped_sections (eqb l) (sections_of old)
 all_sections_done l k old new h d = sym (sections_done (eqb l) new k h) ∙ d.dropped
 
-pub section_within : (l k : ℕ) (old new : List Section) (s : Section) → slice_get new k ≡ Some s → AreDroppedTo l k old new → items (trees_of (list_of s)) ≤ items_in (sections_of old)
+pub section_within : (l k : ℕ) (old new : List Section) (s : Section) → slice_get new k ≡ Some s → AreDroppedTo l k old new →
+    items (trees_of (list_of s)) ≤ items_in (sections_of old)
 section_within l k old new s e d = let n = section_and_rest new k s e in omega (arith, n, d.left)
 
 pub same_item : (xs : List Item) (i : ℕ) (x y : Item) → slice_get xs i ≡ Some x → slice_get xs i ≡ Some y → x ≡ y

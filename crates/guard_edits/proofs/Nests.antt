@@ -44,7 +44,8 @@ module _ (x : Item) (n : IsNest x) (t : Test) (list c : List Item) (e : x ≡ If
   pub last_is : (zs : List Item) (last : Item) → list ≡ zs ++ last ∷ [] → last ≡ If n.inner n.list []
   last_is zs last f = last_of zs last (If n.inner n.list []) (parts.1 ∙ f)
 
-  pub unnest_is : (w u : Test) (a b zs : List Item) (last : Item) → list ≡ zs ++ last ∷ [] → last ≡ If u a b → test_tree w ≡ round (test_tree t) (test_tree u) → IsUnnested x (If w a c)
+  pub unnest_is : (w u : Test) (a b zs : List Item) (last : Item) → list ≡ zs ++ last ∷ [] → last ≡ If u a b →
+      test_tree w ≡ round (test_tree t) (test_tree u) → IsUnnested x (If w a c)
   unnest_is w u a b zs last f g h rest =
       let alone : list ≡ last ∷ [] = sym parts.1 ∙ ap (λ (z : Item). z ∷ []) (sym (last_is zs last f)) in
       let tree : tree_of x ≡ P.If (test_tree t) (Then (P.If (test_tree u) (trees_of a) (trees_of b)) Nil) (trees_of c) =

@@ -23,9 +23,11 @@ length-If x t a b e = ap first_length e ∙ ap first_length_F (out_if t a b)
 
 pub join_is : (x y : Item) (t u : Test) (a b c d all : List Item) → x ≡ If t a b → y ≡ If u c d → all ≡ a ++ c → IsJoined x y (If t all b)
 join_is x y t u a b c d all e f g rest =
-    ap (λ z. Then z rest) (tree-If t all b ∙ ap (λ z. P.If (test_tree t) (trees_of z) (trees_of b)) g ∙ ap (λ z. P.If (test_tree t) z (trees_of b)) (trees-append a c))
+    ap (λ z. Then z rest) (tree-If t all b ∙ ap (λ z. P.If (test_tree t) (trees_of z) (trees_of b)) g ∙
+    ap (λ z. P.If (test_tree t) z (trees_of b)) (trees-append a c))
     ∙ sym (ap (λ z. joined (Then (tree_of z) (Then (tree_of y) rest))) e ∙ ap (λ z. joined (Then (tree_of (If t a b)) (Then (tree_of z) rest))) f
-    ∙ ap (λ z. joined (Then z (Then (tree_of (If u c d)) rest))) (tree-If t a b) ∙ ap (λ z. joined (Then (P.If (test_tree t) (trees_of a) (trees_of b)) (Then z rest))) (tree-If u c d))
+    ∙ ap (λ z. joined (Then z (Then (tree_of (If u c d)) rest))) (tree-If t a b) ∙
+    ap (λ z. joined (Then (P.If (test_tree t) (trees_of a) (trees_of b)) (Then z rest))) (tree-If u c d))
 
 -- ---- in a list
 
@@ -39,18 +41,21 @@ still_first (x ∷ []) zero = refl
 still_first (x ∷ y ∷ xs) zero = refl
 still_first (x ∷ xs) (suc i) = still_first xs i
 
-pub set_joined : (xs : List Item) (i : ℕ) (x y w : Item) → slice_get xs i ≡ Some x → slice_get xs (suc i) ≡ Some y → IsJoined x y w → trees_of (slice_set (remove xs (suc i)) i w) ≡ edited Z3 i (trees_of xs)
+pub set_joined : (xs : List Item) (i : ℕ) (x y w : Item) → slice_get xs i ≡ Some x → slice_get xs (suc i) ≡ Some y → IsJoined x y w →
+    trees_of (slice_set (remove xs (suc i)) i w) ≡ edited Z3 i (trees_of xs)
 unfolding trees_of
 set_joined [] i x y w e f h = cc
 set_joined (a ∷ []) zero x y w e f h = cc
 set_joined (a ∷ b ∷ xs) zero x y w e f h =
     let p : a ≡ x = cc in
     let q : b ≡ y = cc in
-    h (trees_of xs) ∙ ap (λ z. joined (Then (tree_of z) (Then (tree_of y) (trees_of xs)))) (sym p) ∙ ap (λ z. joined (Then (tree_of a) (Then (tree_of z) (trees_of xs)))) (sym q)
+    h (trees_of xs) ∙ ap (λ z. joined (Then (tree_of z) (Then (tree_of y) (trees_of xs)))) (sym p) ∙
+    ap (λ z. joined (Then (tree_of a) (Then (tree_of z) (trees_of xs)))) (sym q)
 set_joined (a ∷ xs) (suc i) x y w e f h = ap (Then (tree_of a)) (set_joined xs i x y w e f h)
 
 -- the second is taken out, and the first changed
-pub pair_joined : (xs ys : List Item) (i : ℕ) (x y w : Item) → slice_get xs (i + 1) ≡ Some y → ys ≡ remove xs (i + 1) → slice_get ys i ≡ Some x → IsJoined x y w → trees_of (slice_set ys i w) ≡ edited Z3 i (trees_of xs)
+pub pair_joined : (xs ys : List Item) (i : ℕ) (x y w : Item) → slice_get xs (i + 1) ≡ Some y → ys ≡ remove xs (i + 1) → slice_get ys i ≡ Some x →
+    IsJoined x y w → trees_of (slice_set ys i w) ≡ edited Z3 i (trees_of xs)
 pair_joined xs ys i x y w f e h j =
     let more : i + 1 ≡ suc i = omega arith in
     let rest : ys ≡ remove xs (suc i) = e ∙ ap (remove xs) more in

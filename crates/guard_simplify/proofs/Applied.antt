@@ -23,13 +23,25 @@ pub chosen_simplified : (c : Choice) (old new : List Item) → Among c (choices 
 chosen_simplified c old new i a =
     let l = located (bar_of old) c.path.steps old c refl i in
     elim l.shape [
-      | inl h ↦ record { either = inl (edit_changed (bar_of old) old new c l (subst (λ k. applied_as k c old new) h.0 a) (λ e. let f : Z1 ≡ Z5 = sym h.0 ∙ e in cc)) }
+      | inl h ↦ record {
+        either = inl (edit_changed (bar_of old) old new c l (subst (λ k. applied_as k c old new) h.0 a)
+            (λ e. let f : Z1 ≡ Z5 = sym h.0 ∙ e in cc));
+      }
       | inr s ↦ elim s [
-        | inl h ↦ record { either = inl (edit_changed (bar_of old) old new c l (subst (λ k. applied_as k c old new) h.0 a) (λ e. let f : Z2 ≡ Z5 = sym h.0 ∙ e in cc)) }
+        | inl h ↦ record {
+          either = inl (edit_changed (bar_of old) old new c l (subst (λ k. applied_as k c old new) h.0 a)
+              (λ e. let f : Z2 ≡ Z5 = sym h.0 ∙ e in cc));
+        }
         | inr s ↦ elim s [
-          | inl h ↦ record { either = inl (edit_changed (bar_of old) old new c l (subst (λ k. applied_as k c old new) h.0 a) (λ e. let f : Z3 ≡ Z5 = sym h.0 ∙ e in cc)) }
+          | inl h ↦ record {
+            either = inl (edit_changed (bar_of old) old new c l (subst (λ k. applied_as k c old new) h.0 a)
+                (λ e. let f : Z3 ≡ Z5 = sym h.0 ∙ e in cc));
+          }
           | inr s ↦ elim s [
-            | inl h ↦ record { either = inl (edit_changed (bar_of old) old new c l (subst (λ k. applied_as k c old new) h.0 a) (λ e. let f : Z4 ≡ Z5 = sym h.0 ∙ e in cc)) }
+            | inl h ↦ record {
+              either = inl (edit_changed (bar_of old) old new c l (subst (λ k. applied_as k c old new) h.0 a)
+                  (λ e. let f : Z4 ≡ Z5 = sym h.0 ∙ e in cc));
+            }
             | inr h ↦ let d : IsDropped c old new = subst (λ k. applied_as k c old new) h.0 a in record { either = inr (d.label, d.trees) }
           ]
         ]

@@ -11,15 +11,19 @@ pub first_and_rest : {A : Type 0} (xs : List A) (d : A) → 1 ≤ length xs → 
 first_and_rest [] d h = absurd (omega arith)
 first_and_rest (x ∷ xs) d h = ap (λ ys. x ∷ ys) (sym (take_all (length (x ∷ xs) - 1) xs (omega arith)))
 
-step_from : (bar : ℕ → Bool) (xs : List Item) (s : Step) (ss : List Step) (i : ℕ) (x : Item) (a : List Item) → slice_get xs s.item ≡ Some x → child s.branch x ≡ Some a
+step_from : (bar : ℕ → Bool) (xs : List Item) (s : Step) (ss : List Step) (i : ℕ) (x : Item) (a : List Item) → slice_get xs s.item ≡ Some x →
+    child s.branch x ≡ Some a
     → first_from bar xs (s ∷ ss) i ≡ else_first (option_map (under_one s.item s.branch) (first_from bar a ss i)) (first (after bar xs x s))
 step_from bar xs s ss i x a e f =
-    ap (option_and_then (λ x. else_first (option_and_then (λ a. option_map (under_one s.item s.branch) (first_from bar a ss i)) (child s.branch x)) (first (after bar xs x s)))) e
+    ap (option_and_then (λ x. else_first (option_and_then (λ a. option_map (under_one s.item s.branch) (first_from bar a ss i)) (child s.branch x))
+    (first (after bar xs x s)))) e
     ∙ ap (λ o. else_first (option_and_then (λ a. option_map (under_one s.item s.branch) (first_from bar a ss i)) o) (first (after bar xs x s))) f
 
 -- with the steps as the code has them
-pub stepped_from : (bar : ℕ → Bool) (xs : List Item) (steps : List Step) (d : Step) (i : ℕ) (x : Item) (a : List Item) → 1 ≤ length steps → slice_get xs (get_or steps 0 d).item ≡ Some x → child (get_or steps 0 d).branch x ≡ Some a
-    → else_first (option_map (under_one (get_or steps 0 d).item (get_or steps 0 d).branch) (first_from bar a (take (length steps - 1) (drop 1 steps)) i)) (first (after bar xs x (get_or steps 0 d))) ≡ first_from bar xs steps i
+pub stepped_from : (bar : ℕ → Bool) (xs : List Item) (steps : List Step) (d : Step) (i : ℕ) (x : Item) (a : List Item) → 1 ≤ length steps →
+    slice_get xs (get_or steps 0 d).item ≡ Some x → child (get_or steps 0 d).branch x ≡ Some a
+    → else_first (option_map (under_one (get_or steps 0 d).item (get_or steps 0 d).branch)
+    (first_from bar a (take (length steps - 1) (drop 1 steps)) i)) (first (after bar xs x (get_or steps 0 d))) ≡ first_from bar xs steps i
 stepped_from bar xs steps d i x a h e f =
     let s = get_or steps 0 d in
     sym (ap (λ ss. first_from bar xs ss i) (first_and_rest steps d h) ∙ step_from bar xs s (take (length steps - 1) (drop 1 steps)) i x a e f)

@@ -76,7 +76,8 @@ layer_arms l _ = refl
 pub arms-item : (l : ℕ) (x : Item) → arms_of l (tree_of x) ≡ arms_item l x
 arms-item l x = ap (arms_of l) (tree-out x) ∙ layer_arms l (out-Item x)
 
-pub arms-more : (l : ℕ) (xs : List Item) (i : ℕ) (x : Item) → i < length xs → x ≡ get_or xs i x → arms l (trees_of (drop i xs)) ≡ (arms_item l x || arms l (trees_of (drop (i + 1) xs)))
+pub arms-more : (l : ℕ) (xs : List Item) (i : ℕ) (x : Item) → i < length xs → x ≡ get_or xs i x →
+    arms l (trees_of (drop i xs)) ≡ (arms_item l x || arms l (trees_of (drop (i + 1) xs)))
 arms-more l xs i x h e =
     at_drop_more (λ z. arms l (trees_of z)) xs i x h ∙ ap (arms l) (trees-more (get_or xs i x) (drop (i + 1) xs))
     ∙ ap (λ b. b || arms l (trees_of (drop (i + 1) xs))) (arms-item l (get_or xs i x) ∙ ap (arms_item l) (sym e))
@@ -114,7 +115,8 @@ layer_bars l _ = refl
 pub bars-item : (l : ℕ) (x : Item) → barred_of l (tree_of x) ≡ bars_item l x
 bars-item l x = ap (barred_of l) (tree-out x) ∙ layer_bars l (out-Item x)
 
-pub bars-more : (l : ℕ) (xs : List Item) (i : ℕ) (x : Item) → i < length xs → x ≡ get_or xs i x → barred l (trees_of (drop i xs)) ≡ (bars_item l x || barred l (trees_of (drop (i + 1) xs)))
+pub bars-more : (l : ℕ) (xs : List Item) (i : ℕ) (x : Item) → i < length xs → x ≡ get_or xs i x →
+    barred l (trees_of (drop i xs)) ≡ (bars_item l x || barred l (trees_of (drop (i + 1) xs)))
 bars-more l xs i x h e =
     at_drop_more (λ z. barred l (trees_of z)) xs i x h ∙ ap (barred l) (trees-more (get_or xs i x) (drop (i + 1) xs))
     ∙ ap (λ b. b || barred l (trees_of (drop (i + 1) xs))) (bars-item l (get_or xs i x) ∙ ap (bars_item l) (sym e))
@@ -136,7 +138,8 @@ section_bars-all l cs i h = at_drop_all (λ z. barred_in l (sections_of z)) cs i
 pub bars-For : (l : ℕ) (f : List Item) (t u : Option Expression) (a : List Item) → bars_item l (For f t u a) ≡ (barred l (trees_of f) || barred l (trees_of a))
 bars-For l f t u a = ap (bars_item l) (sym (rolls-For f t u a)) ∙ ap (bars_F l) (out-roll-Item (O.For f t u a))
 
-pub inside-If : (bar : ℕ → Bool) (i : ℕ) (t : Test) (a b : List Item) → inside_item bar i (If t a b) ≡ under i B.Then (choices_from bar 0 (trees_of a)) ++ under i B.Else (choices_from bar 0 (trees_of b))
+pub inside-If : (bar : ℕ → Bool) (i : ℕ) (t : Test) (a b : List Item) →
+    inside_item bar i (If t a b) ≡ under i B.Then (choices_from bar 0 (trees_of a)) ++ under i B.Else (choices_from bar 0 (trees_of b))
 inside-If bar i t a b = ap (inside_item bar i) (sym (rolls-If t a b)) ∙ ap (inside_F bar i) (out-roll-Item (O.If t a b))
 
 -- one after another
@@ -224,7 +227,8 @@ or_is ands ors t l u v b e f g =
 pub pick_is : (picks : List ℕ) (s : Selector) (l : ℕ) (n : ℤ) (u v : Selector) (b : Bool) → s ≡ Selectors.Pick l n u → v ≡ u → b ≡ has l picks
     → repeat_pick picks (selector_tree s) ≡ cond b (here_at l) (inside (repeat_pick (picks ++ l ∷ []) (selector_tree v)))
 pick_is picks s l n u v b e f g =
-    ap (λ z. repeat_pick picks (selector_tree z)) e ∙ ap (repeat_pick picks) (selector-Pick l n u) ∙ ap (λ z. repeat_pick picks (PT.Pick l n (selector_tree z))) (sym f)
+    ap (λ z. repeat_pick picks (selector_tree z)) e ∙ ap (repeat_pick picks) (selector-Pick l n u) ∙
+    ap (λ z. repeat_pick picks (PT.Pick l n (selector_tree z))) (sym f)
     ∙ ap (λ z. cond z (here_at l) (inside (repeat_pick (picks ++ l ∷ []) (selector_tree v)))) (sym g)
 
 -- a found wrapper
@@ -253,7 +257,8 @@ comma-is e a b h =
 pub conditional-is : (e a b d : Expression) → (out-Expression e).node ≡ Conditional a b d → ends_in_call (expression_tree e) ≡ none_is (out-Expression e).kind
 conditional-is e a b d h =
     let k = (out-Expression e).kind in
-    ap ends_in_call (expression-parts e) ∙ ap (λ n. ends_in_call (PE.Typed k (node_tree n))) h ∙ ap (λ n. ends_in_call (PE.Typed k n)) (node-Conditional a b d) ∙ conditional_none k _ _ _
+    ap ends_in_call (expression-parts e) ∙ ap (λ n. ends_in_call (PE.Typed k (node_tree n))) h ∙
+    ap (λ n. ends_in_call (PE.Typed k n)) (node-Conditional a b d) ∙ conditional_none k _ _ _
 
 other_layer : (k : Option IntKind) (n : Node) (y : Node-F Node Place Expression) → n ≡ roll-Node y
     → ((a b d : Expression) → n ≡ Conditional a b d → ⊥) → ((a b : Expression) → n ≡ Comma a b → ⊥) → ((f : List ℕ) (xs : List Expression) → n ≡ Call f xs → ⊥)
@@ -264,12 +269,14 @@ other_layer k n (N.Comma a b) e p q r = absurd (q a b (e ∙ rolls-Comma a b))
 other_layer k n (N.Call f xs) e p q r = absurd (r f xs (e ∙ rolls-Call f xs))
 other_layer k n y e p q r = ap (λ z. ends_in_call (PE.Typed k z)) (fold-roll-Node NodeTree PlaceTree ExpressionTree node_layer place_layer expression_layer y)
 
-pub other-is : (e : Expression) → ((a b d : Expression) → (out-Expression e).node ≡ Conditional a b d → ⊥) → ((a b : Expression) → (out-Expression e).node ≡ Comma a b → ⊥)
+pub other-is : (e : Expression) → ((a b d : Expression) → (out-Expression e).node ≡ Conditional a b d → ⊥) →
+    ((a b : Expression) → (out-Expression e).node ≡ Comma a b → ⊥)
     → ((f : List ℕ) (xs : List Expression) → (out-Expression e).node ≡ Call f xs → ⊥) → ends_in_call (expression_tree e) ≡ false
 other-is e p q r =
     let k = (out-Expression e).kind in
     let n = (out-Expression e).node in
-    ap ends_in_call (expression-parts e) ∙ ap (λ z. ends_in_call (PE.Typed k (node_tree z))) (sym (roll-out-Node n)) ∙ other_layer k n (out-Node n) (sym (roll-out-Node n)) p q r
+    ap ends_in_call (expression-parts e) ∙ ap (λ z. ends_in_call (PE.Typed k (node_tree z))) (sym (roll-out-Node n)) ∙
+    other_layer k n (out-Node n) (sym (roll-out-Node n)) p q r
 
 pub none_by : {A : Type 0} (o : Option A) (b : Bool) → is_some o ≡ not b → b ≡ none_is o
 none_by None true h = refl
@@ -348,7 +355,8 @@ get_drop [] (suc i) = refl
 get_drop (x ∷ xs) zero = refl
 get_drop (x ∷ xs) (suc i) = get_drop xs i
 
-pub neighbours-item : (x : Item) (xs : List Item) (i : ℕ) → neighbours (tree_of x) (trees_of (drop (i + 1) xs)) ≡ beside (guard x) (next_guard (slice_get xs (i + 1))) (λ l. arms_item l x)
+pub neighbours-item : (x : Item) (xs : List Item) (i : ℕ) → neighbours (tree_of x) (trees_of (drop (i + 1) xs)) ≡ beside (guard x)
+    (next_guard (slice_get xs (i + 1))) (λ l. arms_item l x)
 neighbours-item x xs i = neighbours_of x (drop (i + 1) xs) ∙ ap (λ o. beside (guard x) (next_guard o) (λ l. arms_item l x)) (get_drop xs (i + 1))
 
 made_tree : (t : TestTree) (a b : Forest) → is_made_if (P.If t a b) ≡ (is_nil b && is_made t)
@@ -404,7 +412,8 @@ last_some : (i : ℕ) (k : MoveKind) (o : Option ℕ) → first (if_some i k o) 
 last_some i k None = refl
 last_some i k (Some l) = refl
 
-pub own-is : (bar : ℕ → Bool) (i : ℕ) (x : Item) (xs : List Item) (j : ℕ) → first (own bar i (tree_of x) (trees_of (drop (j + 1) xs))) ≡ own_at bar i x (slice_get xs (j + 1))
+pub own-is : (bar : ℕ → Bool) (i : ℕ) (x : Item) (xs : List Item) (j : ℕ) →
+    first (own bar i (tree_of x) (trees_of (drop (j + 1) xs))) ≡ own_at bar i x (slice_get xs (j + 1))
 own-is bar i x xs j =
     let t = tree_of x in
     let rest = trees_of (drop (j + 1) xs) in
@@ -416,7 +425,8 @@ own-is bar i x xs j =
     ∙ (simp (empty-item x, repeat-item x, neighbours-item x xs j, nested-item x, unread-item bar x))
 
 pub choices-more : (bar : ℕ → Bool) (n : ℕ) (xs : List Item) (i : ℕ) (x : Item) → i < length xs → x ≡ get_or xs i x
-    → choices_from bar n (trees_of (drop i xs)) ≡ own bar n (tree_of x) (trees_of (drop (i + 1) xs)) ++ (inside_item bar n x ++ choices_from bar (n + 1) (trees_of (drop (i + 1) xs)))
+    → choices_from bar n (trees_of (drop i xs)) ≡ own bar n (tree_of x) (trees_of (drop (i + 1) xs)) ++
+    (inside_item bar n x ++ choices_from bar (n + 1) (trees_of (drop (i + 1) xs)))
 choices-more bar n xs i x h e =
     let rest = trees_of (drop (i + 1) xs) in
     at_drop_more (λ z. choices_from bar n (trees_of z)) xs i x h ∙ ap (choices_from bar n) (trees-more (get_or xs i x) (drop (i + 1) xs))
@@ -427,14 +437,17 @@ pub choices-all : (bar : ℕ → Bool) (n : ℕ) (xs : List Item) (i : ℕ) → 
 choices-all bar n xs i h = at_drop_all (λ z. choices_from bar n (trees_of z)) xs i h ∙ ap (choices_from bar n) trees-none
 
 pub section_choices-more : (bar : ℕ → Bool) (at k : ℕ) (cs : List Real.Section) (i : ℕ) (c : Real.Section) → i < length cs → c ≡ get_or cs i c
-    → choices_of_sections bar at k (sections_of (drop i cs)) ≡ under at (B.Section k) (choices_from bar 0 (trees_of (list_of c))) ++ choices_of_sections bar at (k + 1) (sections_of (drop (i + 1) cs))
+    → choices_of_sections bar at k (sections_of (drop i cs)) ≡ under at (B.Section k) (choices_from bar 0 (trees_of (list_of c))) ++
+    choices_of_sections bar at (k + 1) (sections_of (drop (i + 1) cs))
 section_choices-more bar at k cs i c h e =
     let rest = sections_of (drop (i + 1) cs) in
-    at_drop_more (λ z. choices_of_sections bar at k (sections_of z)) cs i c h ∙ ap (choices_of_sections bar at k) (sections-more (get_or cs i c) (drop (i + 1) cs))
+    at_drop_more (λ z. choices_of_sections bar at k (sections_of z)) cs i c h ∙
+    ap (choices_of_sections bar at k) (sections-more (get_or cs i c) (drop (i + 1) cs))
     ∙ ap (λ (z : SectionTree). under at (B.Section k) (choices_from bar 0 z.list) ++ choices_of_sections bar at (k + 1) rest) (section-parts (get_or cs i c))
     ∙ ap (λ z. under at (B.Section k) (choices_from bar 0 (trees_of (list_of z))) ++ choices_of_sections bar at (k + 1) rest) (sym e)
 
-pub section_choices-all : (bar : ℕ → Bool) (at k : ℕ) (cs : List Real.Section) (i : ℕ) → length cs ≤ i → choices_of_sections bar at k (sections_of (drop i cs)) ≡ []
+pub section_choices-all : (bar : ℕ → Bool) (at k : ℕ) (cs : List Real.Section) (i : ℕ) → length cs ≤ i →
+    choices_of_sections bar at k (sections_of (drop i cs)) ≡ []
 section_choices-all bar at k cs i h = at_drop_all (λ z. choices_of_sections bar at k (sections_of z)) cs i h ∙ ap (choices_of_sections bar at k) sections-none
 
 -- bars that agree choose alike
@@ -450,15 +463,20 @@ module _ (bar : ℕ → Bool) (xs : List Item) (i : ℕ) (x : Item) (h : i < len
   abbrev rest_choices : List Choice
   rest_choices = choices_from bar (i + 1) (trees_of (drop (i + 1) xs))
 
-  pub own_decides : (all : Option Choice) (c : Choice) → all ≡ first (choices_from bar i (trees_of (drop i xs))) → own_at bar i x (slice_get xs (i + 1)) ≡ Some c → Some c ≡ all
+  pub own_decides : (all : Option Choice) (c : Choice) → all ≡ first (choices_from bar i (trees_of (drop i xs))) →
+      own_at bar i x (slice_get xs (i + 1)) ≡ Some c → Some c ≡ all
   own_decides all c a f =
-      sym (a ∙ ap first (choices-more bar i xs i x h e) ∙ first_some (own bar i (tree_of x) (trees_of (drop (i + 1) xs))) (inside_item bar i x ++ rest_choices) c (own-is bar i x xs i ∙ f))
+      sym (a ∙ ap first (choices-more bar i xs i x h e) ∙ first_some (own bar i (tree_of x) (trees_of (drop (i + 1) xs)))
+      (inside_item bar i x ++ rest_choices) c (own-is bar i x xs i ∙ f))
 
   past_own : own_at bar i x (slice_get xs (i + 1)) ≡ None → first (choices_from bar i (trees_of (drop i xs))) ≡ first (inside_item bar i x ++ rest_choices)
-  past_own f = ap first (choices-more bar i xs i x h e) ∙ first_none (own bar i (tree_of x) (trees_of (drop (i + 1) xs))) (inside_item bar i x ++ rest_choices) (own-is bar i x xs i ∙ f)
+  past_own f = ap first (choices-more bar i xs i x h e) ∙ first_none (own bar i (tree_of x) (trees_of (drop (i + 1) xs)))
+      (inside_item bar i x ++ rest_choices) (own-is bar i x xs i ∙ f)
 
-  pub inside_decides : (all : Option Choice) (c : Choice) → all ≡ first (choices_from bar i (trees_of (drop i xs))) → own_at bar i x (slice_get xs (i + 1)) ≡ None → first (inside_item bar i x) ≡ Some c → Some c ≡ all
+  pub inside_decides : (all : Option Choice) (c : Choice) → all ≡ first (choices_from bar i (trees_of (drop i xs))) →
+      own_at bar i x (slice_get xs (i + 1)) ≡ None → first (inside_item bar i x) ≡ Some c → Some c ≡ all
   inside_decides all c a f g = sym (a ∙ past_own f ∙ first_some (inside_item bar i x) rest_choices c g)
 
-  pub past_both : (all : Option Choice) → all ≡ first (choices_from bar i (trees_of (drop i xs))) → own_at bar i x (slice_get xs (i + 1)) ≡ None → first (inside_item bar i x) ≡ None → all ≡ first rest_choices
+  pub past_both : (all : Option Choice) → all ≡ first (choices_from bar i (trees_of (drop i xs))) → own_at bar i x (slice_get xs (i + 1)) ≡ None →
+      first (inside_item bar i x) ≡ None → all ≡ first rest_choices
   past_both all a f g = a ∙ past_own f ∙ first_none (inside_item bar i x) rest_choices g

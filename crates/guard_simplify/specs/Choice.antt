@@ -199,7 +199,8 @@ repeat_label r = option_map (λ (r : Repeat). r.label) r
 -- those at the item x itself, which is number i and stands before the rest of its list; `bar` says which guards can't go
 abbrev pub own : (ℕ → Bool) → ℕ → Tree → Forest → List Choice
 own bar i x rest =
-    if_true i Z1 (is_empty_if x) ++ (if_some i Z2 (repeat_label (repeat_of x)) ++ (if_some i Z3 (neighbours x rest) ++ (if_true i Z4 (is_nested x) ++ if_some i Z5 (unread_guard bar x))))
+    if_true i Z1 (is_empty_if x) ++ (if_some i Z2 (repeat_label (repeat_of x)) ++
+    (if_some i Z3 (neighbours x rest) ++ (if_true i Z4 (is_nested x) ++ if_some i Z5 (unread_guard bar x))))
 
 -- one of a list of the item i, as one of the list that the item stands in
 abbrev pub under_one : ℕ → Branch → Choice → Choice

@@ -38,4 +38,5 @@ else_first (Some c) later = Some c
 abbrev pub first_from : (ℕ → Bool) → List Item → List Step → ℕ → Option Choice
 first_from bar xs [] i = first (choices_from bar i (trees_of (drop i xs)))
 first_from bar xs (s ∷ ss) i =
-    option_and_then (λ x. else_first (option_and_then (λ a. option_map (under_one s.item s.branch) (first_from bar a ss i)) (child s.branch x)) (first (after bar xs x s))) (slice_get xs s.item)
+    option_and_then (λ x. else_first (option_and_then (λ a. option_map (under_one s.item s.branch) (first_from bar a ss i)) (child s.branch x))
+    (first (after bar xs x s))) (slice_get xs s.item)

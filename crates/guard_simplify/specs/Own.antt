@@ -24,7 +24,9 @@ else_repeat i (Some r) later = Some (choice_at Z2 (Some r.label) i)
 -- the first at the item x, which is number i, before the next item
 abbrev pub own_at : (ℕ → Bool) → ℕ → Item → Option Item → Option Choice
 own_at bar i x next =
-    cond (empty_if x) (Some (choice_at Z1 None i)) (else_repeat i (repeat_in x) (else_label i Z3 (beside (guard x) (next_guard next) (λ l. arms_item l x)) (cond (nested x) (Some (choice_at Z4 None i)) (else_label i Z5 (unread bar x) None))))
+    cond (empty_if x) (Some (choice_at Z1 None i))
+    (else_repeat i (repeat_in x) (else_label i Z3 (beside (guard x) (next_guard next) (λ l. arms_item l x))
+    (cond (nested x) (Some (choice_at Z4 None i)) (else_label i Z5 (unread bar x) None))))
 
 -- that of one kind at the item x, where it applies there
 abbrev pub own_of : MoveKind → (ℕ → Bool) → ℕ → Item → Option Item → Option Choice

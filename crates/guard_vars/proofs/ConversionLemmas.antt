@@ -93,7 +93,8 @@ pub other_made : (x made : Item) → made ≡ x → ((l : ℕ) → x ≡ Goto l 
     → ((a : List Item) → x ≡ Block a → ⊥) → items_of (converted_item x) ≡ made ∷ []
 other_made x made k g m i w d f s b = at (out-Item x) (sym (roll-out-Item x)) ∙ ap (λ y. y ∷ []) (sym k) where
   stays : (y : Item-F Item Section) (z : Item) → roll-Item y ≡ z
-      → items_of (converted_layer (map-Item Item Section Converted Section converted_item converted_section y)) ≡ z ∷ [] → x ≡ roll-Item y → items_of (converted_item x) ≡ x ∷ []
+      → items_of (converted_layer (map-Item Item Section Converted Section converted_item converted_section y)) ≡ z ∷ [] → x ≡ roll-Item y →
+      items_of (converted_item x) ≡ x ∷ []
   stays y z r h e = ap (λ v. items_of (converted_item v)) e ∙ items_of_rolled y ∙ h ∙ ap (λ v. v ∷ []) (sym (e ∙ r))
 
   at : (y : Item-F Item Section) → x ≡ roll-Item y → items_of (converted_item x) ≡ x ∷ []

@@ -119,7 +119,8 @@ list_free (e ∷ a) = free_append (items_of (converted_item e.0)) (flat_map item
 
 sections_free : (a : List C) → all_true (map section_free (map converted_section (map section a))) ≡ true
 sections_free [] = refl
-sections_free (e ∷ a) = both_true (section_free (converted_section e.0)) (all_true (map section_free (map converted_section (map section a)))) e.1 (sections_free a)
+sections_free (e ∷ a) = both_true (section_free (converted_section e.0)) (all_true (map section_free (map converted_section (map section a)))) e.1
+    (sections_free a)
 
 jump_free : (l : ℕ) (e : Option Expression) → all_true (map free (jump l e)) ≡ true
 jump_free l e = both_true (free (V.Arm l e)) (all_true (map free (V.Leap l ∷ []))) (free-Arm l e) (one (V.Leap l) (free-Leap l))
@@ -128,10 +129,12 @@ if_free : (o : Option ℕ) (t : Test) (x : Item) → free x ≡ true → all_tru
 if_free None t x p = one x p
 if_free (Some l) t x p = jump_free l (source t)
 
-layer : (y : Item-F I C) → all_true (map free (items_of (converted_layer (map-Item Item Section Converted Section converted_item converted_section (map-Item I C Item Section item section y))))) ≡ true
+layer : (y : Item-F I C) → all_true (map free
+    (items_of (converted_layer (map-Item Item Section Converted Section converted_item converted_section (map-Item I C Item Section item section y))))) ≡ true
 layer (Goto l) = jump_free l None
 layer (Mark l) = one (V.Land l) (free-Land l)
-layer (If t a b) = if_free (conditional_jump t (map converted_item (map item a)) (map converted_item (map item b))) t _ (free-If t _ _ ∙ both_true _ _ (list_free a) (list_free b))
+layer (If t a b) = if_free (conditional_jump t (map converted_item (map item a)) (map converted_item (map item b))) t
+    _ (free-If t _ _ ∙ both_true _ _ (list_free a) (list_free b))
 layer (While t a) = one _ (free-While t _ ∙ list_free a)
 layer (Do a t) = one _ (free-Do _ t ∙ list_free a)
 layer (For f t u a) = one _ (free-For _ t u _ ∙ both_true _ _ (list_free f) (list_free a))

@@ -76,11 +76,13 @@ has_case zero (TheSection cases default a ends c) e es h = Contains-append_left 
 has_case (suc k) (TheSection cases default a ends c) e es h = Contains-append_right cases (all_cases c) e (has_case k c e es h)
 
 -- the first case of a section has a number
-pub has_number : (kind : IntKind) (k : ℕ) (s : Sections) (e : ExpressionTree) (es : List ExpressionTree) → AreCases kind s → cases_at k s ≡ e ∷ es → case_number kind e ≡ None → ⊥
-has_number kind k s e es h f n = none (constant_value e) (All-contains (λ x. IsSome (constant_value x)) (all_cases s) e h.untrapped (has_case k s e es f)) n where
-  none : (o : Option ℤ) → IsSome o → option_map (converted kind) o ≡ None → ⊥
-  none None p q = absurd (true≢false (sym p))
-  none (Some v) p q = cc
+pub has_number : (kind : IntKind) (k : ℕ) (s : Sections) (e : ExpressionTree) (es : List ExpressionTree) → AreCases kind s → cases_at k s ≡ e ∷ es →
+    case_number kind e ≡ None → ⊥
+has_number kind k s e es h f n = none (constant_value e) (All-contains (λ x. IsSome (constant_value x)) (all_cases s) e h.untrapped
+    (has_case k s e es f)) n where
+      none : (o : Option ℤ) → IsSome o → option_map (converted kind) o ≡ None → ⊥
+      none None p q = absurd (true≢false (sym p))
+      none (Some v) p q = cc
 
 pub append_nil : {X : Type 0} (xs : List X) → xs ++ [] ≡ xs
 append_nil [] = refl

@@ -77,7 +77,8 @@ module _ (l i j : ℕ) (xs : List Item) (x : Item) (h : i < j) (e : slice_get xs
       ∙ sym (ap (λ o. option_map_or (λ x. take i xs ++ guarded l (slice_range xs (i + 1) j) ++ entered l n b x ∷ drop (j + 1) xs) o xs) e)
 
 -- the item and its list in the list that is taken out
-pub list_of_item : (l : ℕ) (n : ℤ) (i j : ℕ) (b : Branch) (steps : List Step) (body a : List Item) → CanMoveIn l n i j b steps body → list_at body steps ≡ Some a
+pub list_of_item : (l : ℕ) (n : ℤ) (i j : ℕ) (b : Branch) (steps : List Step) (body a : List Item) → CanMoveIn l n i j b steps body →
+    list_at body steps ≡ Some a
     → Holds (λ x. IsSome (child b x)) (slice_get a j)
 list_of_item l n i j b steps body a h t =
     let step : Step = record { item = j; branch = b } in

@@ -26,12 +26,14 @@ use Rattle.label_offsets.specs.Marks.{label_at}
 use Rattle.label_offsets.proofs.MarkLaws.{same_label, item_of_list}
 use Rattle.inward_moves.specs.Entering.{LeadsTo, IsHeldAfter}
 
-pub no_target : (body : List Item) (at : Path) → (h : IsHeldAfter body at) → (l : ℕ) (a : List Item) → Some l ≡ label_at body at → Some a ≡ list_at body at.steps
+pub no_target : (body : List Item) (at : Path) → (h : IsHeldAfter body at) → (l : ℕ) (a : List Item) → Some l ≡ label_at body at →
+    Some a ≡ list_at body at.steps
     → ((j : ℕ) (b : Branch) → at.item < j → Holds (LeadsTo l b) (slice_get a j) → ⊥) → ⊥
 no_target body at h l a e t f =
     let m = same_label body at h.label l h.leap e in
     f h.place h.branch h.later
-    (subst (Holds (LeadsTo l h.branch)) (item_of_list body at.steps a h.place t) (subst (λ n. Holds (LeadsTo n h.branch) (item_at body at.steps h.place)) m h.leads))
+    (subst (Holds (LeadsTo l h.branch)) (item_of_list body at.steps a h.place t)
+    (subst (λ n. Holds (LeadsTo n h.branch) (item_at body at.steps h.place)) m h.leads))
 
 pub target_within : (l : ℕ) (b : Branch) (a : List Item) (j : ℕ) → Holds (LeadsTo l b) (slice_get a j) → j < length a
 target_within l b a j h = let p = held_some (LeadsTo l b) (slice_get a j) h in slice_get_within a j p.0 p.1
@@ -40,7 +42,8 @@ held_there : {A : Type 0} (P : A → Type 0) (o : Option A) → Holds P o → Ho
 held_there P None h = h
 held_there P (Some x) h = h
 
-pub goes_in : (body : List Item) (at : Path) (h : IsHeldAfter body at) (l : ℕ) (n : ℤ) (a : List Item) (j : ℕ) (b : Branch) (x : Item) → Some l ≡ label_at body at → Some a ≡ list_at body at.steps → at.item < j
+pub goes_in : (body : List Item) (at : Path) (h : IsHeldAfter body at) (l : ℕ) (n : ℤ) (a : List Item) (j : ℕ) (b : Branch) (x : Item) →
+    Some l ≡ label_at body at → Some a ≡ list_at body at.steps → at.item < j
     → Holds (LeadsTo l b) (slice_get a j) → slice_get a j ≡ Some x → SelectsBranch b n (tree_of x) → CanMoveIn l n at.item j b at.steps body
 goes_in body at h l n a j b x e t after leads there number =
     let step : Step = record { item = j; branch = b } in
@@ -75,11 +78,13 @@ other_item k n x h = subst (SelectsBranch (B.Section k) n) (sym (tree-out x)) (p
 abbrev entry : Branch → List Step → ℕ → Path
 entry b z k = record { steps = z ++ record { item = k; branch = b } ∷ []; item = 0 }
 
-pub path_is : (body : List Item) (at : Path) (l : ℕ) (n : ℤ) (j : ℕ) (b : Branch) (p : ℕ) (steps : List Step) (to : Path) → CanMoveIn l n at.item j b at.steps body → p ≡ cond (nat_eq (at.item + 1) j) at.item (at.item + 1) → steps ≡ at.steps
+pub path_is : (body : List Item) (at : Path) (l : ℕ) (n : ℤ) (j : ℕ) (b : Branch) (p : ℕ) (steps : List Step) (to : Path) →
+    CanMoveIn l n at.item j b at.steps body → p ≡ cond (nat_eq (at.item + 1) j) at.item (at.item + 1) → steps ≡ at.steps
     → to ≡ record { steps = steps ++ record { item = p; branch = b } ∷ []; item = 0 } → to ≡ path_inside l at.item j b at.steps body
 path_is body at l n j b p steps to h e s f =
     let q = held_some _ (item_at body at.steps j) h.construct in
     let r = and_then_some (λ a. slice_get a j) (list_at body at.steps) q.0 q.1 in
     let there : list_there body at.steps ≡ r.0 = ap (λ o. unwrap_or o []) r.1 in
-    let spot = e ∙ spot-is l at.item j r.0 h.later (slice_get_within r.0 j q.0 r.2) ∙ ap (λ a. at.item + length (guarded l (slice_range a (at.item + 1) j))) (sym there) in
+    let spot = e ∙ spot-is l at.item j r.0 h.later (slice_get_within r.0 j q.0 r.2) ∙
+    ap (λ a. at.item + length (guarded l (slice_range a (at.item + 1) j))) (sym there) in
     f ∙ ap (λ (z : List Step). entry b z p) s ∙ ap (λ (k : ℕ). entry b at.steps k) spot

@@ -61,15 +61,19 @@ missing_run : IsOverAfter (jump_run missing (codes "main") [] [] []) 21 (Byte 10
 unfolding converted arith_result digits
 missing_run = (refl, refl)
 
-prints_run : IsOverAfter (jump_run prints (codes "main") [] [] []) 9 (Byte 45 ∷ Byte 53 ∷ Byte 58 ∷ Byte 102 ∷ Byte 102 ∷ Byte 32 ∷ Byte 65 ∷ Byte 37 ∷ []) (Ended (pos 8) (Byte 45 ∷ Byte 53 ∷ Byte 58 ∷ Byte 102 ∷ Byte 102 ∷ Byte 32 ∷ Byte 65 ∷ Byte 37 ∷ []))
+prints_run : IsOverAfter (jump_run prints (codes "main") [] [] []) 9
+    (Byte 45 ∷ Byte 53 ∷ Byte 58 ∷ Byte 102 ∷ Byte 102 ∷ Byte 32 ∷ Byte 65 ∷ Byte 37 ∷ [])
+    (Ended (pos 8) (Byte 45 ∷ Byte 53 ∷ Byte 58 ∷ Byte 102 ∷ Byte 102 ∷ Byte 32 ∷ Byte 65 ∷ Byte 37 ∷ []))
 unfolding converted arith_result digits
 prints_run = (refl, refl)
 
-asks_run : IsOverAfter (jump_run asks (codes "main") [] [] (pos 4294967300 ∷ [])) 16 (Called (codes "p") (pos 3 ∷ pos 44 ∷ []) ∷ []) (Trapped Trap.NoAnswer (Called (codes "p") (pos 3 ∷ pos 44 ∷ []) ∷ Called (codes "p") (pos 4 ∷ pos 0 ∷ []) ∷ []))
+asks_run : IsOverAfter (jump_run asks (codes "main") [] [] (pos 4294967300 ∷ [])) 16 (Called (codes "p") (pos 3 ∷ pos 44 ∷ []) ∷ [])
+    (Trapped Trap.NoAnswer (Called (codes "p") (pos 3 ∷ pos 44 ∷ []) ∷ Called (codes "p") (pos 4 ∷ pos 0 ∷ []) ∷ []))
 unfolding converted arith_result digits
 asks_run = (refl, refl)
 
-judges_run : IsOverAfter (jump_run judges (codes "main") [] [] (pos 4294967296 ∷ [])) 7 (Called (codes "p") [] ∷ []) (Ended (pos 2) (Called (codes "p") [] ∷ []))
+judges_run : IsOverAfter (jump_run judges (codes "main") [] [] (pos 4294967296 ∷ [])) 7 (Called (codes "p") [] ∷ [])
+    (Ended (pos 2) (Called (codes "p") [] ∷ []))
 unfolding converted arith_result digits
 judges_run = (refl, refl)
 
@@ -113,7 +117,8 @@ left_loop_run : IsOverAfter (jump_run left_loop (codes "main") [] [] []) 63 [] (
 unfolding converted arith_result digits
 left_loop_run = (refl, refl)
 
-lifted_run : IsOverAfter (jump_run lifted (codes "main") [] [] []) 99 (Byte 97 ∷ Byte 98 ∷ Byte 97 ∷ Byte 98 ∷ []) (Ended (pos 0) (Byte 97 ∷ Byte 98 ∷ Byte 97 ∷ Byte 98 ∷ []))
+lifted_run : IsOverAfter (jump_run lifted (codes "main") [] [] []) 99 (Byte 97 ∷ Byte 98 ∷ Byte 97 ∷ Byte 98 ∷ [])
+    (Ended (pos 0) (Byte 97 ∷ Byte 98 ∷ Byte 97 ∷ Byte 98 ∷ []))
 unfolding converted arith_result digits
 lifted_run = (refl, refl)
 

@@ -33,7 +33,8 @@ module _ {A : Type 0} (next : A → A) (sh : A → Shown) (keeps : (c : A) → C
   pub later_covers : (m n : ℕ) (c : A) → m ≤ n → Covers (sh (iterate next m c)) (sh (iterate next n c))
   later_covers m n c h =
       let e : m + (n - m) ≡ n = omega (arith, h) in
-      subst (λ d. Covers (sh (iterate next m c)) (sh d)) (sym (iterate_add next m (n - m) c) ∙ ap (λ k. iterate next k c) e) (iterate_covers (n - m) (iterate next m c))
+      subst (λ d. Covers (sh (iterate next m c)) (sh d)) (sym (iterate_add next m (n - m) c) ∙ ap (λ k. iterate next k c) e)
+      (iterate_covers (n - m) (iterate next m c))
 
 -- ---- same runs
 

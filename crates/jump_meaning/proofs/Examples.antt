@@ -261,7 +261,8 @@ counts =
     (defines (codes "main") (Some Int) 0 (slot Int ∷ [])
     (forest
     (Local 0 None
-    ∷ For (one (Evaluate (int (Assign (Var (H.Slot 0)) (number 0))))) (Some (int (Binary Less (read 0) (number 3)))) (Some (int (Count (Var (H.Slot 0)) true true)))
+    ∷ For (one (Evaluate (int (Assign (Var (H.Slot 0)) (number 0))))) (Some (int (Binary Less (read 0) (number 3))))
+    (Some (int (Count (Var (H.Slot 0)) true true)))
     (forest
     (If (Source (int (Binary Equal (read 0) (number 1)))) (one Continue) Nil
     ∷ Evaluate (Typed (Some UInt) (Count (Var (H.Global (codes "u"))) true true))
@@ -377,7 +378,8 @@ lifted =
     ∷ []))
     ∷ [])
 
--- `int f(int x) { if (x == 5) goto mid; switch (x) { case 1: putchar('b'); break; default: putchar('x'); mid: putchar('d'); } return 0; }`, converted and after all moves
+-- `int f(int x) { if (x == 5) goto mid; switch (x) { case 1: putchar('b'); break; default: putchar('x'); mid:
+-- putchar('d'); } return 0; }`, converted and after all moves
 abbrev pub picked : Code
 picked =
     program

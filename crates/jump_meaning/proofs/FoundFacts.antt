@@ -32,25 +32,31 @@ mutual
       let P = IsFound l (Then x xs) in
       of_else P (cond (is_goal l x) (Some (Runs x ∷ items xs [])) (seek_in l x (items xs []))) (seek l xs [])
       (chosen (OfFound P) (is_goal l x) (Some (Runs x ∷ items xs [])) (seek_in l x (items xs [])) (λ e. here x xs e)
-      (λ e. subst (OfFound P) (sym (seek_in_append l x [] (items xs []))) (of_behind (IsFoundIn l x) P (items xs []) (λ i h. inside x xs h) (seek_in l x []) (found_in l x))))
+      (λ e. subst (OfFound P) (sym (seek_in_append l x [] (items xs [])))
+      (of_behind (IsFoundIn l x) P (items xs []) (λ i h. inside x xs h) (seek_in l x []) (found_in l x))))
       (of_weaker (IsFound l xs) P (λ i h. later x xs h) (seek l xs []) (found l xs))
 
   found_in : (l : Goal) (x : Tree) → OfFound (IsFoundIn l x) (seek_in l x [])
   found_in l (If t a b) =
       let P = IsFoundIn l (If t a b) in
-      of_else P (seek l a []) (seek l b []) (of_weaker (IsFound l a) P (λ i h. in_then t a b h) (seek l a []) (found l a)) (of_weaker (IsFound l b) P (λ i h. in_else t a b h) (seek l b []) (found l b))
+      of_else P (seek l a []) (seek l b []) (of_weaker (IsFound l a) P (λ i h. in_then t a b h) (seek l a []) (found l a))
+      (of_weaker (IsFound l b) P (λ i h. in_else t a b h) (seek l b []) (found l b))
   found_in l (While t a) =
       let P = IsFoundIn l (While t a) in
-      subst (OfFound P) (sym (seek_append l a [] (Loops (WhileLoop t a) ∷ []))) (of_behind (IsFound l a) P (Loops (WhileLoop t a) ∷ []) (λ i h. in_while t a h) (seek l a []) (found l a))
+      subst (OfFound P) (sym (seek_append l a [] (Loops (WhileLoop t a) ∷ [])))
+      (of_behind (IsFound l a) P (Loops (WhileLoop t a) ∷ []) (λ i h. in_while t a h) (seek l a []) (found l a))
   found_in l (Do a t) =
       let P = IsFoundIn l (Do a t) in
-      subst (OfFound P) (sym (seek_append l a [] (Loops (DoLoop a t) ∷ []))) (of_behind (IsFound l a) P (Loops (DoLoop a t) ∷ []) (λ i h. in_do a t h) (seek l a []) (found l a))
+      subst (OfFound P) (sym (seek_append l a [] (Loops (DoLoop a t) ∷ [])))
+      (of_behind (IsFound l a) P (Loops (DoLoop a t) ∷ []) (λ i h. in_do a t h) (seek l a []) (found l a))
   found_in l (For first t u a) =
       let P = IsFoundIn l (For first t u a) in
-      subst (OfFound P) (sym (seek_append l a [] (Loops (ForLoop t u a) ∷ []))) (of_behind (IsFound l a) P (Loops (ForLoop t u a) ∷ []) (λ i h. in_for first t u a h) (seek l a []) (found l a))
+      subst (OfFound P) (sym (seek_append l a [] (Loops (ForLoop t u a) ∷ [])))
+      (of_behind (IsFound l a) P (Loops (ForLoop t u a) ∷ []) (λ i h. in_for first t u a h) (seek l a []) (found l a))
   found_in l (Switch s c) =
       let P = IsFoundIn l (Switch s c) in
-      chosen (OfFound P) (enters_switches l) (seek_sections l c []) None (λ e. of_weaker (IsFoundAmong l c) P (λ i h. in_switch s c e h) (seek_sections l c []) (found_among l c)) (λ e. tt)
+      chosen (OfFound P) (enters_switches l) (seek_sections l c []) None
+      (λ e. of_weaker (IsFoundAmong l c) P (λ i h. in_switch s c e h) (seek_sections l c []) (found_among l c)) (λ e. tt)
   found_in l (Block a) = of_weaker (IsFound l a) (IsFoundIn l (Block a)) (λ i h. in_block a h) (seek l a []) (found l a)
   found_in l _ = tt
 
@@ -61,7 +67,8 @@ mutual
       let after = end_of ends (tail_tasks c []) in
       of_else P (cond (is_section_goal l cases default) (Some (items a after)) (seek l a after)) (seek_sections l c [])
       (chosen (OfFound P) (is_section_goal l cases default) (Some (items a after)) (seek l a after) (λ e. at_section cases default a ends c e)
-      (λ e. subst (OfFound P) (sym (seek_append l a [] after)) (of_behind (IsFound l a) P after (λ i h. in_section cases default a ends c h) (seek l a []) (found l a))))
+      (λ e. subst (OfFound P) (sym (seek_append l a [] after))
+      (of_behind (IsFound l a) P after (λ i h. in_section cases default a ends c h) (seek l a []) (found l a))))
       (of_weaker (IsFoundAmong l c) P (λ i h. in_later cases default a ends c h) (seek_sections l c []) (found_among l c))
 
 -- ---- a label that stands there is found
@@ -84,9 +91,11 @@ some_unless false i p h = h
 mutual
   sought : (l : Goal) (a : Forest) (i : List Task) (k : List Task) → IsFound l a i → IsSome (seek l a k)
   sought l a i k (here x xs e) =
-      some_first (cond (is_goal l x) (Some (Runs x ∷ items xs k)) (seek_in l x (items xs k))) (seek l xs k) (some_if (is_goal l x) (Some (Runs x ∷ items xs k)) (seek_in l x (items xs k)) e refl)
+      some_first (cond (is_goal l x) (Some (Runs x ∷ items xs k)) (seek_in l x (items xs k))) (seek l xs k)
+      (some_if (is_goal l x) (Some (Runs x ∷ items xs k)) (seek_in l x (items xs k)) e refl)
   sought l a i k (inside x xs {i = j} h) =
-      some_first (cond (is_goal l x) (Some (Runs x ∷ items xs k)) (seek_in l x (items xs k))) (seek l xs k) (some_unless (is_goal l x) (Runs x ∷ items xs k) (seek_in l x (items xs k)) (sought_in l x j (items xs k) h))
+      some_first (cond (is_goal l x) (Some (Runs x ∷ items xs k)) (seek_in l x (items xs k))) (seek l xs k)
+      (some_unless (is_goal l x) (Runs x ∷ items xs k) (seek_in l x (items xs k)) (sought_in l x j (items xs k) h))
   sought l a i k (later x xs h) = some_second (cond (is_goal l x) (Some (Runs x ∷ items xs k)) (seek_in l x (items xs k))) (seek l xs k) (sought l xs i k h)
 
   sought_in : (l : Goal) (x : Tree) (i : List Task) (k : List Task) → IsFoundIn l x i → IsSome (seek_in l x k)
@@ -101,10 +110,12 @@ mutual
   sought_among : (l : Goal) (c : Sections) (i : List Task) (k : List Task) → IsFoundAmong l c i → IsSome (seek_sections l c k)
   sought_among l d i k (at_section cases default a ends c e) =
       let after = end_of ends (tail_tasks c k) in
-      some_first (cond (is_section_goal l cases default) (Some (items a after)) (seek l a after)) (seek_sections l c k) (some_if (is_section_goal l cases default) (Some (items a after)) (seek l a after) e refl)
+      some_first (cond (is_section_goal l cases default) (Some (items a after)) (seek l a after)) (seek_sections l c k)
+      (some_if (is_section_goal l cases default) (Some (items a after)) (seek l a after) e refl)
   sought_among l d i k (in_section cases default a ends c {i = j} h) =
       let after = end_of ends (tail_tasks c k) in
-      some_first (cond (is_section_goal l cases default) (Some (items a after)) (seek l a after)) (seek_sections l c k) (some_unless (is_section_goal l cases default) (items a after) (seek l a after) (sought l a j after h))
+      some_first (cond (is_section_goal l cases default) (Some (items a after)) (seek l a after)) (seek_sections l c k)
+      (some_unless (is_section_goal l cases default) (items a after) (seek l a after) (sought l a j after h))
   sought_among l d i k (in_later cases default a ends c h) =
       let after = end_of ends (tail_tasks c k) in
       some_second (cond (is_section_goal l cases default) (Some (items a after)) (seek l a after)) (seek_sections l c k) (sought_among l c i k h)

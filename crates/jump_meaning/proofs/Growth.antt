@@ -63,7 +63,8 @@ store_grows : (p : Value) (z : ℤ) (w : World) → Grows w.events (store p z w)
 store_grows p z w = subst (λ es. Grows w.events es) (sym (store_events p z w)) (grows_refl w.events)
 
 cell_grows : (o : Owner) (i : ℤ) (w : World) → OutcomeGrows w.events (cell_of o i w)
-cell_grows o (pos i) w = either (OutcomeGrows w.events) (nat_lt i (cells_held (w.variables o))) (Gives (Designates o i) w) (Traps Trap.Index w) (grows_refl w.events) (grows_refl w.events)
+cell_grows o (pos i) w = either (OutcomeGrows w.events) (nat_lt i (cells_held (w.variables o))) (Gives (Designates o i) w) (Traps Trap.Index w)
+    (grows_refl w.events) (grows_refl w.events)
 cell_grows o (negsuc i) w = grows_refl w.events
 
 outcome_grows : (r : Result ℤ Trap) (w : World) → OutcomeGrows w.events (outcome r w)
@@ -96,7 +97,8 @@ outcome_trans es fs (Exits n w) h k = grows_trans es fs w.events h k
 declared_grows : (m : List ℕ) (f : FunctionTree) (vs : List Value) (w : World) → OutcomeGrows w.events (call_declared m f vs w)
 declared_grows m f vs w =
     let called = emit (Called m (converted_arguments f.slots vs) ∷ []) w in
-    outcome_trans w.events called.events (answered f.result w.answers called) (emitted (Called m (converted_arguments f.slots vs) ∷ []) w) (answered_grows f.result w.answers called)
+    outcome_trans w.events called.events (answered f.result w.answers called) (emitted (Called m (converted_arguments f.slots vs) ∷ []) w)
+    (answered_grows f.result w.answers called)
 
 pub without_body_grows : (m : List ℕ) (f : FunctionTree) (vs : List Value) (w : World) → OutcomeGrows w.events (call_without_body m f vs w)
 without_body_grows m f vs w =
@@ -121,7 +123,8 @@ push_grows f vs w =
     (either P (nat_lt most_cells (w.cells + cells_of f.slots)) (Err Trap.Cells) (Ok (enter_call f vs w)) tt (grows_refl w.events))
 
 leave_call_grows : (d : Bool) (f : FunctionTree) (x : Value) (w : World) → OutcomeGrows w.events (leave_call d f x w)
-leave_call_grows d f x w = either (OutcomeGrows w.events) (lacks f x && not d) (Traps Trap.NoValue w) (Gives x (pop f w)) (grows_refl w.events) (grows_refl w.events)
+leave_call_grows d f x w = either (OutcomeGrows w.events) (lacks f x && not d) (Traps Trap.NoValue w) (Gives x (pop f w)) (grows_refl w.events)
+    (grows_refl w.events)
 
 leave_entry_grows : (f : FunctionTree) (x : Value) (w : World) → OutcomeGrows w.events (leave_entry f x w)
 leave_entry_grows f x w = either (OutcomeGrows w.events) (lacks f x) (Traps Trap.NoValue w) (Exits (integer x) w) (grows_refl w.events) (grows_refl w.events)
@@ -150,7 +153,8 @@ node_grows kind (Count p up after) v w = grows_refl w.events
 node_grows kind (Comma a b) v w = grows_refl w.events
 node_grows kind (Call m xs) v w = grows_refl w.events
 
-initialise_grows : (es : List Event) (x i : ℕ) (e : List ExpressionTree) (v : List Value) (w : World) → Grows es w.events → EffectGrows es (initialise x i e v w)
+initialise_grows : (es : List Event) (x i : ℕ) (e : List ExpressionTree) (v : List Value) (w : World) → Grows es w.events →
+    EffectGrows es (initialise x i e v w)
 initialise_grows es x i [] v w h = h
 initialise_grows es x i (e ∷ e') v w h = h
 
@@ -162,45 +166,58 @@ effect_grows Drops v w = grows_refl w.events
 effect_grows (Indexes h) v w = left_grows w.events (cell h (integer (top v)) w) (rest v) (cell_grows (owner h w) (integer (top v)) w)
 effect_grows Loads v w = grows_refl w.events
 effect_grows Fetches v w = grows_refl w.events
-effect_grows (AppliesUnary op k) v w = left_grows w.events (unary op k (top v) w) (rest v) (outcome_grows (unary_result op (operand_kind k) (integer (top v))) w)
+effect_grows (AppliesUnary op k) v w = left_grows w.events (unary op k (top v) w) (rest v)
+    (outcome_grows (unary_result op (operand_kind k) (integer (top v))) w)
 effect_grows (AppliesBinary op j k) v w =
-    left_grows w.events (binary op j k (top (rest v)) (top v) w) (rest (rest v)) (outcome_grows (binary_result op (operand_kind j) (operand_kind k) (integer (top (rest v))) (integer (top v))) w)
+    left_grows w.events (binary op j k (top (rest v)) (top v) w) (rest (rest v))
+    (outcome_grows (binary_result op (operand_kind j) (operand_kind k) (integer (top (rest v))) (integer (top v))) w)
 effect_grows (Converts k) v w = grows_refl w.events
 effect_grows LeavesNothing v w = grows_refl w.events
-effect_grows (Ands b) v w = either (EffectGrows w.events) (holds (top v)) (Does (Computes b ∷ Judges ∷ []) (rest v) w) (Does [] (Integer (pos 0) ∷ rest v) w) (grows_refl w.events) (grows_refl w.events)
-effect_grows (Ors b) v w = either (EffectGrows w.events) (holds (top v)) (Does [] (Integer (pos 1) ∷ rest v) w) (Does (Computes b ∷ Judges ∷ []) (rest v) w) (grows_refl w.events) (grows_refl w.events)
+effect_grows (Ands b) v w = either (EffectGrows w.events) (holds (top v)) (Does (Computes b ∷ Judges ∷ []) (rest v) w)
+    (Does [] (Integer (pos 0) ∷ rest v) w) (grows_refl w.events) (grows_refl w.events)
+effect_grows (Ors b) v w = either (EffectGrows w.events) (holds (top v)) (Does [] (Integer (pos 1) ∷ rest v) w)
+    (Does (Computes b ∷ Judges ∷ []) (rest v) w) (grows_refl w.events) (grows_refl w.events)
 effect_grows Judges v w = grows_refl w.events
 effect_grows (Decides b c kind) v w = grows_refl w.events
 effect_grows Stores v w = left_grows w.events (assign (top (rest v)) (top v) w) (rest (rest v)) (store_grows (top (rest v)) (integer (top v)) w)
 effect_grows (Counts up after) v w =
-    left_grows w.events (count up after (top v) w) (rest v) (counted_grows after (top v) (arith_result (count_mark up) (promoted (kind_at (top v) w)) (load (top v) w) (pos 1)) w)
+    left_grows w.events (count up after (top v) w) (rest v)
+    (counted_grows after (top v) (arith_result (count_mark up) (promoted (kind_at (top v) w)) (load (top v) w) (pos 1)) w)
 effect_grows (Calls m n) v w = grows_refl w.events
 effect_grows (Ends true) v w = grows_refl w.events
 effect_grows (Ends false) v w = grows_refl w.events
 effect_grows (Begins x es) v w = initialise_grows w.events x 0 es v w (grows_refl w.events)
-effect_grows (Sets x i es) v w = initialise_grows w.events x (suc i) es (rest (rest v)) (store (top (rest v)) (integer (top v)) w) (store_grows (top (rest v)) (integer (top v)) w)
+effect_grows (Sets x i es) v w = initialise_grows w.events x (suc i) es (rest (rest v)) (store (top (rest v)) (integer (top v)) w)
+    (store_grows (top (rest v)) (integer (top v)) w)
 effect_grows (Clears x n) v w = grows_refl w.events
 
 -- ---- states
 
-settle_grows : (es : List Event) (o : Outcome) (f : List ℕ) (g : Guards) (k : List Task) (v : List Value) (cs : List Frame) → OutcomeGrows es o → Covers (More es) (shows (settle o f g k v cs))
+settle_grows : (es : List Event) (o : Outcome) (f : List ℕ) (g : Guards) (k : List Task) (v : List Value) (cs : List Frame) → OutcomeGrows es o →
+    Covers (More es) (shows (settle o f g k v cs))
 settle_grows es (Gives x w) f g k v cs h = h
 settle_grows es (Traps t w) f g k v cs h = h
 settle_grows es (Exits n w) f g k v cs h = h
 
 leave_grows : (es : List Event) (h : FunctionTree) (x : Value) (cs : List Frame) (w : World) → Grows es w.events → Covers (More es) (shows (leave h x cs w))
-leave_grows es h x [] w e = settle_grows es (leave_entry h x w) [] (λ l. false) [] [] [] (outcome_trans es w.events (leave_entry h x w) e (leave_entry_grows h x w))
-leave_grows es h x (Waits f g k v ∷ cs) w e = settle_grows es (leave_call (is_dropped k) h x w) f g k v cs (outcome_trans es w.events (leave_call (is_dropped k) h x w) e (leave_call_grows (is_dropped k) h x w))
+leave_grows es h x [] w e = settle_grows es (leave_entry h x w) [] (λ l. false) [] [] []
+    (outcome_trans es w.events (leave_entry h x w) e (leave_entry_grows h x w))
+leave_grows es h x (Waits f g k v ∷ cs) w e = settle_grows es (leave_call (is_dropped k) h x w) f g k v cs
+    (outcome_trans es w.events (leave_call (is_dropped k) h x w) e (leave_call_grows (is_dropped k) h x w))
 
-pub begin_grows : (es : List Event) (m : List ℕ) (a : Forest) (r : Result World Trap) (cs : List Frame) (w : World) → Grows es w.events → ResultGrows w.events r → Covers (More es) (shows (begin_call m a r cs w))
+pub begin_grows : (es : List Event) (m : List ℕ) (a : Forest) (r : Result World Trap) (cs : List Frame) (w : World) → Grows es w.events →
+    ResultGrows w.events r → Covers (More es) (shows (begin_call m a r cs w))
 begin_grows es m a (Ok w') cs w h k = grows_trans es w.events w'.events h k
 begin_grows es m a (Err t) cs w h k = h
 
-invoke_grows : (es : List Event) (b : Option Forest) (h : FunctionTree) (m : List ℕ) (vs : List Value) (f : List ℕ) (g : Guards) (k : List Task) (v : List Value) (cs : List Frame) (w : World) → Grows es w.events → Covers (More es) (shows (invoke b h m vs f g k v cs w))
+invoke_grows : (es : List Event) (b : Option Forest) (h : FunctionTree) (m : List ℕ) (vs : List Value) (f : List ℕ) (g : Guards) (k : List Task)
+    (v : List Value) (cs : List Frame) (w : World) → Grows es w.events → Covers (More es) (shows (invoke b h m vs f g k v cs w))
 invoke_grows es (Some a) h m vs f g k v cs w e = begin_grows es m a (push h vs w) (Waits f g k v ∷ cs) w e (push_grows h vs w)
-invoke_grows es None h m vs f g k v cs w e = settle_grows es (call_without_body m h vs w) f g k v cs (outcome_trans es w.events (call_without_body m h vs w) e (without_body_grows m h vs w))
+invoke_grows es None h m vs f g k v cs w e = settle_grows es (call_without_body m h vs w) f g k v cs
+    (outcome_trans es w.events (call_without_body m h vs w) e (without_body_grows m h vs w))
 
-perform_grows : (es : List Event) (p : Code) (e : Effect) (f : List ℕ) (g : Guards) (k : List Task) (cs : List Frame) → EffectGrows es e → Covers (More es) (shows (perform p e f g k cs))
+perform_grows : (es : List Event) (p : Code) (e : Effect) (f : List ℕ) (g : Guards) (k : List Task) (cs : List Frame) → EffectGrows es e →
+    Covers (More es) (shows (perform p e f g k cs))
 perform_grows es p (Does os v w) f g k cs h = h
 perform_grows es p (Fails t w) f g k cs h = h
 perform_grows es p (Stops n w) f g k cs h = h
@@ -208,7 +225,8 @@ perform_grows es p (Invokes m vs v w) f g k cs h = invoke_grows es (p.functions 
 perform_grows es p (Leaves (Some x) w) f g k cs h = leave_grows es (p.functions f) (returned (p.functions f) x) cs w h
 perform_grows es p (Leaves None w) f g k cs h = leave_grows es (p.functions f) (fallen f) cs w h
 
-move_grows : (p : Code) (x : View) (f : List ℕ) (g : Guards) (v : List Value) (cs : List Frame) (w : World) → Covers (More w.events) (shows (move p x f g v cs w))
+move_grows : (p : Code) (x : View) (f : List ℕ) (g : Guards) (v : List Value) (cs : List Frame) (w : World) →
+    Covers (More w.events) (shows (move p x f g v cs w))
 move_grows p Finishes f g v cs w = leave_grows w.events (p.functions f) (fallen f) cs w (grows_refl w.events)
 move_grows p (Goes k) f g v cs w = grows_refl w.events
 move_grows p (Guarding l b k) f g v cs w = grows_refl w.events

@@ -72,7 +72,8 @@ holder_kept o i z (Holds k n cells) = refl
 holder_kept o i z (Lent p) = refl
 
 number_stored : (i : ℕ) (z : ℤ) (v : Variable) → HoldsNumbers v → number_held (with_number i z v) i ≡ converted (kind_held v) z
-number_stored i z (Holds k n cells) h = chosen (λ x. x ≡ converted k z) (eqb i i) (converted k z) (cells i) (λ e. refl) (λ e. absurd (true≢false (sym ((Decides-eqb i i).1 refl) ∙ e)))
+number_stored i z (Holds k n cells) h = chosen (λ x. x ≡ converted k z) (eqb i i) (converted k z) (cells i) (λ e. refl)
+    (λ e. absurd (true≢false (sym ((Decides-eqb i i).1 refl) ∙ e)))
 number_stored i z (Lent o) h = absurd h
 
 number_beside : (i j : ℕ) (z : ℤ) (v : Variable) → i ≢ j → number_held (with_number i z v) j ≡ number_held v j
@@ -81,7 +82,8 @@ number_beside i j z (Lent o) h = refl
 
 -- ---- the world after an assignment
 
-stored : (o : Owner) (i : ℕ) (z : ℤ) (w : World) → HoldsNumbers (w.variables o) → load (Designates o i) (store (Designates o i) z w) ≡ converted (kind_at (Designates o i) w) z
+stored : (o : Owner) (i : ℕ) (z : ℤ) (w : World) → HoldsNumbers (w.variables o) →
+    load (Designates o i) (store (Designates o i) z w) ≡ converted (kind_at (Designates o i) w) z
 stored o i z w h =
     put_holds (λ v. number_held v i ≡ converted (kind_held (w.variables o)) z) o (with_number i z (w.variables o)) w.variables o
     (λ e. number_stored i z (w.variables o) h) (λ n. absurd (n refl))
@@ -99,7 +101,8 @@ beside o p i j z w h =
 left_alike : {A : Type 0} (F : Variable → A) (keeps : (i : ℕ) (z : ℤ) (v : Variable) → F (with_number i z v) ≡ F v) (p : Value) (z : ℤ) (w : World) (q : Owner)
     → F ((store p z w).variables q) ≡ F (w.variables q)
 left_alike F keeps (Designates o i) z w q =
-    put_holds (λ v. F v ≡ F (w.variables q)) o (with_number i z (w.variables o)) w.variables q (λ e. keeps i z (w.variables o) ∙ ap (λ r. F (w.variables r)) e) (λ n. refl)
+    put_holds (λ v. F v ≡ F (w.variables q)) o (with_number i z (w.variables o)) w.variables q
+    (λ e. keeps i z (w.variables o) ∙ ap (λ r. F (w.variables r)) e) (λ n. refl)
 left_alike F keeps (Integer n) z w q = refl
 left_alike F keeps (Lends o) z w q = refl
 left_alike F keeps (Format bs) z w q = refl
@@ -135,12 +138,14 @@ not_beyond i n h e = grind (arith, h, e)
 zeros_from : (n i : ℕ) (v : Variable) → n ≤ i → i < cells_held v → number_held (with_zeros n v) i ≡ pos 0
 zeros_from n i (Holds k m cells) h b =
     chosen (λ x. x ≡ pos 0) (nat_lt i n) (cells i) (cond (nat_lt i (cells_held (Holds k m cells))) (pos 0) (cells i)) (λ e. absurd (not_below i n h e))
-    (λ e. chosen (λ x. x ≡ pos 0) (nat_lt i (cells_held (Holds k m cells))) (pos 0) (cells i) (λ e. refl) (λ e. absurd (not_beyond i (cells_held (Holds k m cells)) b e)))
+    (λ e. chosen (λ x. x ≡ pos 0) (nat_lt i (cells_held (Holds k m cells))) (pos 0) (cells i) (λ e. refl)
+    (λ e. absurd (not_beyond i (cells_held (Holds k m cells)) b e)))
 zeros_from n i (Lent o) h b = refl
 
 kept_below : (n i : ℕ) (v : Variable) → i < n → number_held (with_zeros n v) i ≡ number_held v i
 kept_below n i (Holds k m cells) h =
-    chosen (λ x. x ≡ cells i) (nat_lt i n) (cells i) (cond (nat_lt i (cells_held (Holds k m cells))) (pos 0) (cells i)) (λ e. refl) (λ e. absurd (not_beyond i n h e))
+    chosen (λ x. x ≡ cells i) (nat_lt i n) (cells i) (cond (nat_lt i (cells_held (Holds k m cells))) (pos 0) (cells i)) (λ e. refl)
+    (λ e. absurd (not_beyond i n h e))
 kept_below n i (Lent o) h = refl
 
 cleared : (h : Home) (n i : ℕ) (w : World) → n ≤ i → i < cells_held (w.variables (owner h w)) → load (Designates (owner h w) i) (clear h n w) ≡ pos 0
@@ -160,10 +165,12 @@ uncleared h n o i w b =
 kept_beyond : (n i : ℕ) (v : Variable) → cells_held v ≤ i → number_held (with_zeros n v) i ≡ number_held v i
 kept_beyond n i (Holds k m cells) h =
     chosen (λ x. x ≡ cells i) (nat_lt i n) (cells i) (cond (nat_lt i (cells_held (Holds k m cells))) (pos 0) (cells i)) (λ e. refl)
-    (λ e. chosen (λ x. x ≡ cells i) (nat_lt i (cells_held (Holds k m cells))) (pos 0) (cells i) (λ d. absurd (not_below i (cells_held (Holds k m cells)) h d)) (λ d. refl))
+    (λ e. chosen (λ x. x ≡ cells i) (nat_lt i (cells_held (Holds k m cells))) (pos 0) (cells i)
+    (λ d. absurd (not_below i (cells_held (Holds k m cells)) h d)) (λ d. refl))
 kept_beyond n i (Lent o) h = refl
 
-beyond : (h : Home) (n i : ℕ) (w : World) → cells_held (w.variables (owner h w)) ≤ i → load (Designates (owner h w) i) (clear h n w) ≡ load (Designates (owner h w) i) w
+beyond : (h : Home) (n i : ℕ) (w : World) → cells_held (w.variables (owner h w)) ≤ i →
+    load (Designates (owner h w) i) (clear h n w) ≡ load (Designates (owner h w) i) w
 beyond h n i w b =
     put_holds (λ v. number_held v i ≡ number_held (w.variables (owner h w)) i) (owner h w) (with_zeros n (w.variables (owner h w))) w.variables (owner h w)
     (λ e. kept_beyond n i (w.variables (owner h w)) b) (λ d. absurd (d refl))

@@ -39,7 +39,8 @@ over_covered (Ended n fs) d es h e o = subst IsOver (sym h ∙ e) tt
 over_covered (Trapped t fs) d es h e o = subst IsOver (sym h ∙ e) tt
 over_covered (More fs) d es h e o = o
 
-pub steps_of : (p : Code) (c : State) (n : ℕ) (es : List Event) → shows (run p n c) ≡ More es → IsOver (shows (run p (suc n) c)) → TakesSteps (λ m. shows (run p m c)) (suc n)
+pub steps_of : (p : Code) (c : State) (n : ℕ) (es : List Event) → shows (run p n c) ≡ More es → IsOver (shows (run p (suc n) c)) →
+    TakesSteps (λ m. shows (run p m c)) (suc n)
 steps_of p c n es e o = record {
   over = o;
   before = λ m h k. over_covered (shows (run p m c)) (shows (run p n c)) es (run_grows p m n c (omega (arith, h))) e k;

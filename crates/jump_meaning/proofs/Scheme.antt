@@ -42,7 +42,8 @@ module _ {A B : Type 0} (next : A → A) (next' : B → B) (sh : A → Shown) (s
     pub related : R (iterate next left c) (iterate next' right d)
     pub safe : (i : ℕ) → i < right → Safe (iterate next' i d)
 
-  safe_on : (m n : ℕ) (d : B) → ((i : ℕ) → i < m → Safe (iterate next' i d)) → ((i : ℕ) → i < n → Safe (iterate next' i (iterate next' m d))) → (i : ℕ) → i < m + n → Safe (iterate next' i d)
+  safe_on : (m n : ℕ) (d : B) → ((i : ℕ) → i < m → Safe (iterate next' i d)) → ((i : ℕ) → i < n → Safe (iterate next' i (iterate next' m d))) →
+      (i : ℕ) → i < m + n → Safe (iterate next' i d)
   safe_on m n d p q i h = elim (split m n i h) as (λ _. Safe (iterate next' i d)) [
     | inl x ↦ p i x
     | inr x ↦ subst (λ z. Safe (iterate next' z d)) (sym x.is) (subst Safe (sym (iterate_add next' m x.by d)) (q x.by x.below))
@@ -89,10 +90,16 @@ module _ {A B : Type 0} (next : A → A) (next' : B → B) (sh : A → Shown) (s
   -- the two runs behave the same
   pub same : (c : A) (d : B) → R c d → ((n : ℕ) → Ok (iterate next n c)) → AreSameRuns (λ n. sh (iterate next n c)) (λ n. sh' (iterate next' n d))
   same c d r ok = record {
-    forth = λ n. let b = many n c d r ok in
-        (b.right, subst (λ x. Covers (sh (iterate next n c)) x) (alike (iterate next b.left c) (iterate next' b.right d) b.related) (later_covers next sh keeps n b.left c b.left_far));
-    back = λ n. let b = many n c d r ok in
-        (b.left, subst (λ x. Covers (sh' (iterate next' n d)) x) (sym (alike (iterate next b.left c) (iterate next' b.right d) b.related)) (later_covers next' sh' keeps' n b.right d b.right_far));
+    forth = λ n. let b = many n c d r ok in (
+      b.right,
+      subst (λ x. Covers (sh (iterate next n c)) x) (alike (iterate next b.left c) (iterate next' b.right d) b.related)
+          (later_covers next sh keeps n b.left c b.left_far),
+    );
+    back = λ n. let b = many n c d r ok in (
+      b.left,
+      subst (λ x. Covers (sh' (iterate next' n d)) x) (sym (alike (iterate next b.left c) (iterate next' b.right d) b.related))
+          (later_covers next' sh' keeps' n b.right d b.right_far),
+    );
   }
 
   -- each state of the right run has Safe

@@ -82,7 +82,8 @@ mutual
   seek_in_append l (While t a) k j = seek_append l a (Loops (WhileLoop t a) ∷ k) j
   seek_in_append l (Do a t) k j = seek_append l a (Loops (DoLoop a t) ∷ k) j
   seek_in_append l (For first t u a) k j = seek_append l a (Loops (ForLoop t u a) ∷ k) j
-  seek_in_append l (Switch s c) k j = cond_behind j (enters_switches l) (seek_sections l c k) None (seek_sections l c (k ++ j)) None (seek_sections_append l c k j) refl
+  seek_in_append l (Switch s c) k j = cond_behind j (enters_switches l) (seek_sections l c k) None (seek_sections l c (k ++ j)) None
+      (seek_sections_append l c k j) refl
   seek_in_append l (Block a) k j = seek_append l a k j
   seek_in_append l _ k j = refl
 

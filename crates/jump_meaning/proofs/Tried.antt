@@ -16,7 +16,8 @@ use Rattle.jump_meaning.specs.World.{cells_held, World, Gives, Traps, load, stor
 use Rattle.jump_meaning.specs.Known.{printed_bytes}
 
 -- "%d|%u|%x|%c|%ld|%%"
-printf_text : printed_bytes (Format (codes "%d|%u|%x|%c|%ld|%%") ∷ Integer (negsuc 4) ∷ Integer (negsuc 0) ∷ Integer (pos 255) ∷ Integer (pos 65) ∷ Integer (pos 7) ∷ []) ≡ codes "-5|4294967295|ff|A|7|%"
+printf_text : printed_bytes (Format (codes "%d|%u|%x|%c|%ld|%%") ∷ Integer (negsuc 4) ∷ Integer (negsuc 0) ∷ Integer (pos 255) ∷ Integer
+    (pos 65) ∷ Integer (pos 7) ∷ []) ≡ codes "-5|4294967295|ff|A|7|%"
 unfolding converted digits
 printf_text = refl
 

@@ -68,7 +68,8 @@ unguarded_end false k i = i
 
 unguarded_tail : (c : Sections) (k : List Task) → EverywhereIn IsUnguarded c → AreUnguarded k → AreUnguarded (tail_tasks c k)
 unguarded_tail NoSection k h i = (tt, i)
-unguarded_tail (Section cases default a ends c) k h i = unguarded_items a (end_of ends (tail_tasks c k)) h.0 (unguarded_end ends (tail_tasks c k) (unguarded_tail c k h.1 i))
+unguarded_tail (Section cases default a ends c) k h i = unguarded_items a (end_of ends (tail_tasks c k)) h.0
+    (unguarded_end ends (tail_tasks c k) (unguarded_tail c k h.1 i))
 
 unguarded_turn : (x : Loop) (k : List Task) → IsUnguardedLoop x → AreUnguarded k → AreUnguarded (turn x k)
 unguarded_turn (WhileLoop t a) k h i = unguarded_items a (Loops (WhileLoop t a) ∷ k) h.1 (h, i)
@@ -123,7 +124,8 @@ mutual
   unguarded_sections l NoSection k h i = tt
   unguarded_sections l (Section cases default a ends c) k h i =
       let after = unguarded_end ends (tail_tasks c k) (unguarded_tail c k h.1 i) in
-      found_else (cond (is_section_goal l cases default) (Some (items a (end_of ends (tail_tasks c k)))) (seek l a (end_of ends (tail_tasks c k)))) (seek_sections l c k)
+      found_else (cond (is_section_goal l cases default) (Some (items a (end_of ends (tail_tasks c k)))) (seek l a (end_of ends (tail_tasks c k))))
+      (seek_sections l c k)
       (either AreFound (is_section_goal l cases default) (Some (items a (end_of ends (tail_tasks c k)))) (seek l a (end_of ends (tail_tasks c k)))
       (unguarded_items a (end_of ends (tail_tasks c k)) h.0 after) (unguarded_seek l a (end_of ends (tail_tasks c k)) h.0 after))
       (unguarded_sections l c k h.1 i)
@@ -133,7 +135,8 @@ unguarded_find l body h = found_first (seek (ToLabel l) body []) None [] (unguar
 
 unguarded_entry : (kind : IntKind) (n : ℤ) (c : Sections) (k : List Task) → EverywhereIn IsUnguarded c → AreUnguarded k → AreUnguarded (entry kind n c k)
 unguarded_entry kind n c k h i =
-    found_first (seek_sections (ToCase kind n) c k) (seek_sections ToDefault c k) k (unguarded_sections (ToCase kind n) c k h i) (unguarded_sections ToDefault c k h i) i
+    found_first (seek_sections (ToCase kind n) c k) (seek_sections ToDefault c k) k (unguarded_sections (ToCase kind n) c k h i)
+    (unguarded_sections ToDefault c k h i) i
 
 -- ---- steps
 
@@ -152,7 +155,8 @@ unguarded_view b g (Runs (Evaluate e) ∷ k) h i = (tt, (tt, i.1))
 unguarded_view b g (Runs (Return None) ∷ k) h i = (tt, i.1)
 unguarded_view b g (Runs (Return (Some e)) ∷ k) h i = (tt, (tt, i.1))
 unguarded_view b g (Runs (If t a c) ∷ k) h i = (i.0.0, ((i.0.1, i.0.2), i.1))
-unguarded_view b g (Branches a c ∷ k) h i = λ v. either AreUnguarded (holds v) (items a k) (items c k) (unguarded_items a k i.0.0 i.1) (unguarded_items c k i.0.1 i.1)
+unguarded_view b g (Branches a c ∷ k) h i = λ v. either AreUnguarded (holds v) (items a k) (items c k) (unguarded_items a k i.0.0 i.1)
+    (unguarded_items c k i.0.1 i.1)
 unguarded_view b g (Runs (While t a) ∷ k) h i = (i.0.0, (i.0, i.1))
 unguarded_view b g (Runs (Do a t) ∷ k) h i = unguarded_items a (Loops (DoLoop a t) ∷ k) i.0.1 (i.0, i.1)
 unguarded_view b g (Runs (For first t u a) ∷ k) h i = unguarded_items first (Heads t u a ∷ k) i.0.1 (i.0.2, i.1)
@@ -197,7 +201,8 @@ abbrev pub IsUnguardedState : State → Type 0
 IsUnguardedState (At f g k v cs w) = AllReset g × AreUnguarded k × AreUnguardedFrames cs
 IsUnguardedState _ = Unit {0}
 
-unguarded_settle : (o : Outcome) (f : List ℕ) (g : Guards) (k : List Task) (v : List Value) (cs : List Frame) → AllReset g → AreUnguarded k → AreUnguardedFrames cs → IsUnguardedState (settle o f g k v cs)
+unguarded_settle : (o : Outcome) (f : List ℕ) (g : Guards) (k : List Task) (v : List Value) (cs : List Frame) → AllReset g → AreUnguarded k →
+    AreUnguardedFrames cs → IsUnguardedState (settle o f g k v cs)
 unguarded_settle (Gives x w) f g k v cs r i c = (r, i, c)
 unguarded_settle (Traps t w) f g k v cs r i c = tt
 unguarded_settle (Exits n w) f g k v cs r i c = tt
@@ -206,17 +211,20 @@ unguarded_leave : (h : FunctionTree) (x : Value) (cs : List Frame) (w : World) �
 unguarded_leave h x [] w c = unguarded_settle (leave_entry h x w) [] no_guards [] [] [] (λ l. refl) tt tt
 unguarded_leave h x (Waits f g k v ∷ cs) w c = unguarded_settle (leave_call (is_dropped k) h x w) f g k v cs c.0 c.1 c.2
 
-unguarded_begin : (m : List ℕ) (a : Forest) (r : Result World Trap) (cs : List Frame) (w : World) → IsUnguardedList a → AreUnguardedFrames cs → IsUnguardedState (begin_call m a r cs w)
+unguarded_begin : (m : List ℕ) (a : Forest) (r : Result World Trap) (cs : List Frame) (w : World) → IsUnguardedList a → AreUnguardedFrames cs →
+    IsUnguardedState (begin_call m a r cs w)
 unguarded_begin m a (Ok w') cs w h c = ((λ l. refl), unguarded_items a [] h tt, c)
 unguarded_begin m a (Err t) cs w h c = tt
 
-unguarded_invoke : (b : Option Forest) (h : FunctionTree) (m : List ℕ) (vs : List Value) (f : List ℕ) (g : Guards) (k : List Task) (v : List Value) (cs : List Frame) (w : World)
+unguarded_invoke : (b : Option Forest) (h : FunctionTree) (m : List ℕ) (vs : List Value) (f : List ℕ) (g : Guards) (k : List Task) (v : List Value)
+    (cs : List Frame) (w : World)
     → IsUnguardedList (option_map_or (λ a. a) b Nil) → AllReset g → AreUnguarded k → AreUnguardedFrames cs → IsUnguardedState (invoke b h m vs f g k v cs w)
 unguarded_invoke (Some a) h m vs f g k v cs w u r i c = unguarded_begin m a (push h vs w) (Waits f g k v ∷ cs) w u (r, i, c)
 unguarded_invoke None h m vs f g k v cs w u r i c = unguarded_settle (call_without_body m h vs w) f g k v cs r i c
 
 module _ (p : Code) (bare : (m : List ℕ) → IsUnguardedList (items_of (p.functions m))) where
-  unguarded_perform : (e : Effect) (f : List ℕ) (g : Guards) (k : List Task) (cs : List Frame) → AllReset g → AreUnguarded k → AreUnguardedFrames cs → IsUnguardedState (perform p e f g k cs)
+  unguarded_perform : (e : Effect) (f : List ℕ) (g : Guards) (k : List Task) (cs : List Frame) → AllReset g → AreUnguarded k → AreUnguardedFrames cs →
+      IsUnguardedState (perform p e f g k cs)
   unguarded_perform (Does os v w) f g k cs r i c = (r, unguarded_works os k i, c)
   unguarded_perform (Fails t w) f g k cs r i c = tt
   unguarded_perform (Stops n w) f g k cs r i c = tt
@@ -224,7 +232,8 @@ module _ (p : Code) (bare : (m : List ℕ) → IsUnguardedList (items_of (p.func
   unguarded_perform (Leaves (Some x) w) f g k cs r i c = unguarded_leave (p.functions f) (returned (p.functions f) x) cs w c
   unguarded_perform (Leaves None w) f g k cs r i c = unguarded_leave (p.functions f) (fallen f) cs w c
 
-  unguarded_move : (x : View) (f : List ℕ) (g : Guards) (v : List Value) (cs : List Frame) (w : World) → IsUnguardedView x → AllReset g → AreUnguardedFrames cs → IsUnguardedState (move p x f g v cs w)
+  unguarded_move : (x : View) (f : List ℕ) (g : Guards) (v : List Value) (cs : List Frame) (w : World) → IsUnguardedView x → AllReset g →
+      AreUnguardedFrames cs → IsUnguardedState (move p x f g v cs w)
   unguarded_move Finishes f g v cs w h r c = unguarded_leave (p.functions f) (fallen f) cs w c
   unguarded_move (Goes k) f g v cs w h r c = (r, h, c)
   unguarded_move (Guarding l b k) f g v cs w h r c = absurd h
@@ -235,7 +244,8 @@ module _ (p : Code) (bare : (m : List ℕ) → IsUnguardedList (items_of (p.func
   unguarded_move (Acts o k) f g v cs w h r c = unguarded_perform (effect o v w) f g k cs r h c
 
   unguarded_step : (c : State) → IsUnguardedState c → IsUnguardedState (step p c)
-  unguarded_step (At f g k v cs w) h = unguarded_move (view (items_of (p.functions f)) g k) f g v cs w (unguarded_view (items_of (p.functions f)) g k (bare f) h.1) h.0 h.2
+  unguarded_step (At f g k v cs w) h = unguarded_move (view (items_of (p.functions f)) g k) f g v cs w
+      (unguarded_view (items_of (p.functions f)) g k (bare f) h.1) h.0 h.2
   unguarded_step (HasEnded n es) h = tt
   unguarded_step (HasTrapped t es) h = tt
 
@@ -265,5 +275,6 @@ module _ (p : Code) (bare : (m : List ℕ) → IsUnguardedList (items_of (p.func
     at = λ m arguments e input answers n.
         steady_state (run p n (start p m arguments input answers))
         (unguarded_run n (start p m arguments input answers)
-        (unguarded_begin m (items_of (p.functions m)) (push (p.functions m) (map Integer arguments) (world_at_start p input answers)) [] (world_at_start p input answers) (bare m) tt));
+        (unguarded_begin m (items_of (p.functions m)) (push (p.functions m) (map Integer arguments) (world_at_start p input answers)) []
+        (world_at_start p input answers) (bare m) tt));
   }

@@ -58,14 +58,16 @@ unflat_made _ h = tt
 
 -- ---- of the function of each name
 
-unguarded_items_of : (o : Option (List Item)) → Everywhere IsUnguarded (option_map_or trees_of o Nil) → Everywhere IsUnguarded (option_map_or (λ a. a) (option_map trees_of o) Nil)
+unguarded_items_of : (o : Option (List Item)) → Everywhere IsUnguarded (option_map_or trees_of o Nil) →
+    Everywhere IsUnguarded (option_map_or (λ a. a) (option_map trees_of o) Nil)
 unguarded_items_of None h = h
 unguarded_items_of (Some xs) h = h
 
 found_unguarded : (p : Function → Bool) (m : List ℕ) (ts : List Top) → AllByRecursion IsTopUnguarded ts → IsFoundUnguarded (function_in p m ts)
 found_unguarded p m [] h = tt
 found_unguarded p m (T.Function f ∷ ts) h =
-    either IsFoundUnguarded (bytes_eq f.name m && p f) (Some (function_tree f)) (function_in p m ts) (unguarded_items_of f.body h.0) (found_unguarded p m ts h.1)
+    either IsFoundUnguarded (bytes_eq f.name m && p f) (Some (function_tree f)) (function_in p m ts) (unguarded_items_of f.body h.0)
+    (found_unguarded p m ts h.1)
 found_unguarded p m (_ ∷ ts) h = found_unguarded p m ts h.1
 
 first_unguarded : (o p : Option FunctionTree) → IsFoundUnguarded o → IsFoundUnguarded p → Everywhere IsUnguarded (items_of (first_of o p undeclared))
@@ -75,7 +77,8 @@ first_unguarded None None h k = tt
 
 named_unguarded : (m : List ℕ) (ts : List Top) → AllByRecursion IsTopUnguarded ts → Everywhere IsUnguarded (items_of (function_named m ts))
 named_unguarded m ts h =
-    first_unguarded (function_in (λ f. is_some f.body) m ts) (function_in (λ f. true) m ts) (found_unguarded (λ f. is_some f.body) m ts h) (found_unguarded (λ f. true) m ts h)
+    first_unguarded (function_in (λ f. is_some f.body) m ts) (function_in (λ f. true) m ts) (found_unguarded (λ f. is_some f.body) m ts h)
+    (found_unguarded (λ f. true) m ts h)
 
 pub unflat_steady : (p : Program) → IsProgramInRange p → All IsTopUnflat p.tops → IsSteady p
 unflat_steady p ranged unflat =
@@ -83,7 +86,8 @@ unflat_steady p ranged unflat =
     record {
       ranged = ranged;
       made = All-from_recursion IsTopMadeWell p.tops (mapped (both IsTopInRange IsTopUnflat) IsTopMadeWell unflat_made p.tops tops);
-      states = unguarded_steady (code_of p) (λ m. named_unguarded m p.tops (mapped (both IsTopInRange IsTopUnflat) IsTopUnguarded unflat_unguarded p.tops tops));
+      states = unguarded_steady (code_of p)
+          (λ m. named_unguarded m p.tops (mapped (both IsTopInRange IsTopUnflat) IsTopUnguarded unflat_unguarded p.tops tops));
     }
 
 pub steady_laws : SteadyLaws

@@ -84,7 +84,8 @@ constant_or_zero e = option_map_or (λ n. n) (constant_value e) (pos 0)
 -- what a variable of file scope holds at the start: its initialisers, converted, then 0 (6.7.9)
 abbrev pub initial_variable : GlobalVariable → Variable
 initial_variable g =
-    Holds g.slot.kind g.slot.cells (entry_or (pos 0) (option_map_or (λ es. map (λ e. converted g.slot.kind (constant_or_zero e)) (expression_trees es)) g.init []))
+    Holds g.slot.kind g.slot.cells (entry_or (pos 0)
+    (option_map_or (λ es. map (λ e. converted g.slot.kind (constant_or_zero e)) (expression_trees es)) g.init []))
 
 -- the variable of file scope of a name; no name of a resolved program is without one (6.2.1)
 abbrev pub global_named : List ℕ → List Top → Variable

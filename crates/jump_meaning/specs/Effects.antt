@@ -126,7 +126,8 @@ node_effect kind (Count p up after) v w = Does (Finds p ∷ Counts up after ∷ 
 node_effect kind (Comma a b) v w = Does (Computes a ∷ Drops ∷ Computes b ∷ []) v w
 node_effect kind (Call m xs) v w = Does (argument_tasks xs (Calls m (argument_count xs) ∷ [])) v w
 
--- the initialisers of a slot from cell i on (6.7.9): the place stands pending below the value, as in an assignment; after the last one the cells left out of an array become 0
+-- the initialisers of a slot from cell i on (6.7.9): the place stands pending below the value, as in an assignment;
+-- after the last one the cells left out of an array become 0
 abbrev pub initialise : ℕ → ℕ → List ExpressionTree → List Value → World → Effect
 initialise x i [] v w = Does (cond (is_array_slot x w) (Clears x i ∷ []) []) v w
 initialise x i (e ∷ es) v w = Does (Computes e ∷ Sets x i es ∷ []) (slot_cell x i w ∷ v) w

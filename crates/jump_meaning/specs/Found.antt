@@ -19,7 +19,8 @@ mutual
     in_else : (t : TestTree) (a b : Forest) {i : List Task} → IsFound l b i → IsFoundIn l (If t a b) i
     in_while : (t : TestTree) (a : Forest) {i : List Task} → IsFound l a i → IsFoundIn l (While t a) (i ++ Loops (WhileLoop t a) ∷ [])
     in_do : (a : Forest) (t : TestTree) {i : List Task} → IsFound l a i → IsFoundIn l (Do a t) (i ++ Loops (DoLoop a t) ∷ [])
-    in_for : (first : Forest) (t u : Option ExpressionTree) (a : Forest) {i : List Task} → IsFound l a i → IsFoundIn l (For first t u a) (i ++ Loops (ForLoop t u a) ∷ [])
+    in_for : (first : Forest) (t u : Option ExpressionTree) (a : Forest) {i : List Task} → IsFound l a i →
+        IsFoundIn l (For first t u a) (i ++ Loops (ForLoop t u a) ∷ [])
     in_switch : (s : SelectorTree) (c : Sections) {i : List Task} → enters_switches l ≡ true → IsFoundAmong l c i → IsFoundIn l (Switch s c) i
     in_block : (a : Forest) {i : List Task} → IsFound l a i → IsFoundIn l (Block a) i
 

@@ -32,7 +32,8 @@ IsPresent w (OfCall c x) = c ≤ w.calls
 -- memory: what is stored is read again, and nothing else changes
 pub record MemoryLaws : Type 0 where
   -- a cell holds what was stored there, converted to its kind
-  pub stored : (o : Owner) (i : ℕ) (z : ℤ) (w : World) → HoldsNumbers (w.variables o) → load (Designates o i) (store (Designates o i) z w) ≡ converted (kind_at (Designates o i) w) z
+  pub stored : (o : Owner) (i : ℕ) (z : ℤ) (w : World) → HoldsNumbers (w.variables o) →
+      load (Designates o i) (store (Designates o i) z w) ≡ converted (kind_at (Designates o i) w) z
   -- each other cell holds what it held
   pub beside : (o p : Owner) (i j : ℕ) (z : ℤ) (w : World) → (o ≢ p) ⊎ (i ≢ j) → load (Designates p j) (store (Designates o i) z w) ≡ load (Designates p j) w
   -- kinds, lengths, and which arrays are lent to whom stay
@@ -42,7 +43,8 @@ pub record MemoryLaws : Type 0 where
   -- the cells of a variable from n on are 0 once they are cleared, and nothing else changes: no other cell, and no place behind its last cell
   pub cleared : (h : Home) (n i : ℕ) (w : World) → n ≤ i → i < cells_held (w.variables (owner h w)) → load (Designates (owner h w) i) (clear h n w) ≡ pos 0
   pub uncleared : (h : Home) (n : ℕ) (o : Owner) (i : ℕ) (w : World) → (owner h w ≢ o) ⊎ (i < n) → load (Designates o i) (clear h n w) ≡ load (Designates o i) w
-  pub beyond : (h : Home) (n i : ℕ) (w : World) → cells_held (w.variables (owner h w)) ≤ i → load (Designates (owner h w) i) (clear h n w) ≡ load (Designates (owner h w) i) w
+  pub beyond : (h : Home) (n i : ℕ) (w : World) → cells_held (w.variables (owner h w)) ≤ i →
+      load (Designates (owner h w) i) (clear h n w) ≡ load (Designates (owner h w) i) w
   -- a call changes no variable of the file or of a caller, and its own slots are those of its start
   pub present : (f : FunctionTree) (vs : List Value) (w : World) (o : Owner) → IsPresent w o → (enter_call f vs w).variables o ≡ w.variables o
   pub entered : (f : FunctionTree) (vs : List Value) (w : World) (x : ℕ) → (enter_call f vs w).variables (OfCall (suc w.calls) x) ≡ slot_at_start f vs x
@@ -80,7 +82,8 @@ pub record RunLaws : Type 0 where
   -- the number of steps of a run is one number
   pub alone : (R : ℕ → Shown) (m n : ℕ) → TakesSteps R m → TakesSteps R n → m ≡ n
   -- and it is n + 1 where the run goes on after n steps and is over after the next
-  pub counted : (p : Code) (c : State) (n : ℕ) (es : List Event) → shows (run p n c) ≡ More es → IsOver (shows (run p (suc n) c)) → TakesSteps (λ m. shows (run p m c)) (suc n)
+  pub counted : (p : Code) (c : State) (n : ℕ) (es : List Event) → shows (run p n c) ≡ More es → IsOver (shows (run p (suc n) c)) →
+      TakesSteps (λ m. shows (run p m c)) (suc n)
 
 -- a function that is not flat, as every function of a source is
 abbrev pub IsTopUnflat : Top → Type 0

@@ -64,7 +64,8 @@ abbrev mutual
   pub seek_sections : Goal → Sections → List Task → Option (List Task)
   seek_sections l NoSection k = None
   seek_sections l (Section cases default a ends c) k =
-      or_else (cond (is_section_goal l cases default) (Some (items a (end_of ends (tail_tasks c k)))) (seek l a (end_of ends (tail_tasks c k)))) (seek_sections l c k)
+      or_else (cond (is_section_goal l cases default) (Some (items a (end_of ends (tail_tasks c k)))) (seek l a (end_of ends (tail_tasks c k))))
+      (seek_sections l c k)
 
 -- the first that is there, or else the last
 abbrev pub first_of_three : {A : Type 0} → Option A → Option A → A → A

@@ -48,11 +48,13 @@ leap_holds_nothing l b a e =
 
 -- where a jump stands in a list of an item, the item is an `if`, a `while`, a `do` or a `switch`
 
-layer_branch : (b : Branch) (y : Item-F Item Section) (a : List Item) → child_F b y ≡ Some a → 0 < jumps (trees_of a) → IsConverted (layer_tree y) → IsPlainFor (layer_tree y) → HasBranch_F b y
+layer_branch : (b : Branch) (y : Item-F Item Section) (a : List Item) → child_F b y ≡ Some a → 0 < jumps (trees_of a) → IsConverted (layer_tree y) →
+    IsPlainFor (layer_tree y) → HasBranch_F b y
 unfolding trees_of sections_of
 layer_branch B.Body (O.While t x) a e j c f = tt
 layer_branch B.Body (O.Do x t) a e j c f = tt
-layer_branch B.Body (O.For g t u x) a e j c f = let h : x ≡ a = cc in let z : jumps (trees_of x) ≡ jumps (trees_of a) = ap (λ z. jumps (trees_of z)) h in let w = f.1 in absurd (omega arith)
+layer_branch B.Body (O.For g t u x) a e j c f = let h : x ≡ a = cc in let z : jumps (trees_of x) ≡ jumps (trees_of a) =
+    ap (λ z. jumps (trees_of z)) h in let w = f.1 in absurd (omega arith)
 layer_branch B.Body (O.Block x) a e j c f = absurd c
 layer_branch B.Then (O.If t x z) a e j c f = tt
 layer_branch B.Else (O.If t x z) a e j c f = tt
@@ -65,7 +67,8 @@ leap_jumps a i l e =
     subst (λ z. 0 < jumps z) (sym split) (left_jumps l (trees_of (take i a)) (trees_of (drop (suc i) a)))
 
 -- the list before the last step, and the item that the step goes into
-last_step : (xs : List Item) (outer : List Step) (last : Step) (a : List Item) → list_at xs (outer ++ last ∷ []) ≡ Some a → (list : List Item) × (list_at xs outer ≡ Some list) × Stepped list last [] a
+last_step : (xs : List Item) (outer : List Step) (last : Step) (a : List Item) → list_at xs (outer ++ last ∷ []) ≡ Some a →
+    (list : List Item) × (list_at xs outer ≡ Some list) × Stepped list last [] a
 last_step xs [] last a e = (xs, refl, stepped xs last [] a e)
 last_step xs (s ∷ outer) last a e =
     let t = stepped xs s (outer ++ last ∷ []) a e in
@@ -73,7 +76,8 @@ last_step xs (s ∷ outer) last a e =
     (r.0, list_step xs s outer t.item t.inner t.item_is t.inner_is ∙ r.1, r.2)
 
 module _ (body : List Item) (w : IsWellMade (trees_of body)) where
-  branch_of : (steps : List Step) (list : List Item) (i : ℕ) (x : Item) (b : Branch) (a : List Item) → list_at body steps ≡ Some list → slice_get list i ≡ Some x → child b x ≡ Some a
+  branch_of : (steps : List Step) (list : List Item) (i : ℕ) (x : Item) (b : Branch) (a : List Item) → list_at body steps ≡ Some list →
+      slice_get list i ≡ Some x → child b x ≡ Some a
       → 0 < jumps (trees_of a) → HasBranch b x
   branch_of steps list i x b a t e f j =
       layer_branch b (out-Item x) a f j
@@ -97,7 +101,8 @@ module _ (body : List Item) (w : IsWellMade (trees_of body)) where
     goes_on : (P : ℕ → Type 0) (f : IsFurther P p.steps q.steps) → Held l here.0 f.next
     goes_on P f =
         let there = ap (λ (z : List Step). item_at body z q.item) (sym f.steps) ∙ land in
-        land_inside l here.0 f.next f.rest q.item (sym (ap (option_and_then (λ a. slice_get a q.item)) (list-append body p.steps (f.next ∷ f.rest) here.0 here.1)) ∙ there)
+        land_inside l here.0 f.next f.rest q.item
+        (sym (ap (option_and_then (λ a. slice_get a q.item)) (list-append body p.steps (f.next ∷ f.rest) here.0 here.1)) ∙ there)
 
     item_there : (k : ℕ) (x : Item) → slice_get here.0 k ≡ Some x → item_at body p.steps k ≡ Some x
     item_there k x e = item_of_list body p.steps here.0 k (sym here.1) ∙ e
@@ -110,7 +115,12 @@ module _ (body : List Item) (w : IsWellMade (trees_of body)) where
         let h = goes_on (λ k. k < p.item) f in
         record {
           place = f.next.item;
-          applies = record { leap = leap; earlier = f.item; held = subst (Holds (λ x. 0 < lands_inside l (tree_of x))) (sym (item_there f.next.item h.item h.item_is)) h.inside };
+          applies = record {
+            leap = leap;
+            earlier = f.item;
+            held = subst (Holds (λ x. 0 < lands_inside l (tree_of x)))
+                (sym (item_there f.next.item h.item h.item_is)) h.inside;
+          };
         }
 
     goes_in : IsFurther (λ k. p.item ≤ k) p.steps q.steps → LeadsIn l p.item p.steps body
@@ -136,7 +146,8 @@ module _ (body : List Item) (w : IsWellMade (trees_of body)) where
               let x : Leap l ≡ h.item = cc in
               leap_holds_nothing l f.next.branch h.list (ap (child f.next.branch) x ∙ h.list_is)
 
-    goes_out : relation p.steps p.item q.steps q.item ≡ Outward → (outer : List Step) (last : Step) → p.steps ≡ outer ++ last ∷ [] → LeadsOut l p.item p.steps body
+    goes_out : relation p.steps p.item q.steps q.item ≡ Outward → (outer : List Step) (last : Step) → p.steps ≡ outer ++ last ∷ [] →
+        LeadsOut l p.item p.steps body
     goes_out r outer last e = record {
       outer = outer;
       last = last;
@@ -154,7 +165,8 @@ module _ (body : List Item) (w : IsWellMade (trees_of body)) where
 
       elsewhere : lands l (trees_of (list_there body (outer ++ last ∷ []))) ≡ 0
       elsewhere =
-          let same : lands l (trees_of (list_there body (outer ++ last ∷ []))) ≡ lands l (trees_of here.0) = ap (λ o. lands l (trees_of (unwrap_or o []))) list in
+          let same : lands l (trees_of (list_there body (outer ++ last ∷ []))) ≡ lands l (trees_of here.0) =
+          ap (λ o. lands l (trees_of (unwrap_or o []))) list in
           omega (arith, same, only, apart l body p.steps p.item q.steps q.item here.0 r here.1 land)
 
     by_rule : (r : Rule) → relation p.steps p.item q.steps q.item ≡ r → Means r p.steps p.item q.steps q.item → Applies r l p q body

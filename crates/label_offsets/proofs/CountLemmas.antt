@@ -33,7 +33,8 @@ count-Block a = ap count (sym (rolls-Block a)) ∙ fold-roll-Item ℕ ℕ count_
 pub section_count-is : (c : Section) → section_count c ≡ counts (out-Section c).list
 section_count-is c = fold_out-Section ℕ ℕ count_step section_count_step c
 
-pub sections_more : (cs : List Section) (i : ℕ) (d : Section) → i < length cs → section_counts (take (i + 1) cs) ≡ section_counts (take i cs) + counts (out-Section (get_or cs i d)).list
+pub sections_more : (cs : List Section) (i : ℕ) (d : Section) → i < length cs →
+    section_counts (take (i + 1) cs) ≡ section_counts (take i cs) + counts (out-Section (get_or cs i d)).list
 sections_more cs i d h =
     ap sum (map_more section_count cs i d h) ∙ sum_by-append (λ n. n) (map section_count (take i cs)) (section_count (get_or cs i d) ∷ [])
     ∙ ap (λ n. section_counts (take i cs) + n) (zero-add (section_count (get_or cs i d)) ∙ section_count-is (get_or cs i d))

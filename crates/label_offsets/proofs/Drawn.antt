@@ -62,7 +62,8 @@ pub outline-append : (xs ys : List Item) → outline (xs ++ ys) ≡ join (outlin
 outline-append [] ys = refl
 outline-append (x ∷ xs) ys = ap (join (drawn x)) (outline-append xs ys) ∙ sym (join_assoc (drawn x) (outline xs) (outline ys))
 
-pub outline-parts : (xs : List Item) (i : ℕ) (x : Item) → slice_get xs i ≡ Some x → outline xs ≡ join (outline (take i xs)) (join (drawn x) (outline (drop (suc i) xs)))
+pub outline-parts : (xs : List Item) (i : ℕ) (x : Item) → slice_get xs i ≡ Some x →
+    outline xs ≡ join (outline (take i xs)) (join (drawn x) (outline (drop (suc i) xs)))
 outline-parts [] i x e = cc
 outline-parts (z ∷ zs) zero x e = let h : z ≡ x = cc in ap (λ z. join (drawn z) (outline zs)) h
 outline-parts (z ∷ zs) (suc i) x e =
@@ -74,7 +75,8 @@ outline-cut (suc n) [] = refl
 outline-cut (suc n) (x ∷ xs) = join_assoc (drawn x) (outline (take n xs)) (outline (drop n xs)) ∙ ap (join (drawn x)) (outline-cut n xs)
 
 -- one thing of a list in place of another
-run_set : {X : Type 0} (f : X → Outline) (xs : List X) (i : ℕ) (x y : X) → slice_get xs i ≡ Some x → Alike (f x) (f y) → Alike (run (map f xs)) (run (map f (slice_set xs i y)))
+run_set : {X : Type 0} (f : X → Outline) (xs : List X) (i : ℕ) (x y : X) → slice_get xs i ≡ Some x → Alike (f x) (f y) →
+    Alike (run (map f xs)) (run (map f (slice_set xs i y)))
 run_set f [] i x y e h = cc
 run_set f (z ∷ zs) zero x y e h =
     let same : z ≡ x = cc in
@@ -83,20 +85,23 @@ run_set f (z ∷ zs) (suc i) x y e h = alike_follow (f z) (run (map f zs)) (run 
 
 -- one layer
 
-section_alike : (c : Section) (w a : List Item) → list_of c ≡ a → nests [] (outline a) ≡ nests [] (outline w) → Alike (drawn_section c) (drawn_section (with_list w c))
+section_alike : (c : Section) (w a : List Item) → list_of c ≡ a → nests [] (outline a) ≡ nests [] (outline w) →
+    Alike (drawn_section c) (drawn_section (with_list w c))
 section_alike c w a e h ks r =
     ap (λ o. nests ks (join o r)) (section_is c)
     ∙ alike_inside (outline (list_of c)) (outline w) End (ap (λ l. nests [] (outline l)) e ∙ h) ks r
     ∙ sym (ap (λ o. nests ks (join o r)) (section_with w c))
 
-sections_with : (k : ℕ) (w : List Item) (cs : List Section) (a : List Item) → option_map list_of (slice_get cs k) ≡ Some a → nests [] (outline a) ≡ nests [] (outline w)
+sections_with : (k : ℕ) (w : List Item) (cs : List Section) (a : List Item) → option_map list_of (slice_get cs k) ≡ Some a →
+    nests [] (outline a) ≡ nests [] (outline w)
     → Alike (run (map drawn_section cs)) (run (map drawn_section (with_section_list k w cs)))
 sections_with k w cs a e h ks r =
     let t = map_some list_of (slice_get cs k) a e in
     run_set drawn_section cs k t.0 (with_list w t.0) t.1 (section_alike t.0 w a t.2 h) ks r
     ∙ sym (ap (λ l. nests ks (join (run (map drawn_section l)) r)) (with_there k w cs t.0 t.1))
 
-held_is : (x a w : List Item) (o : Outline) → Some x ≡ Some a → nests [] (outline a) ≡ nests [] (outline w) → Alike (Inside (outline x) o) (Inside (outline w) o)
+held_is : (x a w : List Item) (o : Outline) → Some x ≡ Some a → nests [] (outline a) ≡ nests [] (outline w) →
+    Alike (Inside (outline x) o) (Inside (outline w) o)
 held_is x a w o e h = let same : x ≡ a = cc in alike_inside (outline x) (outline w) o (ap (λ l. nests [] (outline l)) same ∙ h)
 
 layer_with : (b : Branch) (y : Item-F Item Section) (w a : List Item) → child_F b y ≡ Some a → nests [] (outline a) ≡ nests [] (outline w)
@@ -110,14 +115,16 @@ layer_with B.Else (If t x z) w a e h = alike_follow (Inside (outline x) End) (In
 layer_with (B.Section k) (Switch s cs) w a e h = sections_with k w cs a e h
 layer_with _ _ w a e h = cc
 
-item_with : (b : Branch) (x : Item) (w a : List Item) → child b x ≡ Some a → nests [] (outline a) ≡ nests [] (outline w) → Alike (drawn x) (drawn (with_child b w x))
+item_with : (b : Branch) (x : Item) (w a : List Item) → child b x ≡ Some a → nests [] (outline a) ≡ nests [] (outline w) →
+    Alike (drawn x) (drawn (with_child b w x))
 item_with b x w a e h ks r =
     ap (λ o. nests ks (join o r)) (drawn-out x)
     ∙ layer_with b (out-Item x) w a e h ks r
     ∙ sym (ap (λ o. nests ks (join o r)) (drawn-roll (with_child_F b w (out-Item x))))
 
 -- a body in which a list that nests alike is put in place of the list a
-pub nests-put : (xs : List Item) (ss : List Step) (w a : List Item) → list_at xs ss ≡ Some a → nests [] (outline a) ≡ nests [] (outline w) → nests [] (outline xs) ≡ nests [] (outline (put_at xs ss w))
+pub nests-put : (xs : List Item) (ss : List Step) (w a : List Item) → list_at xs ss ≡ Some a → nests [] (outline a) ≡ nests [] (outline w) →
+    nests [] (outline xs) ≡ nests [] (outline (put_at xs ss w))
 nests-put xs [] w a e h = let same : xs ≡ a = cc in ap (λ l. nests [] (outline l)) same ∙ h
 nests-put xs (s ∷ ss) w a e h =
     let t = stepped xs s ss a e in
@@ -165,10 +172,12 @@ broken_in f (z ∷ zs) (suc i) x e h = broken_follow (f z) (run (map f zs)) (bro
 broken_held : (x a : List Item) (o : Outline) → Some x ≡ Some a → nests [] (outline a) ≡ false → Broken (Inside (outline x) o)
 broken_held x a o e h = let same : x ≡ a = cc in broken_inside (outline x) o (ap (λ l. nests [] (outline l)) same ∙ h)
 
-broken_sections : (k : ℕ) (cs : List Section) (a : List Item) → option_map list_of (slice_get cs k) ≡ Some a → nests [] (outline a) ≡ false → Broken (run (map drawn_section cs))
+broken_sections : (k : ℕ) (cs : List Section) (a : List Item) → option_map list_of (slice_get cs k) ≡ Some a → nests [] (outline a) ≡ false →
+    Broken (run (map drawn_section cs))
 broken_sections k cs a e h =
     let t = map_some list_of (slice_get cs k) a e in
-    broken_in drawn_section cs k t.0 t.1 (subst (λ o. Broken o) (sym (section_is t.0)) (broken_inside (outline (list_of t.0)) End (ap (λ l. nests [] (outline l)) t.2 ∙ h)))
+    broken_in drawn_section cs k t.0 t.1
+    (subst (λ o. Broken o) (sym (section_is t.0)) (broken_inside (outline (list_of t.0)) End (ap (λ l. nests [] (outline l)) t.2 ∙ h)))
 
 broken_layer : (b : Branch) (y : Item-F Item Section) (a : List Item) → child_F b y ≡ Some a → nests [] (outline a) ≡ false → Broken (drawn_layer y)
 broken_layer B.Body (While t x) a e h = broken_held x a End e h

@@ -137,24 +137,33 @@ record SectionFound (cs : List Section) (i k : ℕ) (at : Path) : Type 0 where
   inside : Found (list_of section) path
   path_is : at ≡ stepped_in i (B.Section (k + number)) path
 
-found_section : (cs : List C) (i k : ℕ) (at : Path) → first (sections_from i k (map section_leaps (map section_of cs))) ≡ Some at → SectionFound (map section_of cs) i k at
+found_section : (cs : List C) (i k : ℕ) (at : Path) → first (sections_from i k (map section_leaps (map section_of cs))) ≡ Some at →
+    SectionFound (map section_of cs) i k at
 found_section [] i k at h = cc
-found_section (e ∷ cs) i k at h = elim (either (under i (B.Section k) (section_leaps e.0)) (sections_from i (k + 1) (map section_leaps (map section_of cs))) at h) [
-  | inl f ↦
-      let q = under_first i (B.Section k) (section_leaps e.0) at f in
-      record { number = zero; section = e.0; path = q.0; section_is = refl; inside = e.1 q.0 q.1; path_is = q.2 ∙ ap (λ n. stepped_in i (B.Section n) q.0) (sym (add-zero k)) }
-  | inr f ↦
-      let s = found_section cs i (k + 1) at f in
-      let moved : k + 1 + s.number ≡ k + suc s.number = omega arith in
-      record {
-        number = suc s.number;
-        section = s.section;
-        path = s.path;
-        section_is = s.section_is;
-        inside = s.inside;
-        path_is = s.path_is ∙ ap (λ n. stepped_in i (B.Section n) s.path) moved;
-      }
-]
+found_section (e ∷ cs) i k at h = elim (either (under i (B.Section k) (section_leaps e.0))
+    (sections_from i (k + 1) (map section_leaps (map section_of cs))) at h) [
+      | inl f ↦
+          let q = under_first i (B.Section k) (section_leaps e.0) at f in
+          record {
+            number = zero;
+            section = e.0;
+            path = q.0;
+            section_is = refl;
+            inside = e.1 q.0 q.1;
+            path_is = q.2 ∙ ap (λ n. stepped_in i (B.Section n) q.0) (sym (add-zero k));
+          }
+      | inr f ↦
+          let s = found_section cs i (k + 1) at f in
+          let moved : k + 1 + s.number ≡ k + suc s.number = omega arith in
+          record {
+            number = suc s.number;
+            section = s.section;
+            path = s.path;
+            section_is = s.section_is;
+            inside = s.inside;
+            path_is = s.path_is ∙ ap (λ n. stepped_in i (B.Section n) s.path) moved;
+          }
+    ]
 
 layer : (y : Item-F I C) (i : ℕ) (at : Path)
     → first (leaps_step (map-Item Item Section (ℕ → List Path) (List Path) leaps_of section_leaps (map-Item I C Item Section item_of section_of y)) i) ≡ Some at

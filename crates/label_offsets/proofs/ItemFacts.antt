@@ -47,8 +47,10 @@ module _ (P : Tree → Type 0) where
   self (Arrival e) h = h
   self (Note bs) h = h
 
-  pub holds_at : (body : List Item) (steps : List Step) (a : List Item) (i : ℕ) (x : Item) → list_at body steps ≡ Some a → slice_get a i ≡ Some x → Everywhere P (trees_of body) → P (tree_of x)
+  pub holds_at : (body : List Item) (steps : List Step) (a : List Item) (i : ℕ) (x : Item) → list_at body steps ≡ Some a → slice_get a i ≡ Some x →
+      Everywhere P (trees_of body) → P (tree_of x)
   holds_at body steps a i x t e h =
       let all = inside P (trees_of a) (changed_at (λ u v. u ≡ trees_of a) body steps a a t (here refl)) h in
       let split = subst (Everywhere P) (trees-split a i x e) all in
-      self (tree_of x) (everywhere_front P (one (tree_of x)) (trees_of (drop (suc i) a)) (everywhere_back P (trees_of (take i a)) (join (one (tree_of x)) (trees_of (drop (suc i) a))) split)).0
+      self (tree_of x) (everywhere_front P (one (tree_of x)) (trees_of (drop (suc i) a))
+      (everywhere_back P (trees_of (take i a)) (join (one (tree_of x)) (trees_of (drop (suc i) a))) split)).0

@@ -63,10 +63,12 @@ from_length (e ∷ a) n =
     ∙ ap (λ k. k + length (from (n + 1) (map leaps_of (map (λ (e : I). e.0) a)))) (e.1 n)
     ∙ ap (λ k. leaps_in e.0 + k) (from_length a (n + 1))
 
-held_length : (i : ℕ) (b : Branch) (a : List I) → length (under i b (from 0 (map leaps_of (map (λ (e : I). e.0) a)))) ≡ total (map leaps_in (map (λ (e : I). e.0) a))
+held_length : (i : ℕ) (b : Branch) (a : List I) → length (under i b (from 0 (map leaps_of (map (λ (e : I). e.0) a)))) ≡ total
+    (map leaps_in (map (λ (e : I). e.0) a))
 held_length i b a = under_length i b (from 0 (map leaps_of (map (λ (e : I). e.0) a))) ∙ from_length a 0
 
-sections_length : (i k : ℕ) (cs : List C) → length (sections_from i k (map section_leaps (map (λ (e : C). e.0) cs))) ≡ total (map leaps_in_section (map (λ (e : C). e.0) cs))
+sections_length : (i k : ℕ) (cs : List C) → length (sections_from i k (map section_leaps (map (λ (e : C). e.0) cs))) ≡ total
+    (map leaps_in_section (map (λ (e : C). e.0) cs))
 sections_length i k [] = refl
 sections_length i k (e ∷ cs) =
     length-append (under i (B.Section k) (section_leaps e.0)) (sections_from i (k + 1) (map section_leaps (map (λ (e : C). e.0) cs)))
@@ -87,9 +89,11 @@ layer _ i = refl
 pub leaps_counted : (x : Item) (i : ℕ) → length (leaps_of x i) ≡ leaps_in x
 leaps_counted = ind-Item P Q
     (λ x y e. subst (λ (z : Item-F Item Section). P (roll-Item z)) e (λ i.
-    ap (λ (f : ℕ → List Path). length (f i)) (fold-roll-Item (ℕ → List Path) (List Path) leaps_step section_step _) ∙ layer y i ∙ sym (fold-roll-Item ℕ ℕ leap_layer leap_section_layer _)))
+    ap (λ (f : ℕ → List Path). length (f i)) (fold-roll-Item (ℕ → List Path) (List Path) leaps_step section_step _) ∙ layer y i ∙
+    sym (fold-roll-Item ℕ ℕ leap_layer leap_section_layer _)))
     (λ x y e. subst (λ (z : Section-F Item Section). Q (roll-Section z)) e (
-    ap length (fold-roll-Section (ℕ → List Path) (List Path) leaps_step section_step _) ∙ from_length y.list 0 ∙ sym (fold-roll-Section ℕ ℕ leap_layer leap_section_layer _)))
+    ap length (fold-roll-Section (ℕ → List Path) (List Path) leaps_step section_step _) ∙ from_length y.list 0 ∙
+    sym (fold-roll-Section ℕ ℕ leap_layer leap_section_layer _)))
 
 pub length-leaps_from : (xs : List Item) (n : ℕ) → length (leaps_from n xs) ≡ leaps_in_list xs
 length-leaps_from [] n = refl
@@ -109,7 +113,8 @@ total_set f [] i x y e = cc
 total_set f (z ∷ zs) zero x y e = let h : z ≡ x = cc in let g : f z ≡ f x = ap f h in omega (arith, g)
 total_set f (z ∷ zs) (suc i) x y e = omega (arith, total_set f zs i x y e)
 
-pub leaps_in_list-parts : (xs : List Item) (i : ℕ) (x : Item) → slice_get xs i ≡ Some x → leaps_in_list xs ≡ leaps_in_list (take i xs) + leaps_in x + leaps_in_list (drop (suc i) xs)
+pub leaps_in_list-parts : (xs : List Item) (i : ℕ) (x : Item) → slice_get xs i ≡ Some x →
+    leaps_in_list xs ≡ leaps_in_list (take i xs) + leaps_in x + leaps_in_list (drop (suc i) xs)
 leaps_in_list-parts [] i x e = cc
 leaps_in_list-parts (z ∷ zs) zero x e = let h : z ≡ x = cc in let g : leaps_in z ≡ leaps_in x = ap leaps_in h in omega (arith, g)
 leaps_in_list-parts (z ∷ zs) (suc i) x e = omega (arith, leaps_in_list-parts zs i x e)
@@ -148,7 +153,8 @@ sections_with k w cs a e =
     let n = section_is t.0 ∙ ap leaps_in_list t.2 in
     omega (arith, p, q, m, n)
 
-layer_with : (b : Branch) (y : Item-F Item Section) (w a : List Item) → child_F b y ≡ Some a → leaps_in_layer (with_child_F b w y) + leaps_in_list a ≡ leaps_in_layer y + leaps_in_list w
+layer_with : (b : Branch) (y : Item-F Item Section) (w a : List Item) → child_F b y ≡ Some a →
+    leaps_in_layer (with_child_F b w y) + leaps_in_list a ≡ leaps_in_layer y + leaps_in_list w
 layer_with B.Body (While t x) w a e = let h : x ≡ a = cc in let g : leaps_in_list x ≡ leaps_in_list a = ap leaps_in_list h in omega (arith, g)
 layer_with B.Body (Do x t) w a e = let h : x ≡ a = cc in let g : leaps_in_list x ≡ leaps_in_list a = ap leaps_in_list h in omega (arith, g)
 layer_with B.Body (For f t u x) w a e = let h : x ≡ a = cc in let g : leaps_in_list x ≡ leaps_in_list a = ap leaps_in_list h in omega (arith, g)
@@ -162,7 +168,8 @@ item_with : (b : Branch) (x : Item) (w a : List Item) → child b x ≡ Some a �
 item_with b x w a e = omega (arith, leaps_in-roll (with_child_F b w (out-Item x)), leaps_in-out x, layer_with b (out-Item x) w a e)
 
 -- a body where w is put in place of the list a
-pub leaps_in_list-put : (xs : List Item) (ss : List Step) (w a : List Item) → list_at xs ss ≡ Some a → leaps_in_list (put_at xs ss w) + leaps_in_list a ≡ leaps_in_list xs + leaps_in_list w
+pub leaps_in_list-put : (xs : List Item) (ss : List Step) (w a : List Item) → list_at xs ss ≡ Some a →
+    leaps_in_list (put_at xs ss w) + leaps_in_list a ≡ leaps_in_list xs + leaps_in_list w
 leaps_in_list-put xs [] w a e = let h : xs ≡ a = cc in let g : leaps_in_list xs ≡ leaps_in_list a = ap leaps_in_list h in omega (arith, g)
 leaps_in_list-put xs (s ∷ ss) w a e =
     let t = stepped xs s ss a e in

@@ -95,21 +95,27 @@ module _ (body : List Item) (l : ℕ) (one : lands l (trees_of body) ≡ 1) (p :
   pub one_rule : (r s : Rule) (q t : Path) → Applies r l p q body → Applies s l p t body → AreAlike r s
   one_rule SiblingBefore SiblingBefore q t h k = tt
   one_rule SiblingBefore SiblingAfter q t h k = tt
-  one_rule SiblingBefore LiftOf q t h k = land_or_held body l one p.steps p.item (joined body l one p.steps p.item q.item h) (lifted body l one p.steps p.item k)
-  one_rule SiblingBefore InwardOf q t h k = land_or_held body l one p.steps p.item (joined body l one p.steps p.item q.item h) (led_in body l one p.steps p.item k)
+  one_rule SiblingBefore LiftOf q t h k = land_or_held body l one p.steps p.item (joined body l one p.steps p.item q.item h)
+      (lifted body l one p.steps p.item k)
+  one_rule SiblingBefore InwardOf q t h k = land_or_held body l one p.steps p.item (joined body l one p.steps p.item q.item h)
+      (led_in body l one p.steps p.item k)
   one_rule SiblingBefore Outward q t h k = led_out body l one p.steps p.item k (joined body l one p.steps p.item q.item h)
   one_rule SiblingAfter SiblingBefore q t h k = tt
   one_rule SiblingAfter SiblingAfter q t h k = tt
   one_rule SiblingAfter LiftOf q t h k = land_or_held body l one p.steps p.item (joined body l one p.steps p.item q.item h) (lifted body l one p.steps p.item k)
-  one_rule SiblingAfter InwardOf q t h k = land_or_held body l one p.steps p.item (joined body l one p.steps p.item q.item h) (led_in body l one p.steps p.item k)
+  one_rule SiblingAfter InwardOf q t h k = land_or_held body l one p.steps p.item (joined body l one p.steps p.item q.item h)
+      (led_in body l one p.steps p.item k)
   one_rule SiblingAfter Outward q t h k = led_out body l one p.steps p.item k (joined body l one p.steps p.item q.item h)
-  one_rule LiftOf SiblingBefore q t h k = land_or_held body l one p.steps p.item (joined body l one p.steps p.item t.item k) (lifted body l one p.steps p.item h)
+  one_rule LiftOf SiblingBefore q t h k = land_or_held body l one p.steps p.item (joined body l one p.steps p.item t.item k)
+      (lifted body l one p.steps p.item h)
   one_rule LiftOf SiblingAfter q t h k = land_or_held body l one p.steps p.item (joined body l one p.steps p.item t.item k) (lifted body l one p.steps p.item h)
   one_rule LiftOf LiftOf q t h k = tt
   one_rule LiftOf InwardOf q t h k = before_and_after body l one p.steps p.item (lifted body l one p.steps p.item h) (led_in body l one p.steps p.item k)
   one_rule LiftOf Outward q t h k = led_out body l one p.steps p.item k (lifted body l one p.steps p.item h)
-  one_rule InwardOf SiblingBefore q t h k = land_or_held body l one p.steps p.item (joined body l one p.steps p.item t.item k) (led_in body l one p.steps p.item h)
-  one_rule InwardOf SiblingAfter q t h k = land_or_held body l one p.steps p.item (joined body l one p.steps p.item t.item k) (led_in body l one p.steps p.item h)
+  one_rule InwardOf SiblingBefore q t h k = land_or_held body l one p.steps p.item (joined body l one p.steps p.item t.item k)
+      (led_in body l one p.steps p.item h)
+  one_rule InwardOf SiblingAfter q t h k = land_or_held body l one p.steps p.item (joined body l one p.steps p.item t.item k)
+      (led_in body l one p.steps p.item h)
   one_rule InwardOf LiftOf q t h k = before_and_after body l one p.steps p.item (lifted body l one p.steps p.item k) (led_in body l one p.steps p.item h)
   one_rule InwardOf InwardOf q t h k = tt
   one_rule InwardOf Outward q t h k = led_out body l one p.steps p.item k (led_in body l one p.steps p.item h)

@@ -95,7 +95,8 @@ no_way : (b : Bool) → cond b LiftOf InwardOf ≡ Outward → ⊥
 no_way true e = cc
 no_way false e = cc
 
-pub apart : (l : ℕ) (xs : List Item) (ss : List Step) (i : ℕ) (ts : List Step) (j : ℕ) (a : List Item) → relation ss i ts j ≡ Outward → list_at xs ss ≡ Some a → item_at xs ts j ≡ Some (Land l)
+pub apart : (l : ℕ) (xs : List Item) (ss : List Step) (i : ℕ) (ts : List Step) (j : ℕ) (a : List Item) → relation ss i ts j ≡ Outward →
+    list_at xs ss ≡ Some a → item_at xs ts j ≡ Some (Land l)
     → lands l (trees_of a) + 1 ≤ lands l (trees_of xs)
 apart l xs [] i [] j a r e f = absurd (no_sibling (nat_lt i j) r)
 apart l xs [] i (t ∷ ts) j a r e f = absurd (no_way (nat_lt t.item i) r)
@@ -109,10 +110,12 @@ apart l xs (s ∷ ss) i [] j a r e f =
 apart l xs (s ∷ ss) i (t ∷ ts) j a r e f =
     let x = stepped xs s ss a e in
     put x (λ g h. apart l x.inner ss i ts j a g x.rest h) (same_step s t) refl r where
-      put : (x : Stepped xs s ss a) → (relation ss i ts j ≡ Outward → item_at x.inner ts j ≡ Some (Land l) → lands l (trees_of a) + 1 ≤ lands l (trees_of x.inner))
+      put : (x : Stepped xs s ss a) → (relation ss i ts j ≡ Outward → item_at x.inner ts j ≡ Some (Land l) →
+          lands l (trees_of a) + 1 ≤ lands l (trees_of x.inner))
           → (b : Bool) → same_step s t ≡ b → cond b (relation ss i ts j) Outward ≡ Outward → lands l (trees_of a) + 1 ≤ lands l (trees_of xs)
       put x more true k g =
-          let there = ap (option_and_then (λ z. slice_get z j)) (sym (list_step xs s ts x.item x.inner x.item_is x.inner_is)) ∙ ap (λ (z : Step). item_at xs (z ∷ ts) j) (same_step-is s t k) ∙ f in
+          let there = ap (option_and_then (λ z. slice_get z j)) (sym (list_step xs s ts x.item x.inner x.item_is x.inner_is)) ∙
+          ap (λ (z : Step). item_at xs (z ∷ ts) j) (same_step-is s t k) ∙ f in
           let held = child_lands l s.branch x.item x.inner x.inner_is in
           omega (arith, more g there, held, item_lands l xs s.item x.item x.item_is)
       put x more false k g =
@@ -122,7 +125,8 @@ apart l xs (s ∷ ss) i (t ∷ ts) j a r e f =
           elim (cases_eq s.item t.item) [
             | inl h ↦
                 let same = same_item xs s.item t.item h x.item_is y.item_is in
-                let two = two_lists l s.branch t.branch (out-Item x.item) x.inner y.list (other_branch s t k h) x.inner_is (ap (child t.branch) (sym same) ∙ y.list_is) in
+                let two = two_lists l s.branch t.branch (out-Item x.item) x.inner y.list (other_branch s t k h) x.inner_is
+                (ap (child t.branch) (sym same) ∙ y.list_is) in
                 omega (arith, within, some, two, item_lands l xs s.item x.item x.item_is)
             | inr n ↦
                 let held = child_lands l s.branch x.item x.inner x.inner_is in

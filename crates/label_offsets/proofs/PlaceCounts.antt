@@ -21,7 +21,8 @@ counted l x = cond (is_land l x) 1 0 + held l x
 pub counted-Land : (l : ℕ) → 0 < counted l (Land l)
 counted-Land l = let e : cond {A = ℕ} (is_land l (Land l)) 1 0 ≡ 1 = ap (λ b. cond {A = ℕ} b 1 0) (is_land-Land l) in omega (arith, e)
 
-pub section_lands : (l : ℕ) (cs : List Section) (k : ℕ) (c : Section) → slice_get cs k ≡ Some c → lands l (trees_of (list_of c)) ≤ total_in (land_of l) (sections_of cs)
+pub section_lands : (l : ℕ) (cs : List Section) (k : ℕ) (c : Section) → slice_get cs k ≡ Some c →
+    lands l (trees_of (list_of c)) ≤ total_in (land_of l) (sections_of cs)
 section_lands l [] k c e = cc
 section_lands l (x ∷ cs) zero c e =
     let h : x ≡ c = cc in
@@ -30,12 +31,18 @@ section_lands l (x ∷ cs) zero c e =
 section_lands l (x ∷ cs) (suc k) c e = omega (arith, section_lands-first l x cs, section_lands l cs k c e)
 
 layer_lands : (l : ℕ) (b : Branch) (y : Item-F Item Section) (a : List Item) → child_F b y ≡ Some a → lands l (trees_of a) ≤ held_F l y
-layer_lands l B.Body (O.While t x) a e = let h : x ≡ a = cc in let g : lands l (trees_of x) ≡ lands l (trees_of a) = ap (λ z. lands l (trees_of z)) h in omega (arith, g)
-layer_lands l B.Body (O.Do x t) a e = let h : x ≡ a = cc in let g : lands l (trees_of x) ≡ lands l (trees_of a) = ap (λ z. lands l (trees_of z)) h in omega (arith, g)
-layer_lands l B.Body (O.For f t u x) a e = let h : x ≡ a = cc in let g : lands l (trees_of x) ≡ lands l (trees_of a) = ap (λ z. lands l (trees_of z)) h in omega (arith, g)
-layer_lands l B.Body (O.Block x) a e = let h : x ≡ a = cc in let g : lands l (trees_of x) ≡ lands l (trees_of a) = ap (λ z. lands l (trees_of z)) h in omega (arith, g)
-layer_lands l B.Then (O.If t x z) a e = let h : x ≡ a = cc in let g : lands l (trees_of x) ≡ lands l (trees_of a) = ap (λ z. lands l (trees_of z)) h in omega (arith, g)
-layer_lands l B.Else (O.If t x z) a e = let h : z ≡ a = cc in let g : lands l (trees_of z) ≡ lands l (trees_of a) = ap (λ z. lands l (trees_of z)) h in omega (arith, g)
+layer_lands l B.Body (O.While t x) a e = let h : x ≡ a = cc in let g : lands l (trees_of x) ≡ lands l (trees_of a) =
+    ap (λ z. lands l (trees_of z)) h in omega (arith, g)
+layer_lands l B.Body (O.Do x t) a e = let h : x ≡ a = cc in let g : lands l (trees_of x) ≡ lands l (trees_of a) = ap (λ z. lands l (trees_of z)) h in
+    omega (arith, g)
+layer_lands l B.Body (O.For f t u x) a e = let h : x ≡ a = cc in let g : lands l (trees_of x) ≡ lands l (trees_of a) =
+    ap (λ z. lands l (trees_of z)) h in omega (arith, g)
+layer_lands l B.Body (O.Block x) a e = let h : x ≡ a = cc in let g : lands l (trees_of x) ≡ lands l (trees_of a) = ap (λ z. lands l (trees_of z)) h in
+    omega (arith, g)
+layer_lands l B.Then (O.If t x z) a e = let h : x ≡ a = cc in let g : lands l (trees_of x) ≡ lands l (trees_of a) =
+    ap (λ z. lands l (trees_of z)) h in omega (arith, g)
+layer_lands l B.Else (O.If t x z) a e = let h : z ≡ a = cc in let g : lands l (trees_of z) ≡ lands l (trees_of a) =
+    ap (λ z. lands l (trees_of z)) h in omega (arith, g)
 layer_lands l (B.Section k) (O.Switch s cs) a e =
     let t = map_some list_of (slice_get cs k) a e in
     let g : lands l (trees_of (list_of t.0)) ≡ lands l (trees_of a) = ap (λ z. lands l (trees_of z)) t.2 in
@@ -56,7 +63,8 @@ item_lands l (z ∷ zs) zero x e =
 item_lands l (z ∷ zs) (suc i) x e = omega (arith, lands-first l z zs, item_lands l zs i x e)
 
 -- two items of a list
-pub two_lands : (l : ℕ) (xs : List Item) (i j : ℕ) (x y : Item) → i ≢ j → slice_get xs i ≡ Some x → slice_get xs j ≡ Some y → counted l x + counted l y ≤ lands l (trees_of xs)
+pub two_lands : (l : ℕ) (xs : List Item) (i j : ℕ) (x y : Item) → i ≢ j → slice_get xs i ≡ Some x → slice_get xs j ≡ Some y →
+    counted l x + counted l y ≤ lands l (trees_of xs)
 two_lands l [] i j x y n e f = cc
 two_lands l (z ∷ zs) zero zero x y n e f = absurd (n refl)
 two_lands l (z ∷ zs) zero (suc j) x y n e f =

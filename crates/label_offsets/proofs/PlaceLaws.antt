@@ -30,7 +30,8 @@ place_here l xs i x ss h e t f =
 
 -- it stands in an item
 
-under_place : (l k : ℕ) (b : Branch) (a : List Item) (x : Item) (xs : List Item) (p : Path) → slice_get xs k ≡ Some x → child b x ≡ Some a → IsUnder l k b a p → IsPlaceOf l xs p
+under_place : (l k : ℕ) (b : Branch) (a : List Item) (x : Item) (xs : List Item) (p : Path) → slice_get xs k ≡ Some x → child b x ≡ Some a →
+    IsUnder l k b a p → IsPlaceOf l xs p
 under_place l k b a x xs p e f u =
     let within : list_at xs (record { item = k; branch = b } ∷ u.rest) ≡ list_at a u.rest =
     ap (option_and_then (λ x. option_and_then (λ a. list_at a u.rest) (child b x))) e ∙ ap (option_and_then (λ a. list_at a u.rest)) f in
@@ -98,7 +99,8 @@ plain_inside x h = plain_layer (out-Item x) (subst (EverywhereOf IsPlainFor) (tr
 
 -- an item that isn't the Land and doesn't hold it
 
-pub no_land_at : (l : ℕ) (xs : List Item) (k : ℕ) (x : Item) → k < length xs → x ≡ get_or xs k x → is_land l x ≡ false → (HasPlainFors x → held l x ≡ 0) → HasNoLandAt l xs k
+pub no_land_at : (l : ℕ) (xs : List Item) (k : ℕ) (x : Item) → k < length xs → x ≡ get_or xs k x → is_land l x ≡ false →
+    (HasPlainFors x → held l x ≡ 0) → HasNoLandAt l xs k
 no_land_at l xs k x h e none nothing = λ p.
     let m = everywhere_more IsPlainFor xs k x h e (everywhere_drop IsPlainFor xs k p) in
     omega (arith, lands-more l xs k x h e, is_land-none l x none, nothing (plain_inside x m.0))
@@ -106,7 +108,8 @@ no_land_at l xs k x h e none nothing = λ p.
 pub none_behind : (l : ℕ) (xs : List Item) (k : ℕ) → length xs ≤ k → HasNoLandAt l xs k
 none_behind l xs k h = λ p. lands-all l xs k h ∙ sym (lands-all l xs (k + 1) (omega (arith, h)))
 
-pub none_inside_at : (l : ℕ) (xs : List Item) (k : ℕ) (x : Item) (r : Option Path) → k < length xs → x ≡ get_or xs k x → is_land l x ≡ false → IfNone r (HasPlainFors x → held l x ≡ 0) → IfNone r (HasNoLandAt l xs k)
+pub none_inside_at : (l : ℕ) (xs : List Item) (k : ℕ) (x : Item) (r : Option Path) → k < length xs → x ≡ get_or xs k x → is_land l x ≡ false →
+    IfNone r (HasPlainFors x → held l x ≡ 0) → IfNone r (HasNoLandAt l xs k)
 none_inside_at l xs k x None h e none nothing = no_land_at l xs k x h e none nothing
 none_inside_at l xs k x (Some p) h e none nothing = tt
 
@@ -130,7 +133,8 @@ around_none l m xs =
     (subst (λ n. lands l (trees_of xs) ≡ lands l (trees_of (take n xs)) + lands l (trees_of (drop m xs))) left (sym (lands-cut l m xs)))
 
 pub around_more : (l m n : ℕ) (xs : List Item) → lands l (trees_of xs) ≡ lands l (trees_of (take (m - n) xs)) + lands l (trees_of (drop (m + n) xs))
-    → lands l (trees_of (drop (m + n) xs)) ≡ lands l (trees_of (drop (m + n + 1) xs)) → lands l (trees_of (take (m - n) xs)) ≡ lands l (trees_of (take (m - n - 1) xs))
+    → lands l (trees_of (drop (m + n) xs)) ≡ lands l (trees_of (drop (m + n + 1) xs)) →
+    lands l (trees_of (take (m - n) xs)) ≡ lands l (trees_of (take (m - n - 1) xs))
     → lands l (trees_of xs) ≡ lands l (trees_of (take (m - (n + 1)) xs)) + lands l (trees_of (drop (m + (n + 1)) xs))
 around_more l m n xs e right left =
     let fewer : m - n - 1 ≡ m - (n + 1) = omega arith in
@@ -139,7 +143,8 @@ around_more l m n xs e right left =
     let g = ap (λ k. lands l (trees_of (drop k xs))) more in
     omega (arith, e, right, left, f, g)
 
-pub around_all : (l m n : ℕ) (xs : List Item) → m ≤ length xs → length xs ≤ n → lands l (trees_of xs) ≡ lands l (trees_of (take (m - n) xs)) + lands l (trees_of (drop (m + n) xs)) → lands l (trees_of xs) ≡ 0
+pub around_all : (l m n : ℕ) (xs : List Item) → m ≤ length xs → length xs ≤ n →
+    lands l (trees_of xs) ≡ lands l (trees_of (take (m - n) xs)) + lands l (trees_of (drop (m + n) xs)) → lands l (trees_of xs) ≡ 0
 around_all l m n xs h k e =
     let nothing : m - n ≡ 0 = omega (arith, h, k) in
     let left = ap (λ i. lands l (trees_of (take i xs))) nothing ∙ ap (lands l) trees-none in

@@ -48,4 +48,5 @@ before_branch b x = before_branch_F b (out-Item x)
 abbrev pub before : List Item → List Step → ℕ → ℕ
 before xs [] i = counts (take i xs)
 before xs (s ∷ ss) i =
-    counts (take s.item xs) + option_map_or (λ x. 1 + before_branch s.branch x + option_map_or (λ a. before a ss i) (child s.branch x) 0) (slice_get xs s.item) 0
+    counts (take s.item xs) + option_map_or (λ x. 1 + before_branch s.branch x + option_map_or (λ a. before a ss i) (child s.branch x) 0)
+    (slice_get xs s.item) 0

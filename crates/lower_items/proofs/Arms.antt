@@ -20,7 +20,8 @@ use Rattle.lower_laws.specs.Lowered.{Layout, past_item, lowered_item}
 use Rattle.lower_items.specs.Forms.{simple_form, local_form}
 use Rattle.lower_items.proofs.Steps.{still}
 
-local_is : (p : Layout) (h : Here) (b c : Aim) (r : Arrivals) (x : ℕ) (es : Option (List ExpressionTree)) → local_form p x es ≡ lowered_item p h b c r (P.Local x es)
+local_is : (p : Layout) (h : Here) (b c : Aim) (r : Arrivals) (x : ℕ) (es : Option (List ExpressionTree)) →
+    local_form p x es ≡ lowered_item p h b c r (P.Local x es)
 local_is p h b c r x None = refl
 local_is p h b c r x (Some es) = refl
 

@@ -18,7 +18,8 @@ pieces-push (x ∷ xs) a = ap (join (trees_of x)) (pieces-push xs a) ∙ sym (jo
 pub pieces_step : (a : List Item) (xs out new : List (List Item)) (all : Forest) → new ≡ out ++ a ∷ []
     → join (pieces_of out) (pieces_of (a ∷ xs)) ≡ all → join (pieces_of new) (pieces_of xs) ≡ all
 pieces_step a xs out new all n inv =
-    ap (λ z. join (pieces_of z) (pieces_of xs)) n ∙ ap (λ z. join z (pieces_of xs)) (pieces-push out a) ∙ joined (pieces_of out) (trees_of a) (pieces_of xs) ∙ inv
+    ap (λ z. join (pieces_of z) (pieces_of xs)) n ∙ ap (λ z. join z (pieces_of xs)) (pieces-push out a) ∙
+    joined (pieces_of out) (trees_of a) (pieces_of xs) ∙ inv
 
 pub pieces_end : (out all : Forest) → join out (pieces_of []) ≡ all → out ≡ all
 pieces_end out all inv = sym (join-nil out) ∙ inv

@@ -48,7 +48,8 @@ module _ (live : ℕ → Bool) where
     pub goto_next : goes live (tree_at x) ≡ true → only_goto live (trees_of (drop i xs)) ≡ only_goto live (trees_of (drop (i + 1) xs))
     goto_next h = ap (only_goto live) (trees-at xs i x l e) ∙ goto_goes (tree_at x) (trees_of (drop (i + 1) xs)) h
 
-    pub goto_here : goes live (tree_at x) ≡ false → only_goto live (trees_of (drop i xs)) ≡ cond (is_bare live (trees_of (drop (i + 1) xs))) (goto_of (tree_at x)) None
+    pub goto_here : goes live (tree_at x) ≡ false → only_goto live (trees_of (drop i xs)) ≡ cond (is_bare live (trees_of (drop (i + 1) xs)))
+        (goto_of (tree_at x)) None
     goto_here h = ap (only_goto live) (trees-at xs i x l e) ∙ goto_stays (tree_at x) (trees_of (drop (i + 1) xs)) h
 
   pub bare_end : (xs : List Item) (i : ℕ) → length xs ≤ i → is_bare live (trees_of (drop i xs)) ≡ true

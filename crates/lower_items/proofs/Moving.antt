@@ -19,7 +19,8 @@ nothing_left (x ∷ xs) h = absurd (omega arith)
 pub emptied : {X Z : Type 0} (it : IntoIter X Z) → into_iter_len it ≡ 0 → into_iter_items it ≡ []
 emptied it h = nothing_left (into_iter_items it) (sym it.rest.ok.0 ∙ h)
 
-pub all_step : (x : Item) (xs : List Item) (out new all : Forest) → new ≡ join out (one (tree_at x)) → join out (trees_of (x ∷ xs)) ≡ all → join new (trees_of xs) ≡ all
+pub all_step : (x : Item) (xs : List Item) (out new all : Forest) → new ≡ join out (one (tree_at x)) → join out (trees_of (x ∷ xs)) ≡ all →
+    join new (trees_of xs) ≡ all
 all_step x xs out new all n inv = one_more out new (tree_at x) (trees_of xs) n ∙ sym (ap (join out) (trees-first x xs)) ∙ inv
 
 pub all_end : (out all : Forest) → join out (trees_of []) ≡ all → out ≡ all

@@ -33,38 +33,46 @@ pub closed_is : (n c b out one_out two_out last : Forest) → one_out ≡ join o
 closed_is n c b out one_out two_out last e1 e2 e3 =
     e3 ∙ ap (λ z. join z b) (e2 ∙ ap (λ z. join z c) e1) ∙ joined (join out n) c b ∙ joined out n (join c b)
 
-pub then_joined : (out a : Forest) (g m e : Tree) (one_out two_out last : Forest) → one_out ≡ join out (Then g (one m)) → two_out ≡ join one_out a → last ≡ join two_out (one e)
+pub then_joined : (out a : Forest) (g m e : Tree) (one_out two_out last : Forest) → one_out ≡ join out (Then g (one m)) → two_out ≡ join one_out a →
+    last ≡ join two_out (one e)
     → last ≡ join out (Then g (Then m (join a (one e))))
 then_joined out a g m e one_out two_out last e1 e2 e3 =
     e3 ∙ ap (λ z. join z (one e)) (e2 ∙ ap (λ z. join z a) e1)
     ∙ joined (join out (Then g (one m))) a (one e) ∙ joined out (Then g (one m)) (join a (one e))
 
-pub frame_equal : {o o' c c' : Forest} {n n' b b' d d' : Aim} → o ≡ o' → n ≡ n' → c ≡ c' → b ≡ b' → d ≡ d' → (let f : Frame = record { opening = o; next = n; closing = c; breaks = b; continues = d } in f) ≡ record { opening = o'; next = n'; closing = c'; breaks = b'; continues = d' }
+pub frame_equal : {o o' c c' : Forest} {n n' b b' d d' : Aim} → o ≡ o' → n ≡ n' → c ≡ c' → b ≡ b' → d ≡ d' →
+    (let f : Frame = record { opening = o; next = n; closing = c; breaks = b; continues = d } in
+    f) ≡ record { opening = o'; next = n'; closing = c'; breaks = b'; continues = d' }
 frame_equal a b c d e = cc
 
-pub parts_joined : (out m l e one_out two_out last : Forest) → one_out ≡ join out m → two_out ≡ join one_out l → last ≡ join two_out e → last ≡ join out (join m (join l e))
+pub parts_joined : (out m l e one_out two_out last : Forest) → one_out ≡ join out m → two_out ≡ join one_out l → last ≡ join two_out e →
+    last ≡ join out (join m (join l e))
 parts_joined out m l e one_out two_out last e1 e2 e3 =
     e3 ∙ ap (λ z. join z e) (e2 ∙ ap (λ z. join z l) e1) ∙ joined (join out m) l e ∙ joined out m (join l e)
 
 -- a list whose Arrivals are bound to a switch
-pub bound_is : (p : Layout) (h : Here) (b c : Aim) (names : Names) (a out last : Forest) (bound : Bool) → bound ≡ true → last ≡ join out (lowered p h b c (arrivals_if bound names) a)
+pub bound_is : (p : Layout) (h : Here) (b c : Aim) (names : Names) (a out last : Forest) (bound : Bool) → bound ≡ true →
+    last ≡ join out (lowered p h b c (arrivals_if bound names) a)
     → last ≡ join out (lowered p h b c (Arrives names) a)
 bound_is p h b c names a out last bound e f = f ∙ ap (λ z. join out (lowered p h b c (arrivals_if z names) a)) e
 
 -- ---- loops
 
 pub while_is : (q : L.Plan) (h : Here) (b c : Aim) (r : Arrivals) (t : TestTree) (a : Forest)
-    → framed (while_frame h.construct t) (lowered (layout_of q) (entered_at h 0 0) (while_frame h.construct t).breaks (while_frame h.construct t).continues r a) ≡ lowered_item (layout_of q) h b c r (While t a)
+    → framed (while_frame h.construct t) (lowered (layout_of q) (entered_at h 0 0) (while_frame h.construct t).breaks
+    (while_frame h.construct t).continues r a) ≡ lowered_item (layout_of q) h b c r (While t a)
 while_is q h b c r t a = refl
 
 do_joined : (a mc j mb : Forest) → join a (join mc (join j mb)) ≡ join (join (join a mc) j) mb
 do_joined a mc j mb = sym (joined (join a mc) j mb ∙ joined a mc (join j mb))
 
 pub do_is : (q : L.Plan) (h : Here) (b c : Aim) (r : Arrivals) (t : TestTree) (a : Forest)
-    → framed (do_frame h.construct a t) (lowered (layout_of q) (entered_at h 0 0) (do_frame h.construct a t).breaks (do_frame h.construct a t).continues r a) ≡ lowered_item (layout_of q) h b c r (Do a t)
+    → framed (do_frame h.construct a t) (lowered (layout_of q) (entered_at h 0 0) (do_frame h.construct a t).breaks
+    (do_frame h.construct a t).continues r a) ≡ lowered_item (layout_of q) h b c r (Do a t)
 do_is q h b c r t a =
     let f = do_frame h.construct a t in
-    ap (Then (Mark (7 * h.construct + 6))) (do_joined (lowered (layout_of q) (entered_at h 0 0) f.breaks f.continues r a) (mark_of f.next) (one (jump_if t (7 * h.construct + 6))) (mark_of f.breaks))
+    ap (Then (Mark (7 * h.construct + 6))) (do_joined (lowered (layout_of q) (entered_at h 0 0) f.breaks f.continues r a) (mark_of f.next)
+    (one (jump_if t (7 * h.construct + 6))) (mark_of f.breaks))
 
 for_joined : (a mc u j mb : Forest) → join a (join mc (join (join u j) mb)) ≡ join (join a (join mc u)) (join j mb)
 for_joined a mc u j mb = ap (λ z. join a (join mc z)) (joined u j mb) ∙ sym (joined a (join mc u) (join j mb) ∙ ap (join a) (joined mc u (join j mb)))
@@ -79,14 +87,16 @@ for_is q h None u a x =
     let k = h.construct in
     let w = join x (join (mark_of (continue_aim (layout_of q) h a)) (third_items u)) in
     ap (Then (Mark (7 * k + 5)))
-    (for_joined x (mark_of (continue_aim (layout_of q) h a)) (third_items u) (one (Goto (7 * k + 5))) (mark_of (break_aim (layout_of q) h a)) ∙ sym (joined w (one (Goto (7 * k + 5))) (mark_of (break_aim (layout_of q) h a))))
+    (for_joined x (mark_of (continue_aim (layout_of q) h a)) (third_items u) (one (Goto (7 * k + 5))) (mark_of (break_aim (layout_of q) h a)) ∙
+    sym (joined w (one (Goto (7 * k + 5))) (mark_of (break_aim (layout_of q) h a))))
 
 pub for_breaks_are : (q : L.Plan) (h : Here) (t u : Option ExpressionTree) (a : Forest) → (for_frame h.construct t u a).breaks ≡ for_aim (layout_of q) h t a
 for_breaks_are q h (Some t) u a = refl
 for_breaks_are q h None u a = refl
 
 -- a `for`, whose first part is there: w is what stands around its list
-pub for_item : (q : L.Plan) (h : Here) (b c : Aim) (r : Arrivals) (first : Forest) (t u : Option ExpressionTree) (a out one_out last : Forest) (s k : Here) (w : Frame)
+pub for_item : (q : L.Plan) (h : Here) (b c : Aim) (r : Arrivals) (first : Forest) (t u : Option ExpressionTree) (a out one_out last : Forest)
+    (s k : Here) (w : Frame)
     → s ≡ entered_at h 0 0 → k ≡ past first s → w ≡ for_frame h.construct t u a
     → one_out ≡ join out (lowered (layout_of q) s b c NoArrival first) → last ≡ join one_out (framed w (lowered (layout_of q) k w.breaks w.continues r a))
     → last ≡ join out (lowered_item (layout_of q) h b c r (For first t u a))
@@ -100,7 +110,8 @@ for_item q h b c r first t u a out one_out last s k w start place frame e1 e2 =
     ∙ ap (λ g. join out (join x (framed w (lowered p g w.breaks w.continues r a)))) (place ∙ ap (past first) start)
     ∙ ap (λ (z : Frame). join out (join x (framed z (lowered p i z.breaks z.continues r a)))) frame
     ∙ ap (λ z. join out (join x z)) (for_is q h t u a (lowered p i v.breaks v.continues r a))
-    ∙ ap (λ z. join out (join x (lowered_for p h t u (lowered p i z (continue_aim p h a) r a) (for_aim p h t a) (continue_aim p h a)))) (for_breaks_are q h t u a)
+    ∙ ap (λ z. join out (join x (lowered_for p h t u (lowered p i z (continue_aim p h a) r a) (for_aim p h t a) (continue_aim p h a))))
+    (for_breaks_are q h t u a)
 
 -- ---- an `if`
 
@@ -129,7 +140,8 @@ both_joined p n s k b c r x y none made out two last e1 e2 e3 e4 e5 =
     e5 ∙ ap (λ z. join two (then_part n z)) (e3 ∙ ap (λ z. join z lx) e2) ∙ ap (λ z. join z (then_part n lx)) (e4 ∙ ap (λ g. join out (lowered p g b c r y)) e1)
     ∙ joined out (lowered p (past x s) b c r y) (then_part n lx)
 
-pub jump_is : (q : L.Plan) (h : Here) (b c : Aim) (r : Arrivals) (t : TestTree) (x y : Forest) (l : ℕ) → jump_of (layout_of q).plan.live x y ≡ Some l → one (jump_if t (7 * l)) ≡ lowered_item (layout_of q) h b c r (If t x y)
+pub jump_is : (q : L.Plan) (h : Here) (b c : Aim) (r : Arrivals) (t : TestTree) (x y : Forest) (l : ℕ) →
+    jump_of (layout_of q).plan.live x y ≡ Some l → one (jump_if t (7 * l)) ≡ lowered_item (layout_of q) h b c r (If t x y)
 jump_is q h b c r t x y l some =
     let p = layout_of q in
     sym (ap (λ z. lowered_if p h t z (lowered p (entered_at h 0 0) b c r x) (lowered p (past x (entered_at h 0 0)) b c r y)) some)
@@ -158,5 +170,6 @@ switch_is q h b c r s d cs out one_out last a first second =
     let ns = names_of p.plan h k d in
     second ∙ ap (λ z. join z (lowered_among p (inside (Switch s d) h) (breaks_of d h.construct) c (case_names cs) d)) first
     ∙ ap (λ n. join (join out (choice_form s d h)) (lowered_among p (inside (Switch s d) h) (breaks_of d h.construct) c n d)) (names_are q cs k d h a)
-    ∙ ap (λ z. join (join out (Then x (join z (one y)))) (lowered_among p (inside (Switch s d) h) (breaks_of d h.construct) c ns d)) (sym (tests_are k h.variable ns (label_of k d h) (λ e. refl) d))
+    ∙ ap (λ z. join (join out (Then x (join z (one y)))) (lowered_among p (inside (Switch s d) h) (breaks_of d h.construct) c ns d))
+    (sym (tests_are k h.variable ns (label_of k d h) (λ e. refl) d))
     ∙ regrouped out (tests_among constant k h.variable ns d) x y (lowered_among p (inside (Switch s d) h) (breaks_of d h.construct) c ns d)

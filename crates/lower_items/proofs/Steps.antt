@@ -21,7 +21,8 @@ use Rattle.lower_items.specs.Plans.{entered_at}
 use Rattle.lower_items.specs.Forms.{past_among, part_form}
 
 -- three equal numbers
-pub same_here : {k k' i i' v v' : ℕ} → k ≡ k' → i ≡ i' → v ≡ v' → (let a : Here = record { construct = k; case = i; variable = v } in a) ≡ record { construct = k'; case = i'; variable = v' }
+pub same_here : {k k' i i' v v' : ℕ} → k ≡ k' → i ≡ i' → v ≡ v' →
+    (let a : Here = record { construct = k; case = i; variable = v } in a) ≡ record { construct = k'; case = i'; variable = v' }
 same_here e f g = cc
 
 pub still : (h : Here) → (let a : Here = record { construct = h.construct + 0; case = h.case + 0; variable = h.variable + 0 } in a) ≡ h
@@ -59,7 +60,8 @@ place_step x xs h h' all q inv = ap (past (trees_of xs)) q ∙ sym (past_more (t
 pub place_end : (h all : Here) → past (trees_of []) h ≡ all → h ≡ all
 place_end h all inv = sym (still h) ∙ sym (ap (λ a. past a h) trees-none) ∙ inv
 
-pub walk_step : (p : Layout) (b c : Aim) (r : Arrivals) (x : Item) (xs : List Item) (h h' : Here) (out new all : Forest) → h' ≡ past_item (tree_at x) h → new ≡ join out (lowered_item p h b c r (tree_at x))
+pub walk_step : (p : Layout) (b c : Aim) (r : Arrivals) (x : Item) (xs : List Item) (h h' : Here) (out new all : Forest) →
+    h' ≡ past_item (tree_at x) h → new ≡ join out (lowered_item p h b c r (tree_at x))
     → join out (lowered p h b c r (trees_of (x ∷ xs))) ≡ all → join new (lowered p h' b c r (trees_of xs)) ≡ all
 walk_step p b c r x xs h h' out new all q n inv =
     let rest = trees_of xs in
@@ -73,13 +75,16 @@ walk_end p b c r h out all inv = sym (join-nil out) ∙ sym (ap (λ a. join out 
 
 -- ---- sections
 
-pub place_step_in : (x : Real.Section) (xs : List Real.Section) (h h' all : Here) → h' ≡ past (trees_of (list_of x)) h → past_among (sections_of (x ∷ xs)) h ≡ all → past_among (sections_of xs) h' ≡ all
-place_step_in x xs h h' all q inv = ap (past_among (sections_of xs)) q ∙ sym (past_section x (sections_of xs) h) ∙ sym (ap (λ d. past_among d h) (section-first x xs)) ∙ inv
+pub place_step_in : (x : Real.Section) (xs : List Real.Section) (h h' all : Here) → h' ≡ past (trees_of (list_of x)) h →
+    past_among (sections_of (x ∷ xs)) h ≡ all → past_among (sections_of xs) h' ≡ all
+place_step_in x xs h h' all q inv = ap (past_among (sections_of xs)) q ∙ sym (past_section x (sections_of xs) h) ∙
+    sym (ap (λ d. past_among d h) (section-first x xs)) ∙ inv
 
 pub place_end_in : (h all : Here) → past_among (sections_of []) h ≡ all → h ≡ all
 place_end_in h all inv = sym (still h) ∙ sym (ap (λ d. past_among d h) sections-none) ∙ inv
 
-pub parts_step : (p : Layout) (b c : Aim) (names : Names) (x : Real.Section) (xs : List Real.Section) (h h' : Here) (out new all : Forest) → h' ≡ past (trees_of (list_of x)) h → new ≡ join out (part_form p h b c names x)
+pub parts_step : (p : Layout) (b c : Aim) (names : Names) (x : Real.Section) (xs : List Real.Section) (h h' : Here) (out new all : Forest) →
+    h' ≡ past (trees_of (list_of x)) h → new ≡ join out (part_form p h b c names x)
     → join out (lowered_among p h b c names (sections_of (x ∷ xs))) ≡ all → join new (lowered_among p h' b c names (sections_of xs)) ≡ all
 parts_step p b c names x xs h h' out new all q n inv =
     let o = Real.out-Section x in
@@ -92,7 +97,8 @@ parts_step p b c names x xs h h' out new all q n inv =
     ∙ ap (λ g. join out (join m (join l (join e (lowered_among p g b c names rest))))) q
     ∙ sym (ap (λ d. join out (lowered_among p h b c names d)) (section-first x xs)) ∙ inv
 
-pub parts_end : (p : Layout) (b c : Aim) (names : Names) (h : Here) (out all : Forest) → join out (lowered_among p h b c names (sections_of [])) ≡ all → join out (mark_of b) ≡ all
+pub parts_end : (p : Layout) (b c : Aim) (names : Names) (h : Here) (out all : Forest) →
+    join out (lowered_among p h b c names (sections_of [])) ≡ all → join out (mark_of b) ≡ all
 parts_end p b c names h out all inv = sym (ap (λ d. join out (lowered_among p h b c names d)) sections-none) ∙ inv
 
 -- ---- an `if` that stays has nothing in it that is numbered

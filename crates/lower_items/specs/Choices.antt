@@ -39,4 +39,5 @@ otherwise_of d n = cond (has_default (switch_labels d)) (7 * n + 3) (7 * n + 1)
 abbrev pub choice_form : SelectorTree → Sections → Here → Forest
 choice_form s d h =
     let k = switch_kind s in
-    Then (Evaluate (assign_number k h.variable (selector_source s))) (join (number_tests k h.variable (label_of k d h) (numbers_of k d)) (one (Goto (otherwise_of d h.construct))))
+    Then (Evaluate (assign_number k h.variable (selector_source s)))
+    (join (number_tests k h.variable (label_of k d h) (numbers_of k d)) (one (Goto (otherwise_of d h.construct))))

@@ -14,7 +14,11 @@ use Rattle.lower_laws.specs.Lowered.{Layout, constructs_of, cases_of, variables_
 
 -- the numbers of what comes behind sections
 abbrev pub past_among : Sections → Here → Here
-past_among d h = record { construct = h.construct + total_in constructs_of d; case = h.case + total_in cases_of d; variable = h.variable + total_in variables_of d }
+past_among d h = record {
+  construct = h.construct + total_in constructs_of d;
+  case = h.case + total_in cases_of d;
+  variable = h.variable + total_in variables_of d;
+}
 
 -- behind the else-list of an `if` with these labels
 abbrev pub then_part : Labels → Forest → Forest

@@ -17,10 +17,13 @@ use Rattle.lower_laws.specs.Straight.{jump_if, if_items, while_items, do_items, 
 -- tasks that no value waits for; B is the flat list
 pub data Control (A B : Forest) (s : ℕ → ℕ) : List Task → List Task → Type 0 where
   ct_nil : Control A B s [] []
-  ct_item : {x : Tree} {ys : Forest} {k k' : List Task} → StraightItem A s x ys → ArePlaced B ys k' → Control A B s k k' → Control A B s (Runs x ∷ k) (items ys k')
-  ct_while : (t : ExpressionTree) (h b e : ℕ) {a a' : Forest} {k k' : List Task} → Straight A s (Some h) a a' → ArePlaced B (while_items (Source t) h b (s e) a') k' → Control A B s k k'
+  ct_item : {x : Tree} {ys : Forest} {k k' : List Task} → StraightItem A s x ys → ArePlaced B ys k' → Control A B s k k' →
+      Control A B s (Runs x ∷ k) (items ys k')
+  ct_while : (t : ExpressionTree) (h b e : ℕ) {a a' : Forest} {k k' : List Task} → Straight A s (Some h) a a' →
+      ArePlaced B (while_items (Source t) h b (s e) a') k' → Control A B s k k'
       → Control A B s (Runs (While (Source t) a) ∷ Runs (Mark e) ∷ k) (items (while_items (Source t) h b (s e) a') k')
-  ct_do : (t : ExpressionTree) (b : ℕ) {a a' : Forest} {k k' : List Task} → Straight A s None a a' → ArePlaced B (do_items (Source t) b a') k' → Control A B s k k'
+  ct_do : (t : ExpressionTree) (b : ℕ) {a a' : Forest} {k k' : List Task} → Straight A s None a a' → ArePlaced B (do_items (Source t) b a') k' →
+      Control A B s k k'
       → Control A B s (Loops (DoLoop a (Source t)) ∷ k) (Runs (jump_if (Source t) b) ∷ k')
   -- one of the two goes on alone
   ct_skip : (l : ℕ) {k k' : List Task} → Control A B s k k' → Control A B s k (Runs (Mark l) ∷ k')
@@ -33,8 +36,10 @@ pub data Control (A B : Forest) (s : ℕ → ℕ) : List Task → List Task → 
 pub data Tasks (A B : Forest) (s : ℕ → ℕ) : List Task → List Task → Type 0 where
   tk_control : {k k' : List Task} → Control A B s k k' → Tasks A B s k k'
   tk_works : (o : Op) {k k' : List Task} → Tasks A B s k k' → Tasks A B s (Works o ∷ k) (Works o ∷ k')
-  tk_if : {a b a' b' : Forest} {k k' : List Task} → Control A B s (items a k) (items a' k') → Control A B s (items b k) (items b' k') → Tasks A B s (Branches a b ∷ k) (Branches a' b' ∷ k')
-  tk_turns : (x : Loop) {a' b' : Forest} {k k' : List Task} → Control A B s (turn x k) (items a' k') → Control A B s k (items b' k') → Tasks A B s (Turns x ∷ k) (Branches a' b' ∷ k')
+  tk_if : {a b a' b' : Forest} {k k' : List Task} → Control A B s (items a k) (items a' k') → Control A B s (items b k) (items b' k') →
+      Tasks A B s (Branches a b ∷ k) (Branches a' b' ∷ k')
+  tk_turns : (x : Loop) {a' b' : Forest} {k k' : List Task} → Control A B s (turn x k) (items a' k') → Control A B s k (items b' k') →
+      Tasks A B s (Turns x ∷ k) (Branches a' b' ∷ k')
 
 module _ (A B : Forest) (s : ℕ → ℕ) where
   abbrev pub C : List Task → List Task → Type 0
@@ -97,7 +102,8 @@ module _ (A B : Forest) (s : ℕ → ℕ) where
       subst (λ z. C (Runs x ∷ items xs k) z) (sym (items_join ys xs' k')) (ct_item fi q.0 (list_goes fa q.1 h))
   list_goes {k = k} {k' = k'} (sl_while t h b e {a = a} {a' = a'} {xs = xs} {xs' = xs'} fa fs) al i =
       let q = placed_join B (while_items (Source t) h b (s e) a') xs' k' al in
-      subst (λ z. C (Runs (While (Source t) a) ∷ Runs (Mark e) ∷ items xs k) z) (sym (items_join (while_items (Source t) h b (s e) a') xs' k')) (ct_while t h b e fa q.0 (list_goes fs q.1 i))
+      subst (λ z. C (Runs (While (Source t) a) ∷ Runs (Mark e) ∷ items xs k) z) (sym (items_join (while_items (Source t) h b (s e) a') xs' k'))
+      (ct_while t h b e fa q.0 (list_goes fs q.1 i))
 
   -- ---- what stands behind the lists of items
 
@@ -105,7 +111,8 @@ module _ (A B : Forest) (s : ℕ → ℕ) where
   abbrev pub behind_while : ℕ → ℕ → List Task → List Task
   behind_while h e k = Runs (Goto h) ∷ Runs (Mark e) ∷ k
 
-  module _ (t : ExpressionTree) (h b e : ℕ) {a a' : Forest} {k k' : List Task} (fa : Straight A s (Some h) a a') (al : ArePlaced B (while_items (Source t) h b (s e) a') k') (i : C k k') where
+  module _ (t : ExpressionTree) (h b e : ℕ) {a a' : Forest} {k k' : List Task} (fa : Straight A s (Some h) a a')
+      (al : ArePlaced B (while_items (Source t) h b (s e) a') k') (i : C k k') where
     pub while_list : ArePlaced B a' (behind_while h (s e) k')
     while_list = (placed_join B a' (Then (Goto h) (one (Mark (s e)))) k' al.1.1.1.1).0
 
@@ -116,13 +123,16 @@ module _ (A B : Forest) (s : ℕ → ℕ) where
     while_end = ct_goto h refl while_again
 
     -- where the test holds, and where it does not
-    pub while_turns : C (items a (Loops (WhileLoop (Source t) a) ∷ Runs (Mark e) ∷ k)) (Runs (Goto b) ∷ items (Then (Goto (s e)) (Then (Mark b) (join a' (Then (Goto h) (one (Mark (s e))))))) k')
-    while_turns = ct_goto b al.1.1.1.0 (ct_skip b (subst (λ z. C (items a (Loops (WhileLoop (Source t) a) ∷ Runs (Mark e) ∷ k)) z) (sym (items_join a' (Then (Goto h) (one (Mark (s e)))) k')) (list_goes fa while_list while_end)))
+    pub while_turns : C (items a (Loops (WhileLoop (Source t) a) ∷ Runs (Mark e) ∷ k))
+        (Runs (Goto b) ∷ items (Then (Goto (s e)) (Then (Mark b) (join a' (Then (Goto h) (one (Mark (s e))))))) k')
+    while_turns = ct_goto b al.1.1.1.0 (ct_skip b (subst (λ z. C (items a (Loops (WhileLoop (Source t) a) ∷ Runs (Mark e) ∷ k)) z)
+        (sym (items_join a' (Then (Goto h) (one (Mark (s e)))) k')) (list_goes fa while_list while_end)))
 
     pub while_stops : C (Runs (Mark e) ∷ k) (items (Then (Goto (s e)) (Then (Mark b) (join a' (Then (Goto h) (one (Mark (s e))))))) k')
     while_stops = ct_goto (s e) (placed_join B a' (Then (Goto h) (one (Mark (s e)))) k' al.1.1.1.1).1.1.0 (ct_mark e (ct_skip (s e) i))
 
-  module _ (t : ExpressionTree) (b : ℕ) {a a' : Forest} {k k' : List Task} (fa : Straight A s None a a') (al : ArePlaced B (do_items (Source t) b a') k') (i : C k k') where
+  module _ (t : ExpressionTree) (b : ℕ) {a a' : Forest} {k k' : List Task} (fa : Straight A s None a a')
+      (al : ArePlaced B (do_items (Source t) b a') k') (i : C k k') where
     pub do_list : ArePlaced B a' (Runs (jump_if (Source t) b) ∷ k')
     do_list = (placed_join B a' (one (jump_if (Source t) b)) k' al.1).0
 
@@ -143,9 +153,11 @@ module _ (A B : Forest) (s : ℕ → ℕ) where
     ever_end = ct_goto h al.0 (ct_loops (Source (test_or_one None)) a (ct_item (StraightItem.st_ever h fa) al i))
 
     pub ever_starts : C (items a (Loops (WhileLoop (Source (test_or_one None)) a) ∷ k)) (items (join a' (one (Goto h))) k')
-    ever_starts = subst (λ z. C (items a (Loops (WhileLoop (Source (test_or_one None)) a) ∷ k)) z) (sym (items_join a' (one (Goto h)) k')) (list_goes fa ever_list ever_end)
+    ever_starts = subst (λ z. C (items a (Loops (WhileLoop (Source (test_or_one None)) a) ∷ k)) z) (sym (items_join a' (one (Goto h)) k'))
+        (list_goes fa ever_list ever_end)
 
-  module _ (t : ExpressionTree) (l e : ℕ) {a a' b b' : Forest} {k k' : List Task} (fa : Straight A s None a a') (fb : Straight A s None b b') (al : ArePlaced B (if_items (Source t) l e a' b') k') (i : C k k') where
+  module _ (t : ExpressionTree) (l e : ℕ) {a a' b b' : Forest} {k k' : List Task} (fa : Straight A s None a a') (fb : Straight A s None b b')
+      (al : ArePlaced B (if_items (Source t) l e a' b') k') (i : C k k') where
     abbrev then_items : Forest
     then_items = Then (Mark l) (join a' (one (Mark e)))
 

@@ -20,7 +20,8 @@ use Rattle.lower_laws.specs.Lowered.{Layout, past, past_item, inside, jump_of, l
 
 -- of a construct with this number
 abbrev pub five : ℕ → Layout → ℕ → ℕ
-five L q k = (one_if (eqb L (q.plan.break_label k)) + one_if (eqb L (q.plan.continue_label k)) + one_if (eqb L (q.plan.default_label k))) + (one_if (eqb L (q.head_label k)) + one_if (eqb L (q.list_label k)))
+five L q k = (one_if (eqb L (q.plan.break_label k)) + one_if (eqb L (q.plan.continue_label k)) + one_if (eqb L (q.plan.default_label k))) + (one_if
+    (eqb L (q.head_label k)) + one_if (eqb L (q.list_label k)))
 
 abbrev pub makes : ℕ → Layout → Tree → Here → ℕ
 makes L q (Switch s d) h = labelled L (names_of q.plan h (switch_kind s) d) (switch_labels d) + one_if (eqb L (q.plan.break_label h.construct))
@@ -32,7 +33,8 @@ with_third_places L u a c =
     let i = places_join L (mark_of c) (third_items u) in
     let j = third_places L u in omega (arith, h, i, j)
 
-while_places : (L : ℕ) (t : TestTree) (h b e : ℕ) (a : Forest) → places L (while_items t h b e a) ≡ one_if (eqb L h) + one_if (eqb L b) + one_if (eqb L e) + places L a
+while_places : (L : ℕ) (t : TestTree) (h b e : ℕ) (a : Forest) → places L (while_items t h b e a) ≡ one_if (eqb L h) + one_if (eqb L b) + one_if
+    (eqb L e) + places L a
 while_places L t h b e a = let i = places_join L a (Then (Goto h) (one (Mark e))) in omega (arith, i)
 
 module _ (L : ℕ) (q : Layout) where
@@ -44,7 +46,8 @@ module _ (L : ℕ) (q : Layout) where
       let i = places_join L b (Then (Goto e) (Then (Mark l) (join a (one (Mark e))))) in
       let j = places_join L a (one (Mark e)) in omega (arith, i, j)
 
-  do_places : (h : Here) (t : TestTree) (a x : Forest) → places L (lowered_do q h t a (break_aim q h x) (continue_aim q h x)) ≤ five L q h.construct + places L a
+  do_places : (h : Here) (t : TestTree) (a x : Forest) → places L (lowered_do q h t a (break_aim q h x) (continue_aim q h x)) ≤ five L q
+      h.construct + places L a
   do_places h t a x =
       let m = break_aim q h x in
       let n = continue_aim q h x in
@@ -54,7 +57,8 @@ module _ (L : ℕ) (q : Layout) where
       let o = aim_places L true (breaks x) (q.plan.break_label h.construct) in
       let r = aim_places L true (continues x) (q.plan.continue_label h.construct) in omega (arith, i, j, k, o, r)
 
-  for_places : (h : Here) (t u : Option ExpressionTree) (a x : Forest) → places L (lowered_for q h t u a (for_aim q h t x) (continue_aim q h x)) ≤ five L q h.construct + places L a
+  for_places : (h : Here) (t u : Option ExpressionTree) (a x : Forest) →
+      places L (lowered_for q h t u a (for_aim q h t x) (continue_aim q h x)) ≤ five L q h.construct + places L a
   for_places h (Some t) u a x =
       let n = continue_aim q h x in
       let i = while_places L (Source t) (q.head_label h.construct) (q.list_label h.construct) (q.plan.break_label h.construct) (with_third a n u) in
@@ -112,7 +116,8 @@ module _ (L : ℕ) (q : Layout) where
         let l = for_places h t u fa a in omega (arith, i, j, k, l)
     bounded_in (Block a) h b c r = let i = bounded a h b c r in omega (arith, i)
     bounded_in (Local x None) h b c r = omega arith
-    bounded_in (Local x (Some es)) h b c r = let i = assigned_places L (entry_or no_slot q.plan.slots x).kind x (entry_or no_slot q.plan.slots x).cells es in omega (arith, i)
+    bounded_in (Local x (Some es)) h b c r = let i = assigned_places L (entry_or no_slot q.plan.slots x).kind x
+        (entry_or no_slot q.plan.slots x).cells es in omega (arith, i)
     bounded_in Break h b c r = let i = exit_break L b in omega (arith, i)
     bounded_in Continue h b c r = let i = exit_continue L c in omega (arith, i)
     bounded_in (Goto l) h b c r = omega arith
@@ -134,7 +139,9 @@ module _ (L : ℕ) (q : Layout) where
     bounded_in (Land l) h b c r = omega arith
     bounded_in (Note bs) h b c r = omega arith
 
-    bounded_among : (d : Sections) (h : Here) (b c : Aim) (names : Names) → places L (lowered_among q h b c names d) ≤ places L (mark_of b) + (total_in (sourced L q.plan) d + gathered_among inside past (makes L q) h d) + labelled L names (switch_labels d)
+    bounded_among : (d : Sections) (h : Here) (b c : Aim) (names : Names) →
+        places L (lowered_among q h b c names d) ≤ places L (mark_of b) + (total_in (sourced L q.plan) d + gathered_among inside past (makes L q) h
+        d) + labelled L names (switch_labels d)
     bounded_among NoSection h b c names = omega arith
     bounded_among (Section cases default a ends d) h b c names =
         let fa = lowered q h b c (Arrives names) a in

@@ -17,7 +17,8 @@ mutual
   are_flat (sl_then {ys = ys} {xs' = xs'} fi fa) = flat_join ys xs' (item_flat fi) (are_flat fa)
   are_flat (sl_declares x fa) = (tt, are_flat fa)
   are_flat {s = s} (sl_while t h b e {a' = a'} {xs' = xs'} fa fs) =
-      flat_join (while_items (Source t) h b (s e) a') xs' (tt, (tt, (tt, (tt, flat_join a' (Then (Goto h) (one (Mark (s e)))) (are_flat fa) (tt, (tt, tt)))))) (are_flat fs)
+      flat_join (while_items (Source t) h b (s e) a') xs'
+      (tt, (tt, (tt, (tt, flat_join a' (Then (Goto h) (one (Mark (s e)))) (are_flat fa) (tt, (tt, tt)))))) (are_flat fs)
 
   item_flat : {A : Forest} {s : ℕ → ℕ} {x : Tree} {ys : Forest} → StraightItem A s x ys → AreFlat ys
   item_flat (st_evaluate e) = (tt, tt)
@@ -26,6 +27,10 @@ mutual
   item_flat (st_goto l n) = (tt, tt)
   item_flat (st_mark l) = (tt, tt)
   item_flat (st_jump_if t l n) = (tt, tt)
-  item_flat (st_if t l e {a' = a'} {b' = b'} fa fb) = (tt, flat_join b' (Then (Goto e) (Then (Mark l) (join a' (one (Mark e))))) (are_flat fb) (tt, (tt, flat_join a' (one (Mark e)) (are_flat fa) (tt, tt))))
+  item_flat (st_if t l e {a' = a'} {b' = b'} fa fb) = (
+    tt,
+    flat_join b' (Then (Goto e) (Then (Mark l) (join a' (one (Mark e))))) (are_flat fb)
+        (tt, (tt, flat_join a' (one (Mark e)) (are_flat fa) (tt, tt))),
+  )
   item_flat (st_do t b {a' = a'} fa) = (tt, flat_join a' (one (jump_if (Source t) b)) (are_flat fa) (tt, tt))
   item_flat (st_ever h {a' = a'} fa) = (tt, flat_join a' (one (Goto h)) (are_flat fa) (tt, tt))

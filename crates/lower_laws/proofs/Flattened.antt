@@ -104,9 +104,11 @@ module _ (A : Forest) (ls : List ℕ) where
   joined : {o : Option ℕ} {xs xs' ys ys' : Forest} → S None xs xs' → S o ys ys' → S o (join xs ys) (join xs' ys')
   joined sl_nil g = g
   joined (sl_declares x f) g = sl_declares x (joined f g)
-  joined {o = o} {ys = ys} {ys' = ys'} (sl_then {x = x} {ys = zs} {xs = xs} {xs' = xs'} fi f) g = subst (λ z. S o (Then x (join xs ys)) z) (sym (join_more zs xs' ys')) (sl_then fi (joined f g))
+  joined {o = o} {ys = ys} {ys' = ys'} (sl_then {x = x} {ys = zs} {xs = xs} {xs' = xs'} fi f) g =
+      subst (λ z. S o (Then x (join xs ys)) z) (sym (join_more zs xs' ys')) (sl_then fi (joined f g))
   joined {o = o} {ys = ys} {ys' = ys'} (sl_while t h b e {a = a} {a' = a'} {xs = xs} {xs' = xs'} fa f) g =
-      subst (λ z. S o (Then (While (Source t) a) (Then (Mark e) (join xs ys))) z) (sym (join_more (while_items (Source t) h b (s e) a') xs' ys')) (sl_while t h b e fa (joined f g))
+      subst (λ z. S o (Then (While (Source t) a) (Then (Mark e) (join xs ys))) z) (sym (join_more (while_items (Source t) h b (s e) a') xs' ys'))
+      (sl_while t h b e fa (joined f g))
 
   any_end : {o : Option ℕ} {xs xs' : Forest} → S None xs xs' → S o xs xs'
   any_end {o = o} {xs = xs} {xs' = xs'} f = subst (λ z. S o z xs') (join_nil xs) (subst (λ z. S o (join xs Nil) z) (join_nil xs') (joined f sl_nil))
@@ -138,12 +140,15 @@ module _ (A : Forest) (ls : List ℕ) where
   -- ---- tests and labels of a switch
 
   module _ (number : IntKind → ℤ → ExpressionTree) (k : IntKind) (v : ℕ) (m n : Names) (re : Renamed m n) where
-    jump_for : (e : ExpressionTree) (o : Option ℤ) → Stand (option_map_or (λ z. one (If (Source (is_number k v (number k z))) (one (Goto (m (Some e)))) Nil)) o Nil)
-        → S None (option_map_or (λ z. one (If (Source (is_number k v (number k z))) (one (Goto (m (Some e)))) Nil)) o Nil) (option_map_or (λ z. one (If (Source (is_number k v (number k z))) (one (Goto (n (Some e)))) Nil)) o Nil)
+    jump_for : (e : ExpressionTree) (o : Option ℤ) → Stand
+        (option_map_or (λ z. one (If (Source (is_number k v (number k z))) (one (Goto (m (Some e)))) Nil)) o Nil)
+        → S None (option_map_or (λ z. one (If (Source (is_number k v (number k z))) (one (Goto (m (Some e)))) Nil)) o Nil)
+        (option_map_or (λ z. one (If (Source (is_number k v (number k z))) (one (Goto (n (Some e)))) Nil)) o Nil)
     jump_for e None h = sl_nil
     jump_for e (Some z) h =
         let t = is_number k v (number k z) in
-        subst (λ y. S None (one (jump_if (Source t) (m (Some e)))) (one (jump_if (Source t) y))) (sym (re (Some e))) (unit (st_jump_if t (m (Some e)) (h (m (Some e)) (inl (inl (inl refl))))))
+        subst (λ y. S None (one (jump_if (Source t) (m (Some e)))) (one (jump_if (Source t) y))) (sym (re (Some e)))
+        (unit (st_jump_if t (m (Some e)) (h (m (Some e)) (inl (inl (inl refl))))))
 
     tests_case : (e : ExpressionTree) → Stand (test_for number k v m e) → S None (test_for number k v m e) (test_for number k v n e)
     tests_case e h = jump_for e (case_number k e) h
@@ -160,7 +165,8 @@ module _ (A : Forest) (ls : List ℕ) where
           let y = tests_in number k v m x in let z = tests number k v m a in joined (tested_in x (stand_left y z h)) (tested a (stand_right y z h))
 
       tested_in : (x : Tree) → Stand (tests_in number k v m x) → S None (tests_in number k v m x) (tests_in number k v n x)
-      tested_in (If t a b) h = let y = tests number k v m a in let z = tests number k v m b in joined (tested a (stand_left y z h)) (tested b (stand_right y z h))
+      tested_in (If t a b) h = let y = tests number k v m a in let z = tests number k v m b in
+          joined (tested a (stand_left y z h)) (tested b (stand_right y z h))
       tested_in (While t a) h = tested a h
       tested_in (Do a t) h = tested a h
       tested_in (For f t u a) h = tested a h
@@ -173,7 +179,8 @@ module _ (A : Forest) (ls : List ℕ) where
     tested_among NoSection h = sl_nil
     tested_among (Section cases default a ends d) h =
         let x = tests_for number k v m cases in let y = tests number k v m a in let z = tests_among number k v m d in
-        joined (tests_cases cases (stand_left x (join y z) h)) (joined (tested a (stand_left y z (stand_right x (join y z) h))) (tested_among d (stand_right y z (stand_right x (join y z) h))))
+        joined (tests_cases cases (stand_left x (join y z) h))
+        (joined (tested a (stand_left y z (stand_right x (join y z) h))) (tested_among d (stand_right y z (stand_right x (join y z) h))))
 
   arrived : (m n : Names) → Renamed m n → (e : Option ExpressionTree) → S None (one (Mark (m e))) (one (Mark (n e)))
   arrived m n re e = subst (λ z. S None (one (Mark (m e))) (one (Mark z))) (sym (re e)) (unit (st_mark (m e)))
@@ -237,36 +244,49 @@ module _ (A : Forest) (ls : List ℕ) where
     arrival_item e sa_none i = false_true i
     arrival_item e (sa_some {m = m} {n = n} re) i = arrived m n re e
 
-    if_item : (h : Here) (t : ExpressionTree) (o : Option ℕ) {x x' y y' : Forest} → Stand (one (opened_if p (Source t) o x y)) → (Stand x → S None x x') → (Stand y → S None y y') → S None (one (opened_if p (Source t) o x y)) (lowered_if q h (Source t) o x' y')
+    if_item : (h : Here) (t : ExpressionTree) (o : Option ℕ) {x x' y y' : Forest} → Stand (one (opened_if p (Source t) o x y)) →
+        (Stand x → S None x x') → (Stand y → S None y y') → S None (one (opened_if p (Source t) o x y)) (lowered_if q h (Source t) o x' y')
     if_item h t (Some l) n f g = unit (st_jump_if t (p.plan.source l) (n (p.plan.source l) (inl (inl (inl refl)))))
-    if_item h t None n f g = unit (st_if t (q.list_label h.construct) (q.plan.break_label h.construct) (f (λ l m. n l (inl (inl m)))) (g (λ l m. n l (inl (inr m)))))
+    if_item h t None n f g = unit (st_if t (q.list_label h.construct) (q.plan.break_label h.construct) (f (λ l m. n l (inl (inl m))))
+        (g (λ l m. n l (inl (inr m)))))
 
-    while_item : (h : Here) (t : ExpressionTree) {a a' : Forest} → S None a a' → S None (opened_while p h (Source t) a) (while_items (Source t) (q.head_label h.construct) (q.list_label h.construct) (q.plan.break_label h.construct) a')
+    while_item : (h : Here) (t : ExpressionTree) {a a' : Forest} → S None a a' →
+        S None (opened_while p h (Source t) a) (while_items (Source t) (q.head_label h.construct) (q.list_label h.construct)
+        (q.plan.break_label h.construct) a')
     while_item h t {a = a} {a' = a'} f =
-        subst (λ z. S None (opened_while p h (Source t) a) z) (join_nil (while_items (Source t) (q.head_label h.construct) (q.list_label h.construct) (q.plan.break_label h.construct) a'))
+        subst (λ z. S None (opened_while p h (Source t) a) z)
+        (join_nil (while_items (Source t) (q.head_label h.construct) (q.list_label h.construct) (q.plan.break_label h.construct) a'))
         (sl_while t (q.head_label h.construct) (q.list_label h.construct) (p.plan.break_label h.construct)
-        (subst (λ z. S (Some (q.head_label h.construct)) (join a (one (Mark (p.head_label h.construct)))) z) (join_nil a') (joined f (sl_end (p.head_label h.construct)))) sl_nil)
+        (subst (λ z. S (Some (q.head_label h.construct)) (join a (one (Mark (p.head_label h.construct)))) z) (join_nil a')
+        (joined f (sl_end (p.head_label h.construct)))) sl_nil)
 
-    do_item : (h : Here) (t : ExpressionTree) (b c : Aim) {a a' : Forest} → S None a a' → S None (opened_do (Source t) a b c) (lowered_do q h (Source t) a' (to b) (to c))
+    do_item : (h : Here) (t : ExpressionTree) (b c : Aim) {a a' : Forest} → S None a a' →
+        S None (opened_do (Source t) a b c) (lowered_do q h (Source t) a' (to b) (to c))
     do_item h t b c f = sl_then (st_do t (q.list_label h.construct) (joined f (marked c))) (marked b)
 
-    for_item : (h : Here) (t u : Option ExpressionTree) (c : Aim) (y : Forest) {a a' : Forest} → S None a a' → S None (opened_for t u a (for_aim p h t y) c) (lowered_for q h t u a' (to (for_aim p h t y)) (to c))
+    for_item : (h : Here) (t u : Option ExpressionTree) (c : Aim) (y : Forest) {a a' : Forest} → S None a a' →
+        S None (opened_for t u a (for_aim p h t y) c) (lowered_for q h t u a' (to (for_aim p h t y)) (to c))
     for_item h None u c y f = sl_then (st_ever (q.head_label h.construct) (with_thirds u c f)) (marked (for_aim p h None y))
     for_item h (Some t) u c y {a = a} {a' = a'} f =
-        subst (λ z. S None (opened_for (Some t) u a (for_aim p h (Some t) y) c) z) (join_nil (while_items (Source t) (q.head_label h.construct) (q.list_label h.construct) (q.plan.break_label h.construct) (with_third a' (to c) u)))
+        subst (λ z. S None (opened_for (Some t) u a (for_aim p h (Some t) y) c) z)
+        (join_nil (while_items (Source t) (q.head_label h.construct) (q.list_label h.construct) (q.plan.break_label h.construct) (with_third a' (to c) u)))
         (sl_while t (q.head_label h.construct) (q.list_label h.construct) (p.plan.break_label h.construct) (any_end (with_thirds u c f)) sl_nil)
 
     mutual
-      pub flattened : (xs : Forest) (h : Here) (b c b' c' : Aim) (r r' : Arrivals) → to b ≡ b' → to c ≡ c' → SameArrivals r r' → Everywhere Fine xs → Allowed r (arrivals xs) → Bound b (breaks xs) → Bound c (continues xs) → Stand (opened p h b c r xs)
+      pub flattened : (xs : Forest) (h : Here) (b c b' c' : Aim) (r r' : Arrivals) → to b ≡ b' → to c ≡ c' → SameArrivals r r' → Everywhere Fine xs →
+          Allowed r (arrivals xs) → Bound b (breaks xs) → Bound c (continues xs) → Stand (opened p h b c r xs)
           → S None (opened p h b c r xs) (lowered q h b' c' r' xs)
       flattened Nil h b c b' c' r r' eb ec er i a kb kc n = sl_nil
       flattened (Then x xs) h b c b' c' r r' eb ec er i a kb kc n =
           let y = opened_item p h b c r x in
           let z = opened p (past_item x h) b c r xs in
-          joined (flattened_item x h b c b' c' r r' eb ec er i.0 (allowed_left r (arrivals_in x) (arrivals xs) a) (bound_left b (breaks_of x) (breaks xs) kb) (bound_left c (continues_of x) (continues xs) kc) (stand_left y z n))
-          (flattened xs (past_item x h) b c b' c' r r' eb ec er i.1 (allowed_right r (arrivals_in x) (arrivals xs) a) (bound_right b (breaks_of x) (breaks xs) kb) (bound_right c (continues_of x) (continues xs) kc) (stand_right y z n))
+          joined (flattened_item x h b c b' c' r r' eb ec er i.0 (allowed_left r (arrivals_in x) (arrivals xs) a)
+          (bound_left b (breaks_of x) (breaks xs) kb) (bound_left c (continues_of x) (continues xs) kc) (stand_left y z n))
+          (flattened xs (past_item x h) b c b' c' r r' eb ec er i.1 (allowed_right r (arrivals_in x) (arrivals xs) a)
+          (bound_right b (breaks_of x) (breaks xs) kb) (bound_right c (continues_of x) (continues xs) kc) (stand_right y z n))
 
-      flattened_item : (x : Tree) (h : Here) (b c b' c' : Aim) (r r' : Arrivals) → to b ≡ b' → to c ≡ c' → SameArrivals r r' → EverywhereOf Fine x → Allowed r (arrivals_in x) → Bound b (breaks_of x) → Bound c (continues_of x) → Stand (opened_item p h b c r x)
+      flattened_item : (x : Tree) (h : Here) (b c b' c' : Aim) (r r' : Arrivals) → to b ≡ b' → to c ≡ c' → SameArrivals r r' → EverywhereOf Fine x →
+          Allowed r (arrivals_in x) → Bound b (breaks_of x) → Bound c (continues_of x) → Stand (opened_item p h b c r x)
           → S None (opened_item p h b c r x) (lowered_item q h b' c' r' x)
       flattened_item (Evaluate e) h b c b' c' r r' eb ec er i a kb kc n = unit (st_evaluate e)
       flattened_item (Return e) h b c b' c' r r' eb ec er i a kb kc n = unit (st_return e)
@@ -274,8 +294,10 @@ module _ (A : Forest) (ls : List ℕ) where
       flattened_item (If (Source t) x y) h b c b' c' r r' eb ec er i a kb kc n =
           let h' = inside (If (Source t) x y) h in
           if_item h t (jump_of p.plan.live x y) n
-          (λ m. flattened x h' b c b' c' r r' eb ec er i.1 (allowed_left r (arrivals x) (arrivals y) a) (bound_left b (breaks x) (breaks y) kb) (bound_left c (continues x) (continues y) kc) m)
-          (λ m. flattened y (past x h') b c b' c' r r' eb ec er i.2 (allowed_right r (arrivals x) (arrivals y) a) (bound_right b (breaks x) (breaks y) kb) (bound_right c (continues x) (continues y) kc) m)
+          (λ m. flattened x h' b c b' c' r r' eb ec er i.1 (allowed_left r (arrivals x) (arrivals y) a) (bound_left b (breaks x) (breaks y) kb)
+          (bound_left c (continues x) (continues y) kc) m)
+          (λ m. flattened y (past x h') b c b' c' r r' eb ec er i.2 (allowed_right r (arrivals x) (arrivals y) a)
+          (bound_right b (breaks x) (breaks y) kb) (bound_right c (continues x) (continues y) kc) m)
       flattened_item (If (On l) x y) h b c b' c' r r' eb ec er i a kb kc n = absurd i.0
       flattened_item (If (Off l) x y) h b c b' c' r r' eb ec er i a kb kc n = absurd i.0
       flattened_item (If (AndOff l t) x y) h b c b' c' r r' eb ec er i a kb kc n = absurd i.0
@@ -284,7 +306,8 @@ module _ (A : Forest) (ls : List ℕ) where
           let h' = inside (While (Source t) x) h in
           let e = p.plan.break_label h.construct in
           let g = p.head_label h.construct in
-          while_item h t (flattened x h' (Becomes e) (Becomes g) (Becomes (s e)) (Becomes (s g)) r r' refl refl er i.1 a tt tt (λ l m. n l (inl (naming_left l (opened p h' (Becomes e) (Becomes g) r x) (one (Mark g)) m))))
+          while_item h t (flattened x h' (Becomes e) (Becomes g) (Becomes (s e)) (Becomes (s g)) r r' refl refl er i.1 a tt tt
+          (λ l m. n l (inl (naming_left l (opened p h' (Becomes e) (Becomes g) r x) (one (Mark g)) m))))
       flattened_item (While (On l) x) h b c b' c' r r' eb ec er i a kb kc n = absurd i.0
       flattened_item (While (Off l) x) h b c b' c' r r' eb ec er i a kb kc n = absurd i.0
       flattened_item (While (AndOff l t) x) h b c b' c' r r' eb ec er i a kb kc n = absurd i.0
@@ -295,10 +318,13 @@ module _ (A : Forest) (ls : List ℕ) where
           let c1 = continue_aim p h x in
           let e1 = aim_to (breaks x) (p.plan.break_label h.construct) in
           let e2 = aim_to (continues x) (p.plan.continue_label h.construct) in
-          subst (λ z. S None (opened_do (Source t) (opened p h' b1 c1 r x) b1 c1) (lowered_do q h (Source t) (lowered q h' (break_aim q h x) (continue_aim q h x) r' x) z (continue_aim q h x))) e1
-          (subst (λ z. S None (opened_do (Source t) (opened p h' b1 c1 r x) b1 c1) (lowered_do q h (Source t) (lowered q h' (break_aim q h x) (continue_aim q h x) r' x) (to b1) z)) e2
+          subst (λ z. S None (opened_do (Source t) (opened p h' b1 c1 r x) b1 c1)
+          (lowered_do q h (Source t) (lowered q h' (break_aim q h x) (continue_aim q h x) r' x) z (continue_aim q h x))) e1
+          (subst (λ z. S None (opened_do (Source t) (opened p h' b1 c1 r x) b1 c1)
+          (lowered_do q h (Source t) (lowered q h' (break_aim q h x) (continue_aim q h x) r' x) (to b1) z)) e2
           (do_item h t b1 c1
-          (flattened x h' b1 c1 (break_aim q h x) (continue_aim q h x) r r' e1 e2 er i.1 a (bound_aim (breaks x) (p.plan.break_label h.construct)) (bound_aim (continues x) (p.plan.continue_label h.construct))
+          (flattened x h' b1 c1 (break_aim q h x) (continue_aim q h x) r r' e1 e2 er i.1 a (bound_aim (breaks x) (p.plan.break_label h.construct))
+          (bound_aim (continues x) (p.plan.continue_label h.construct))
           (λ l m. n l (inl (naming_left l (opened p h' b1 c1 r x) (mark_of c1) m))))))
       flattened_item (Do x (On l)) h b c b' c' r r' eb ec er i a kb kc n = absurd i.0
       flattened_item (Do x (Off l)) h b c b' c' r r' eb ec er i a kb kc n = absurd i.0
@@ -313,14 +339,18 @@ module _ (A : Forest) (ls : List ℕ) where
           let first = opened p h' b c NoArrival f in
           let list = opened p (past f h') b1 c1 r x in
           joined (flattened f h' b c b' c' NoArrival NoArrival eb ec sa_none i.1 i.0.2 kb kc (stand_left first (opened_for t u list b1 c1) n))
-          (subst (λ z. S None (opened_for t u list b1 c1) (lowered_for q h t u (lowered q (past f h') (for_aim q h t x) (continue_aim q h x) r' x) z (continue_aim q h x))) e1
-          (subst (λ z. S None (opened_for t u list b1 c1) (lowered_for q h t u (lowered q (past f h') (for_aim q h t x) (continue_aim q h x) r' x) (to b1) z)) e2
+          (subst (λ z. S None (opened_for t u list b1 c1) (lowered_for q h t u (lowered q (past f h') (for_aim q h t x) (continue_aim q h x) r' x) z
+          (continue_aim q h x))) e1
+          (subst (λ z. S None (opened_for t u list b1 c1) (lowered_for q h t u (lowered q (past f h') (for_aim q h t x) (continue_aim q h x) r' x)
+          (to b1) z)) e2
           (for_item h t u c1 x
-          (flattened x (past f h') b1 c1 (for_aim q h t x) (continue_aim q h x) r r' e1 e2 er i.2 a (bound_for h t x) (bound_aim (continues x) (p.plan.continue_label h.construct))
+          (flattened x (past f h') b1 c1 (for_aim q h t x) (continue_aim q h x) r r' e1 e2 er i.2 a (bound_for h t x)
+          (bound_aim (continues x) (p.plan.continue_label h.construct))
           (λ l m. stand_right first (opened_for t u list b1 c1) n l (inl (naming_left l list (join (mark_of c1) (third_items u)) m)))))))
       flattened_item (Block x) h b c b' c' r r' eb ec er i a kb kc n = flattened x h b c b' c' r r' eb ec er i.1 a kb kc n
       flattened_item (Local x None) h b c b' c' r r' eb ec er i a kb kc n = sl_nil
-      flattened_item (Local x (Some es)) h b c b' c' r r' eb ec er i a kb kc n = assigns (entry_or no_slot p.plan.slots x).kind x (entry_or no_slot p.plan.slots x).cells es
+      flattened_item (Local x (Some es)) h b c b' c' r r' eb ec er i a kb kc n =
+          assigns (entry_or no_slot p.plan.slots x).kind x (entry_or no_slot p.plan.slots x).cells es
       flattened_item Break h b c b' c' r r' eb ec er i a kb kc n = subst (λ z. S None (exit b Break) (exit z Break)) eb (exited b Break kb n)
       flattened_item Continue h b c b' c' r r' eb ec er i a kb kc n = subst (λ z. S None (exit c Continue) (exit z Continue)) ec (exited c Continue kc n)
       flattened_item (Goto l) h b c b' c' r r' eb ec er i a kb kc n = unit (st_goto (p.plan.source l) (n (p.plan.source l) (inl refl)))
@@ -342,12 +372,14 @@ module _ (A : Forest) (ls : List ℕ) where
           let rest : Stand (Then (Goto o) ys) = λ l z. n l (inr (naming_right l ts (Then (Goto o) ys) z)) in
           sl_then (st_evaluate _)
           (joined (tested_among p.plan.number k h.variable m m' (renamed h k d) d (λ l z. n l (inr (naming_left l ts (Then (Goto o) ys) z))))
-          (subst (λ z. S None (Then (Goto o) ys) (Then (Goto z) ys')) (either (has_default (switch_labels d)) (p.plan.default_label h.construct) (p.plan.break_label h.construct))
+          (subst (λ z. S None (Then (Goto o) ys) (Then (Goto z) ys'))
+          (either (has_default (switch_labels d)) (p.plan.default_label h.construct) (p.plan.break_label h.construct))
           (sl_then (st_goto o (rest o (inl refl)))
           (flattened_among d h' b1 c (scatter_aim q.plan h d) c' m m' (scatter_to (leaves d) (p.plan.break_label h.construct)) ec (renamed h k d) i.1
           (bound_scatter (not (has_default (switch_labels d))) (ends_some d) (breaks_in d) (p.plan.break_label h.construct)) kc (λ l z. rest l (inr z))))))
 
-      flattened_among : (d : Sections) (h : Here) (b c b' c' : Aim) (m m' : Names) → to b ≡ b' → to c ≡ c' → Renamed m m' → EverywhereIn Fine d → Bound b (breaks_in d) → Bound c (continues_in d) → Stand (opened_among p h b c m d)
+      flattened_among : (d : Sections) (h : Here) (b c b' c' : Aim) (m m' : Names) → to b ≡ b' → to c ≡ c' → Renamed m m' → EverywhereIn Fine d →
+          Bound b (breaks_in d) → Bound c (continues_in d) → Stand (opened_among p h b c m d)
           → S None (opened_among p h b c m d) (lowered_among q h b' c' m' d)
       flattened_among NoSection h b c b' c' m m' eb ec re i kb kc n = subst (λ z. S None (mark_of b) (mark_of z)) eb (marked b)
       flattened_among (Section cases default x ends d) h b c b' c' m m' eb ec re i kb kc n =
@@ -358,6 +390,8 @@ module _ (A : Forest) (ls : List ℕ) where
           let n1 = stand_right cs (join xs (join es ds)) n in
           let n2 = stand_right xs (join es ds) n1 in
           joined (cases_marked m m' re cases default)
-          (joined (flattened x h b c b' c' (Arrives m) (Arrives m') eb ec (sa_some re) i.0 tt (bound_left b (breaks x) (breaks_in d) kb) (bound_left c (continues x) (continues_in d) kc) (stand_left xs (join es ds) n1))
+          (joined (flattened x h b c b' c' (Arrives m) (Arrives m') eb ec (sa_some re) i.0 tt (bound_left b (breaks x) (breaks_in d) kb)
+          (bound_left c (continues x) (continues_in d) kc) (stand_left xs (join es ds) n1))
           (joined (subst (λ z. S None es (end_goto ends z)) eb (ended ends b (stand_left es ds n2)))
-          (flattened_among d (past x h) b c b' c' m m' eb ec re i.1 (bound_right b (breaks x) (breaks_in d) kb) (bound_right c (continues x) (continues_in d) kc) (stand_right es ds n2))))
+          (flattened_among d (past x h) b c b' c' m m' eb ec re i.1 (bound_right b (breaks x) (breaks_in d) kb)
+          (bound_right c (continues x) (continues_in d) kc) (stand_right es ds n2))))

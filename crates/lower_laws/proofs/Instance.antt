@@ -34,7 +34,14 @@ abbrev layout : Layout
 layout = placed (marks (lowered (coded constant slots body) here Stays Stays NoArrival body)) (coded constant slots body)
 
 abbrev setting : Setting
-setting = record { labels = λ l. cond (layout.plan.live l) (Some (layout.plan.source l)) None; params = 0; old = slots; new = slots; number = constant; numbers = spelled_numbers }
+setting = record {
+  labels = λ l. cond (layout.plan.live l) (Some (layout.plan.source l)) None;
+  params = 0;
+  old = slots;
+  new = slots;
+  number = constant;
+  numbers = spelled_numbers;
+}
 
 abbrev before : FunctionTree
 before = record { result = Some Int; params = 0; slots = slots; body = Some body }

@@ -21,7 +21,8 @@ globals_hold m [] = tt
 globals_hold m (T.Global g ∷ ts) = either_holds (bytes_eq g.slot.name m) (initial_variable g) (global_named m ts) tt (globals_hold m ts)
 globals_hold m (_ ∷ ts) = globals_hold m ts
 
-module _ (R : FunctionTree → FunctionTree → Type 0) (defined : (f h : FunctionTree) → R f h → IsSome f.body) (new_defined : (f h : FunctionTree) → R f h → IsSome h.body) where
+module _ (R : FunctionTree → FunctionTree → Type 0) (defined : (f h : FunctionTree) → R f h → IsSome f.body)
+    (new_defined : (f h : FunctionTree) → R f h → IsSome h.body) where
   data Found : Option FunctionTree → Option FunctionTree → Type 0 where
     fd_none : Found None None
     fd_some : {f h : FunctionTree} → Rewritten R f h → Found (Some f) (Some h)
@@ -43,11 +44,13 @@ module _ (R : FunctionTree → FunctionTree → Type 0) (defined : (f h : Functi
   abbrev Alike : (Function → Bool) → Type 0
   Alike test = (f h : Function) → R (function_tree f) (function_tree h) → test f ≡ test h
 
-  same_top : (test : Function → Bool) (m : List ℕ) (t : Top) (ts us : List Top) → Found (function_in test m ts) (function_in test m us) → Found (function_in test m (t ∷ ts)) (function_in test m (t ∷ us))
+  same_top : (test : Function → Bool) (m : List ℕ) (t : Top) (ts us : List Top) → Found (function_in test m ts) (function_in test m us) →
+      Found (function_in test m (t ∷ ts)) (function_in test m (t ∷ us))
   same_top test m (T.Function f) ts us h = found_if (bytes_eq f.name m && test f) (found_refl (Some (function_tree f))) h
   same_top test m _ ts us h = h
 
-  found_kept : (test : Function → Bool) → Alike test → (m : List ℕ) {ts us : List Top} → RewrittenTops R ts us → Found (function_in test m ts) (function_in test m us)
+  found_kept : (test : Function → Bool) → Alike test → (m : List ℕ) {ts us : List Top} → RewrittenTops R ts us →
+      Found (function_in test m ts) (function_in test m us)
   found_kept test same m rs_none = fd_none
   found_kept test same m (rs_more {t = t} {ts = ts} {us = us} (rt_same e) h) =
       subst (λ u. Found (function_in test m (t ∷ ts)) (function_in test m (u ∷ us))) e (same_top test m t ts us (found_kept test same m h))
@@ -61,7 +64,8 @@ module _ (R : FunctionTree → FunctionTree → Type 0) (defined : (f h : Functi
   mapped_body (Some xs) h = refl
 
   with_body : Alike (λ f. is_some f.body)
-  with_body f h l = mapped_body f.body (defined (function_tree f) (function_tree h) l) ∙ sym (mapped_body h.body (new_defined (function_tree f) (function_tree h) l))
+  with_body f h l = mapped_body f.body (defined (function_tree f) (function_tree h) l) ∙
+      sym (mapped_body h.body (new_defined (function_tree f) (function_tree h) l))
 
   function_kept : (m : List ℕ) {ts us : List Top} → RewrittenTops R ts us → Rewritten R (function_named m ts) (function_named m us)
   function_kept m h = first_kept (found_kept (λ f. is_some f.body) with_body m h) (found_kept (λ f. true) (λ f g l. refl) m h)

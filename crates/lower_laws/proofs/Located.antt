@@ -20,10 +20,12 @@ module _ (A B : Forest) (s : ℕ → ℕ) (l : ℕ) where
   AtEnd (Some h) k = Control A B s k (find h B)
 
   here : (m : ℕ) {k k' : List Task} → l ≡ m → find m A ≡ k → find (s m) B ≡ k' → Control A B s k k' → There
-  here m {k = k} e a b h = subst (λ z. Control A B s (find z A) (find (s z) B)) (sym e) (subst (λ z. Control A B s z (find (s m) B)) (sym a) (subst (λ z. Control A B s k z) (sym b) h))
+  here m {k = k} e a b h = subst (λ z. Control A B s (find z A) (find (s z) B)) (sym e)
+      (subst (λ z. Control A B s z (find (s m) B)) (sym a) (subst (λ z. Control A B s k z) (sym b) h))
 
   mutual
-    locate : {o : Option ℕ} {xs xs' : Forest} {k k' : List Task} → Straight A s o xs xs' → ArePlaced A xs k → ArePlaced B xs' k' → Control A B s k k' → AtEnd o k → Has l xs → There
+    locate : {o : Option ℕ} {xs xs' : Forest} {k k' : List Task} → Straight A s o xs xs' → ArePlaced A xs k → ArePlaced B xs' k' →
+        Control A B s k k' → AtEnd o k → Has l xs → There
     locate sl_nil al bl h i p = absurd p
     locate (sl_end m) al bl h i (inl p) = here m p al.0 refl (ct_mark m i)
     locate (sl_end m) al bl h i (inr p) = absurd p
@@ -40,12 +42,14 @@ module _ (A B : Forest) (s : ℕ → ℕ) (l : ℕ) where
         locate fa al.0 (while_list A B s t m b e fa q.0 r) (while_end A B s t m b e fa q.0 r) (while_again A B s t m b e fa q.0 r) p
     locate {k' = k'} (sl_while t m b e {a' = a'} {xs' = xs'} fa fs) al bl h i (inr (inl p)) =
         let q = placed_join B (while_items (Source t) m b (s e) a') xs' k' bl in
-        here e p al.1.0 (placed_join B a' (Then (Goto m) (one (Mark (s e)))) (items xs' k') q.0.1.1.1.1).1.1.0 (ct_item (st_mark e) ((placed_join B a' (Then (Goto m) (one (Mark (s e)))) (items xs' k') q.0.1.1.1.1).1.1.0, tt) (list_goes A B s fs q.1 h))
+        here e p al.1.0 (placed_join B a' (Then (Goto m) (one (Mark (s e)))) (items xs' k') q.0.1.1.1.1).1.1.0
+        (ct_item (st_mark e) ((placed_join B a' (Then (Goto m) (one (Mark (s e)))) (items xs' k') q.0.1.1.1.1).1.1.0, tt) (list_goes A B s fs q.1 h))
     locate {k' = k'} (sl_while t m b e {a' = a'} {xs' = xs'} fa fs) al bl h i (inr (inr p)) =
         let q = placed_join B (while_items (Source t) m b (s e) a') xs' k' bl in
         locate fs al.1.1 q.1 h i p
 
-    locate_item : {x : Tree} {ys : Forest} {k k' : List Task} → StraightItem A s x ys → IsPlaced A x k → ArePlaced B ys k' → Control A B s k k' → HasIn l x → There
+    locate_item : {x : Tree} {ys : Forest} {k k' : List Task} → StraightItem A s x ys → IsPlaced A x k → ArePlaced B ys k' → Control A B s k k' →
+        HasIn l x → There
     locate_item (st_evaluate e) al bl h p = absurd p
     locate_item (st_return e) al bl h p = absurd p
     locate_item (st_note bs) al bl h p = absurd p

@@ -29,14 +29,24 @@ const_slot n = record { name = n; kind = Int; cells = None; constant = true }
 
 -- a function without parameters that has these variables and labels
 abbrev function : List Slot → List (List ℕ) → Function
-function slots labels = record { name = codes "main"; result = Some Int; file_only = false; params = 0; slots = slots; labels = labels; body = None; flat = false }
+function slots labels = record {
+  name = codes "main";
+  result = Some Int;
+  file_only = false;
+  params = 0;
+  slots = slots;
+  labels = labels;
+  body = None;
+  flat = false;
+}
 
 abbrev known : List (List ℕ) → List (List ℕ)
 known ns = with_names (with_names [] ns) known_functions
 
 -- `int main(void) { int i = 0; while (i < 3) { putchar('a' + i); i++; } return 0; }`
 abbrev counting : (first test put next result : ExpressionTree) → Forest
-counting first test put next result = list (Local 0 (Some (first ∷ [])) ∷ While (Source test) (list (Evaluate put ∷ Evaluate next ∷ [])) ∷ Return (Some result) ∷ [])
+counting first test put next result = list (Local 0 (Some (first ∷ [])) ∷ While (Source test) (list (Evaluate put ∷ Evaluate next ∷ [])) ∷ Return
+    (Some result) ∷ [])
 
 -- its body becomes `int i; i = 0; low_1: ; if (i < 3) { goto low_2; } goto low_3; low_2: ; putchar('a' + i); i++; goto low_1; low_3: ; return 0;`
 counted : (first test put next result : ExpressionTree)
@@ -59,12 +69,14 @@ counted first test put next result = refl
 
 -- with these names, and 3 gotos
 counted_names : (first test put next result : ExpressionTree)
-    → lowered_names (known (codes "i" ∷ codes "main" ∷ [])) (known (codes "main" ∷ [])) (function (int_slot (codes "i") ∷ []) []) (counting first test put next result)
+    → lowered_names (known (codes "i" ∷ codes "main" ∷ [])) (known (codes "main" ∷ [])) (function (int_slot (codes "i") ∷ []) [])
+    (counting first test put next result)
     ≡ record { slots = int_slot (codes "i") ∷ []; labels = codes "low_1" ∷ codes "low_2" ∷ codes "low_3" ∷ [] }
 unfolding digits
 counted_names first test put next result = refl
 
-counted_gotos : (first test put next result : ExpressionTree) → gotos (lowered_body constant 0 (int_slot (codes "i") ∷ []) (counting first test put next result)) ≡ 3
+counted_gotos : (first test put next result : ExpressionTree) → gotos
+    (lowered_body constant 0 (int_slot (codes "i") ∷ []) (counting first test put next result)) ≡ 3
 counted_gotos first test put next result = refl
 
 -- `int low_1; { const int x = e; } if (a) goto l; do { switch (n) { case 0: x; break; } l: ; } while (t);` where the file has an x
@@ -106,7 +118,8 @@ unfolding converted
 mixed_body e a t x node = refl
 
 mixed_names : (e a t x : ExpressionTree) (node : NodeTree)
-    → lowered_names (known (codes "l" ∷ codes "low_1" ∷ codes "main" ∷ codes "x" ∷ [])) (known (codes "main" ∷ codes "x" ∷ [])) (function (int_slot (codes "low_1") ∷ const_slot (codes "x") ∷ []) (codes "l" ∷ [])) (mixed e a t x node)
+    → lowered_names (known (codes "l" ∷ codes "low_1" ∷ codes "main" ∷ codes "x" ∷ [])) (known (codes "main" ∷ codes "x" ∷ []))
+    (function (int_slot (codes "low_1") ∷ const_slot (codes "x") ∷ []) (codes "l" ∷ [])) (mixed e a t x node)
     ≡ record {
       slots = int_slot (codes "low_1") ∷ int_slot (codes "x_2") ∷ record { name = codes "switch_2"; kind = UInt; cells = None; constant = false } ∷ [];
       labels = codes "low_1_2" ∷ codes "low_2" ∷ codes "low_3" ∷ codes "l" ∷ [];

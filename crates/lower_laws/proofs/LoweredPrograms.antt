@@ -60,14 +60,17 @@ module _ (f h : FunctionTree) (l : IsLowered f h) where
   middle = record { result = h.result; params = h.params; slots = h.slots; body = Some body }
 
   looser : Looser l.setting Open Stays Stays NoArrival (items_of f) body
-  looser = loosened l.layout l.setting l.source.labels l.source.slots l.source.number (items_of f) l.here Stays Stays NoArrival (l.source.items, l.source.variables, l.source.bound, tt) tt
+  looser = loosened l.layout l.setting l.source.labels l.source.slots l.source.number (items_of f) l.here Stays Stays NoArrival
+      (l.source.items, l.source.variables, l.source.bound, tt) tt
 
   straight : Straight body (place_in []) None body (items_of h)
   straight =
       subst (λ z. Straight body (place_in []) None body z) (sym l.body)
       (declared body l.first l.count
-      (flattened body [] l.layout l.setting (items_of f) l.here Stays Stays Stays Stays NoArrival NoArrival refl refl sa_none l.source.items l.source.bound l.unbroken l.uncontinued
-      (λ m n. named l.layout l.setting body (λ k e. stays l.layout k e (items_of f) l.here Stays Stays NoArrival (l.named k e)) m (items_of f) l.here Stays Stays NoArrival tt tt l.source.items (λ k i. i) n)))
+      (flattened body [] l.layout l.setting (items_of f) l.here Stays Stays Stays Stays NoArrival NoArrival refl refl sa_none l.source.items
+      l.source.bound l.unbroken l.uncontinued
+      (λ m n. named l.layout l.setting body (λ k e. stays l.layout k e (items_of f) l.here Stays Stays NoArrival (l.named k e)) m (items_of f) l.here
+      Stays Stays NoArrival tt tt l.source.items (λ k i. i) n)))
 
   once : IsOnce body
   once = once_before body body (items_of h) straight l.new_once
@@ -127,13 +130,17 @@ pub of_lowered : (p q : Code) → ((m : List ℕ) → HoldsNumbers (p.globals m)
 of_lowered p q held made steady lo =
     let r : Code = record { functions = λ m. between (lo.functions m); globals = q.globals; cells = q.cells } in
     same_trans p r q
-    (loose_laws.of_codes p r held made (λ m. between_made (lo.functions m) (made m)) (record { functions = λ m. to_between (lo.functions m); globals = lo.globals; cells = lo.cells }) steady).1
+    (loose_laws.of_codes p r held made (λ m. between_made (lo.functions m) (made m))
+    (record { functions = λ m. to_between (lo.functions m); globals = lo.globals; cells = lo.cells }) steady).1
     (of_codes r q (record { functions = λ m. from_between (lo.functions m); globals = λ m. refl; cells = refl }))
 
 pub of_lowered_programs : (p q : Program) → IsProgramInRange p → All IsTopUnflat p.tops → RewrittenTops IsLowered p.tops q.tops → BehaveTheSame p q
 of_lowered_programs p q ranged unflat lo =
     let st = unflat_steady p ranged unflat in
-    record { codes = of_lowered (code_of p) (code_of q) (λ m. globals_hold m p.tops) (made_bodies p st.made) st.states (code_kept IsLowered (λ f h l. l.defined) (λ f h l. l.new_defined) p q lo) }
+    record {
+      codes = of_lowered (code_of p) (code_of q) (λ m. globals_hold m p.tops) (made_bodies p st.made) st.states
+          (code_kept IsLowered (λ f h l. l.defined) (λ f h l. l.new_defined) p q lo);
+    }
 
 pub lowered_laws : LoweredLaws
 lowered_laws = record {

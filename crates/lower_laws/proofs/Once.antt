@@ -59,9 +59,11 @@ three_range : (L X : ℕ) (q : Layout) → Hits L X q → (k : ℕ) → Range X 
 unfolding three
 three_range L X q s k =
     let a = one_if (eqb X (7 * k + 1)) in let b = one_if (eqb X (7 * k + 2)) in let c = one_if (eqb X (7 * k + 3)) in
-    range_less X (7 * k + 1) 3 (three L q k) (a + b + c) (let x = s.break_label k in let y = s.continue_label k in let z = s.default_label k in omega (arith, x, y, z))
+    range_less X (7 * k + 1) 3 (three L q k) (a + b + c) (let x = s.break_label k in let y = s.continue_label k in let z = s.default_label k in
+    omega (arith, x, y, z))
     (range_join X (7 * k + 1) (7 * k + 3) 2 1 3 (a + b) c (a + b + c)
-    (range_join X (7 * k + 1) (7 * k + 2) 1 1 2 a b (a + b) (range_one X (7 * k + 1)) (range_one X (7 * k + 2)) (omega arith) (omega arith) refl) (range_one X (7 * k + 3)) (omega arith) (omega arith) refl)
+    (range_join X (7 * k + 1) (7 * k + 2) 1 1 2 a b (a + b) (range_one X (7 * k + 1)) (range_one X (7 * k + 2)) (omega arith) (omega arith) refl)
+    (range_one X (7 * k + 3)) (omega arith) (omega arith) refl)
 
 two_range : (L X : ℕ) (q : Layout) → Hits L X q → (k : ℕ) → Range X (7 * k + 5) 2 (two L q k)
 unfolding two
@@ -96,7 +98,10 @@ module _ (L X : ℕ) (q : Layout) (s : Hits L X q) (K i : ℕ) (is : X ≡ 7 * K
       let r = three_range L X q s k in
       let t = two_range L X q s k in
       let a = three L q k in let b = two L q k in
-      let w = range_join X (7 * k + 1) (7 * k + 4) 3 3 6 a b (a + b) r (range_join X (7 * k + 4) (7 * k + 5) 1 2 3 0 b b (range_less X (7 * k + 4) 1 0 (one_if (eqb X (7 * k + 4))) (omega arith) (range_one X (7 * k + 4))) t (omega arith) (omega arith) (omega arith)) (omega arith) (omega arith) refl in
+      let w = range_join X (7 * k + 1) (7 * k + 4) 3 3 6 a b (a + b) r
+      (range_join X (7 * k + 4) (7 * k + 5) 1 2 3 0 b b
+      (range_less X (7 * k + 4) 1 0 (one_if (eqb X (7 * k + 4))) (omega arith) (range_one X (7 * k + 4))) t (omega arith) (omega arith)
+      (omega arith)) (omega arith) (omega arith) refl in
       record {
         once = (let o = w.once in omega (arith, o, e));
         before = λ h. (let z = w.before (omega (arith, h, is, below)) in omega (arith, z, e));
@@ -155,8 +160,10 @@ no_cases : (x : Tree) → (IsConstruct x → ⊥) → cases_of x ≡ 0
 no_cases (Switch s d) n = absurd (n tt)
 no_cases _ n = refl
 
-shared_range : (K L : ℕ) (q : Layout) → Shares K L q → (xs : Forest) (h : Here) → Everywhere HasOwnCases xs → Range K h.construct (total constructs_of xs) (gathered inside past (makes L q) h xs)
-shared_range K L q s xs h g = gathered_range inside past K (makes L q) constructs_of (λ h. h.construct) HasOwnCases (shared K L q s) construct_inside (λ xs h. refl) no_construct xs h g
+shared_range : (K L : ℕ) (q : Layout) → Shares K L q → (xs : Forest) (h : Here) → Everywhere HasOwnCases xs →
+    Range K h.construct (total constructs_of xs) (gathered inside past (makes L q) h xs)
+shared_range K L q s xs h g = gathered_range inside past K (makes L q) constructs_of (λ h. h.construct) HasOwnCases (shared K L q s) construct_inside
+    (λ xs h. refl) no_construct xs h g
 
 -- ---- case labels
 
@@ -172,12 +179,15 @@ cased J L q s (For f t u a) h i g = no_hits J h.case (makes L q (For f t u a) h)
 cased J L q s (Switch t d) h i g =
     let z = s.own h.construct in
     let k = switch_kind t in
-    range_as J h.case (length (cases_among (switch_labels d))) (length (cases_among (switch_labels d))) (labelled L (names_of q.plan h k d) (switch_labels d)) (makes L q (Switch t d) h)
+    range_as J h.case (length (cases_among (switch_labels d))) (length (cases_among (switch_labels d)))
+    (labelled L (names_of q.plan h k d) (switch_labels d)) (makes L q (Switch t d) h)
     (labelled_range J L q.plan (λ k. let o = s.own k in omega (arith, o)) s.case h k d g.1) refl (omega (arith, z))
 cased J L q s _ h i g = absurd i
 
-cased_range : (J L : ℕ) (q : Layout) → CaseShares J L q → (xs : Forest) (h : Here) → Everywhere HasOwnCases xs → Range J h.case (total cases_of xs) (gathered inside past (makes L q) h xs)
-cased_range J L q s xs h g = gathered_range inside past J (makes L q) cases_of (λ h. h.case) HasOwnCases (cased J L q s) (λ x h i. refl) (λ xs h. refl) no_cases xs h g
+cased_range : (J L : ℕ) (q : Layout) → CaseShares J L q → (xs : Forest) (h : Here) → Everywhere HasOwnCases xs →
+    Range J h.case (total cases_of xs) (gathered inside past (makes L q) h xs)
+cased_range J L q s xs h g = gathered_range inside past J (makes L q) cases_of (λ h. h.case) HasOwnCases (cased J L q s) (λ x h i. refl)
+    (λ xs h. refl) no_cases xs h g
 
 -- ---- the whole
 
@@ -218,7 +228,12 @@ module _ (L X n : ℕ) (q : Layout) (s : Hits L X q) (h : Here) (body : Forest) 
     at_source : i ≡ 0 → Bounded
     at_source z =
         let far = h.construct + total constructs_of body in
-        let r = (shared_range far L q (record { own = λ k. (let y = five_none L X q s K i is below (inl z) k in range_less far k 1 (five L q k) (one_if (eqb far k)) (omega (arith, y)) (range_one far k)); case = no_case (inl (omega (arith, z))) }) body h o.cases).behind (omega arith) in
+        let r = (shared_range far L q (record {
+          own = λ k. (let y = five_none L X q s K i is below (inl z) k in
+              range_less far k 1 (five L q k) (one_if (eqb far k)) (omega (arith, y)) (range_one far k));
+          case = no_case (inl (omega (arith, z)));
+        })
+        body h o.cases).behind (omega arith) in
         let a = from K (λ l. let b = s.source l in let c = bit_le X (7 * l) (eqb K l) (λ e. eq-eqb K l (omega (arith, e, is, z))) in omega (arith, b, c)) in
         let b = o.once K in
         let m = sum in omega (arith, r, a, b, m)
@@ -226,7 +241,11 @@ module _ (L X n : ℕ) (q : Layout) (s : Hits L X q) (h : Here) (body : Forest) 
     at_case : i ≡ 4 → Bounded
     at_case z =
         let a = no_source (omega (arith, z)) in
-        let r = (cased_range K L q (record { own = five_none L X q s K i is below (inr z); case = λ j. (let b = s.case_label j in let c = bit_le X (7 * j + 4) (eqb K j) (λ e. eq-eqb K j (omega (arith, e, is, z))) in omega (arith, b, c)) }) body h o.cases).once in
+        let r = (cased_range K L q (record {
+          own = five_none L X q s K i is below (inr z);
+          case = λ j. (let b = s.case_label j in let c = bit_le X (7 * j + 4) (eqb K j) (λ e. eq-eqb K j (omega (arith, e, is, z))) in
+              omega (arith, b, c));
+        }) body h o.cases).once in
         let m = sum in omega (arith, a, r, m)
 
     places_once : Bounded
@@ -263,7 +282,8 @@ no_declared L x zero = refl
 no_declared L x (suc n) = let h = no_declared L (suc x) n in omega (arith, h)
 
 -- each label of a lowered body stands at most once
-pub lowered_once : (number : IntKind → ℤ → ExpressionTree) (params : ℕ) (slots : List Slot) (n : ℕ) (body : Forest) → HasOwnLabels n body → IsOnce (lowered_body number params slots body)
+pub lowered_once : (number : IntKind → ℤ → ExpressionTree) (params : ℕ) (slots : List Slot) (n : ℕ) (body : Forest) → HasOwnLabels n body →
+    IsOnce (lowered_body number params slots body)
 lowered_once number params slots n body o L =
     let h = list_once number slots n body o L in
     let i = places_join L (declarations params (length slots - params + total variables_of body)) (lowered_list number slots body) in

@@ -78,10 +78,12 @@ module _ (p q : Code) (lo : RewrittenCode IsStraight p q) where
 
   pub data Frames : List Frame → List Frame → Type 0 where
     fr_none : Frames [] []
-    fr_more : (f : List ℕ) (g : Guards) (v : List Value) {k k' : List Task} {cs cs' : List Frame} → Call f k k' → Frames cs cs' → Frames (Waits f g k v ∷ cs) (Waits f g k' v ∷ cs')
+    fr_more : (f : List ℕ) (g : Guards) (v : List Value) {k k' : List Task} {cs cs' : List Frame} → Call f k k' → Frames cs cs' →
+        Frames (Waits f g k v ∷ cs) (Waits f g k' v ∷ cs')
 
   pub data Related : State → State → Type 0 where
-    rl_at : (f : List ℕ) (g : Guards) (v : List Value) (w : World) {k k' : List Task} {cs cs' : List Frame} → Call f k k' → Frames cs cs' → Related (At f g k v cs w) (At f g k' v cs' w)
+    rl_at : (f : List ℕ) (g : Guards) (v : List Value) (w : World) {k k' : List Task} {cs cs' : List Frame} → Call f k k' → Frames cs cs' →
+        Related (At f g k v cs w) (At f g k' v cs' w)
     rl_ended : (n : ℤ) (es : List Event) → Related (HasEnded n es) (HasEnded n es)
     rl_trapped : (t : Trap) (es : List Event) → Related (HasTrapped t es) (HasTrapped t es)
 
@@ -101,40 +103,52 @@ module _ (p q : Code) (lo : RewrittenCode IsStraight p q) where
       at (rw_same e) = cl_same e
       at (rw_by l) = cl_straight l (tk_control ct_nil)
 
-  pub begins : (m : List ℕ) (r : Result World Trap) (w : World) {cs cs' : List Frame} → Frames cs cs' → Related (begin_call m (before m) r cs w) (begin_call m (after m) r cs' w)
+  pub begins : (m : List ℕ) (r : Result World Trap) (w : World) {cs cs' : List Frame} → Frames cs cs' →
+      Related (begin_call m (before m) r cs w) (begin_call m (after m) r cs' w)
   begins m (Ok u) w t = rl_at m no_guards [] u (starts m) t
   begins m (Err e) w t = rl_trapped e w.events
 
-  settles : (f : List ℕ) (g : Guards) (v : List Value) (o : Outcome) {k k' : List Task} {cs cs' : List Frame} → Call f k k' → Frames cs cs' → Related (settle o f g k v cs) (settle o f g k' v cs')
+  settles : (f : List ℕ) (g : Guards) (v : List Value) (o : Outcome) {k k' : List Task} {cs cs' : List Frame} → Call f k k' → Frames cs cs' →
+      Related (settle o f g k v cs) (settle o f g k' v cs')
   settles f g v (Gives x w) h t = rl_at f g (x ∷ v) w h t
   settles f g v (Traps u w) h t = rl_trapped u w.events
   settles f g v (Exits n w) h t = rl_ended n w.events
 
-  invoke_items : (b : Option Forest) (h : FunctionTree) (m : List ℕ) (vs : List Value) (f : List ℕ) (g : Guards) (k : List Task) (v : List Value) (cs : List Frame) (w : World) → IsSome b
+  invoke_items : (b : Option Forest) (h : FunctionTree) (m : List ℕ) (vs : List Value) (f : List ℕ) (g : Guards) (k : List Task) (v : List Value)
+      (cs : List Frame) (w : World) → IsSome b
       → invoke b h m vs f g k v cs w ≡ begin_call m (option_map_or (λ a. a) b Nil) (push h vs w) (Waits f g k v ∷ cs) w
   invoke_items (Some a) h m vs f g k v cs w i = refl
   invoke_items None h m vs f g k v cs w i = absurd (true≢false (sym i))
 
-  invokes : (m : List ℕ) (vs : List Value) (f : List ℕ) (g : Guards) (v : List Value) (w : World) {k k' : List Task} {cs cs' : List Frame} → Call f k k' → Frames cs cs'
+  invokes : (m : List ℕ) (vs : List Value) (f : List ℕ) (g : Guards) (v : List Value) (w : World) {k k' : List Task} {cs cs' : List Frame} →
+      Call f k k' → Frames cs cs'
       → Related (invoke (p.functions m).body (p.functions m) m vs f g k v cs w) (invoke (q.functions m).body (q.functions m) m vs f g k' v cs' w)
   invokes m vs f g v w {k = k} {k' = k'} {cs = cs} {cs' = cs'} h t = at (lo.functions m)
     where
-      begun : Related (begin_call m (before m) (push (p.functions m) vs w) (Waits f g k v ∷ cs) w) (begin_call m (after m) (push (q.functions m) vs w) (Waits f g k' v ∷ cs') w)
-      begun = subst (λ r. Related (begin_call m (before m) (push (p.functions m) vs w) (Waits f g k v ∷ cs) w) (begin_call m (after m) r (Waits f g k' v ∷ cs') w)) (same_push (lo.functions m) vs w)
+      begun : Related (begin_call m (before m) (push (p.functions m) vs w) (Waits f g k v ∷ cs) w)
+          (begin_call m (after m) (push (q.functions m) vs w) (Waits f g k' v ∷ cs') w)
+      begun = subst (λ r. Related (begin_call m (before m) (push (p.functions m) vs w) (Waits f g k v ∷ cs) w)
+          (begin_call m (after m) r (Waits f g k' v ∷ cs') w)) (same_push (lo.functions m) vs w)
           (begins m (push (p.functions m) vs w) w (fr_more f g v h t))
 
-      defined : IsSome (p.functions m).body → IsSome (q.functions m).body → Related (invoke (p.functions m).body (p.functions m) m vs f g k v cs w) (invoke (q.functions m).body (q.functions m) m vs f g k' v cs' w)
+      defined : IsSome (p.functions m).body → IsSome (q.functions m).body →
+          Related (invoke (p.functions m).body (p.functions m) m vs f g k v cs w) (invoke (q.functions m).body (q.functions m) m vs f g k' v cs' w)
       defined i j =
-          subst (λ z. Related z (invoke (q.functions m).body (q.functions m) m vs f g k' v cs' w)) (sym (invoke_items (p.functions m).body (p.functions m) m vs f g k v cs w i))
-          (subst (λ z. Related (begin_call m (before m) (push (p.functions m) vs w) (Waits f g k v ∷ cs) w) z) (sym (invoke_items (q.functions m).body (q.functions m) m vs f g k' v cs' w j)) begun)
+          subst (λ z. Related z (invoke (q.functions m).body (q.functions m) m vs f g k' v cs' w))
+          (sym (invoke_items (p.functions m).body (p.functions m) m vs f g k v cs w i))
+          (subst (λ z. Related (begin_call m (before m) (push (p.functions m) vs w) (Waits f g k v ∷ cs) w) z)
+          (sym (invoke_items (q.functions m).body (q.functions m) m vs f g k' v cs' w j)) begun)
 
-      outside : (b : Option Forest) → (p.functions m).body ≡ b → p.functions m ≡ q.functions m → Related (invoke (p.functions m).body (p.functions m) m vs f g k v cs w) (invoke (q.functions m).body (q.functions m) m vs f g k' v cs' w)
+      outside : (b : Option Forest) → (p.functions m).body ≡ b → p.functions m ≡ q.functions m →
+          Related (invoke (p.functions m).body (p.functions m) m vs f g k v cs w) (invoke (q.functions m).body (q.functions m) m vs f g k' v cs' w)
       outside (Some x) i j = defined (subst (λ z. IsSome z) (sym i) refl) (subst (λ z. IsSome z.body) j (subst (λ z. IsSome z) (sym i) refl))
       outside None i j =
           subst (λ z. Related (invoke (p.functions m).body (p.functions m) m vs f g k v cs w) (invoke z.body z m vs f g k' v cs' w)) j
-          (subst (λ b. Related (invoke b (p.functions m) m vs f g k v cs w) (invoke b (p.functions m) m vs f g k' v cs' w)) (sym i) (settles f g v (call_without_body m (p.functions m) vs w) h t))
+          (subst (λ b. Related (invoke b (p.functions m) m vs f g k v cs w) (invoke b (p.functions m) m vs f g k' v cs' w)) (sym i)
+          (settles f g v (call_without_body m (p.functions m) vs w) h t))
 
-      at : Rewritten IsStraight (p.functions m) (q.functions m) → Related (invoke (p.functions m).body (p.functions m) m vs f g k v cs w) (invoke (q.functions m).body (q.functions m) m vs f g k' v cs' w)
+      at : Rewritten IsStraight (p.functions m) (q.functions m) → Related (invoke (p.functions m).body (p.functions m) m vs f g k v cs w)
+          (invoke (q.functions m).body (q.functions m) m vs f g k' v cs' w)
       at (rw_same e) = outside (p.functions m).body refl e
       at (rw_by l) = defined l.defined l.new_defined
 
@@ -145,15 +159,18 @@ module _ (p q : Code) (lo : RewrittenCode IsStraight p q) where
   call_dropped {f = f} (cl_straight l h) = tasks_dropped (before f) (after f) l.labels h
 
   leaves : (m : List ℕ) (x : Value) (w : World) {cs cs' : List Frame} → Frames cs cs' → Related (leave (p.functions m) x cs w) (leave (q.functions m) x cs' w)
-  leaves m x w fr_none = subst (λ o. Related (settle (leave_entry (p.functions m) x w) [] no_guards [] [] []) (settle o [] no_guards [] [] [])) (same_entry (lo.functions m) x w) (settles [] no_guards [] (leave_entry (p.functions m) x w) (idle []) fr_none)
+  leaves m x w fr_none = subst (λ o. Related (settle (leave_entry (p.functions m) x w) [] no_guards [] [] []) (settle o [] no_guards [] [] []))
+      (same_entry (lo.functions m) x w) (settles [] no_guards [] (leave_entry (p.functions m) x w) (idle []) fr_none)
   leaves m x w (fr_more f g v {k = k} {k' = k'} {cs = cs} {cs' = cs'} h t) =
       subst (λ o. Related (settle (leave_call (is_dropped k) (p.functions m) x w) f g k v cs) (settle o f g k' v cs'))
       (ap (λ b. leave_call b (p.functions m) x w) (call_dropped h) ∙ same_leave (lo.functions m) (is_dropped k') x w)
       (settles f g v (leave_call (is_dropped k) (p.functions m) x w) h t)
 
-  returns : (f : List ℕ) (x : Value) (w : World) {cs cs' : List Frame} → Frames cs cs' → Related (leave (p.functions f) (returned (p.functions f) x) cs w) (leave (q.functions f) (returned (q.functions f) x) cs' w)
+  returns : (f : List ℕ) (x : Value) (w : World) {cs cs' : List Frame} → Frames cs cs' →
+      Related (leave (p.functions f) (returned (p.functions f) x) cs w) (leave (q.functions f) (returned (q.functions f) x) cs' w)
   returns f x w {cs = cs} {cs' = cs'} t =
-      subst (λ y. Related (leave (p.functions f) (returned (p.functions f) x) cs w) (leave (q.functions f) y cs' w)) (same_returned (lo.functions f) x) (leaves f (returned (p.functions f) x) w t)
+      subst (λ y. Related (leave (p.functions f) (returned (p.functions f) x) cs w) (leave (q.functions f) y cs' w))
+      (same_returned (lo.functions f) x) (leaves f (returned (p.functions f) x) w t)
 
   -- ---- functions that are the same
 
@@ -166,7 +183,8 @@ module _ (p q : Code) (lo : RewrittenCode IsStraight p q) where
     same_performs (Leaves (Some x) w) g k t = returns f x w t
     same_performs (Leaves None w) g k t = leaves f (fallen f) w t
 
-    pub same_moves : (x : View) (g : Guards) (v : List Value) (w : World) {cs cs' : List Frame} → Frames cs cs' → Related (move p x f g v cs w) (move q x f g v cs' w)
+    pub same_moves : (x : View) (g : Guards) (v : List Value) (w : World) {cs cs' : List Frame} → Frames cs cs' →
+        Related (move p x f g v cs w) (move q x f g v cs' w)
     same_moves Finishes g v w t = leaves f (fallen f) w t
     same_moves (Goes k) g v w t = rl_at f g v w (cl_same e) t
     same_moves (Guarding l b k) g v w t = rl_at f (with_guard l b g) v w (cl_same e) t
@@ -222,7 +240,8 @@ module _ (p q : Code) (lo : RewrittenCode IsStraight p q) where
     performs (Leaves (Some x) w) h = returns f x w t
     performs (Leaves None w) h = leaves f (fallen f) w t
 
-    item : (v : List Value) (w : World) {x : Tree} {ys : Forest} {k k' : List Task} → StraightItem A s x ys → ArePlaced B ys k' → Control A B s k k' → JC (Runs x ∷ k) (items ys k') v w
+    item : (v : List Value) (w : World) {x : Tree} {ys : Forest} {k k' : List Task} → StraightItem A s x ys → ArePlaced B ys k' → Control A B s k k' →
+        JC (Runs x ∷ k) (items ys k') v w
     item v w (st_evaluate e) al h = go 0 0 (at_tasks v w (tk_works (Computes e) (tk_works Drops (tk_control h))))
     item v w (st_return (Some e)) al h = go 0 0 (at_tasks v w (tk_works (Computes e) (tk_works (Ends true) (tk_control h))))
     item v w (st_return None) al h = go 0 0 (at_tasks v w (tk_works (Ends false) (tk_control h)))
@@ -230,14 +249,16 @@ module _ (p q : Code) (lo : RewrittenCode IsStraight p q) where
     item v w (st_goto m n) al h = go 0 0 (at_control v w (located A B s m l.related l.placed l.new_placed n))
     item v w (st_mark m) al h = go 0 0 (at_control v w h)
     item v w (st_jump_if e m n) al h = go 1 1 (at_tasks v w (tk_works (Computes e) (tk_if (ct_item (st_goto m n) (tt, tt) h) h)))
-    item v w (st_if e m n fa fb) al h = go 1 1 (at_tasks v w (tk_works (Computes e) (tk_if (if_holds A B s e m n fa fb al h) (if_fails A B s e m n fa fb al h))))
+    item v w (st_if e m n fa fb) al h = go 1 1
+        (at_tasks v w (tk_works (Computes e) (tk_if (if_holds A B s e m n fa fb al h) (if_fails A B s e m n fa fb al h))))
     item v w (st_do e b fa) al h = go 0 0 (at_control v w (do_starts A B s e b fa al h))
     item v w (st_ever m fa) al h = go 3 0 (at_control v w (ever_starts A B s m fa al h))
 
     control : (v : List Value) (w : World) {k k' : List Task} → Control A B s k k' → JC k k' v w
     control v w ct_nil = go 0 0 (leaves f (fallen f) w t)
     control v w (ct_item fi al h) = item v w fi al h
-    control v w (ct_while e m b n fa al h) = go 1 2 (at_tasks v w (tk_works (Computes e) (tk_turns (WhileLoop (Source e) _) (while_turns A B s e m b n fa al h) (while_stops A B s e m b n fa al h))))
+    control v w (ct_while e m b n fa al h) = go 1 2
+        (at_tasks v w (tk_works (Computes e) (tk_turns (WhileLoop (Source e) _) (while_turns A B s e m b n fa al h) (while_stops A B s e m b n fa al h))))
     control v w (ct_do e b {a = a} fa al h) =
         go 1 1 (at_tasks v w (tk_works (Computes e) (tk_turns (DoLoop a (Source e)) (ct_goto b al.0 (ct_item (st_do e b fa) al h)) h)))
     control v w (ct_skip m h) = skip (control v w h)

@@ -48,7 +48,8 @@ module _ (p : Layout) (m : ℕ) (live : p.plan.live m ≡ true) where
   abbrev g : ℕ
   g = p.plan.source m
 
-  if_has : (t : TestTree) (x y x' y' : Forest) (o : Option ℕ) → jump_of p.plan.live x y ≡ o → (Has m x → Has g x') → (Has m y → Has g y') → Has m x ⊎ Has m y → Has g (one (opened_if p t o x' y'))
+  if_has : (t : TestTree) (x y x' y' : Forest) (o : Option ℕ) → jump_of p.plan.live x y ≡ o → (Has m x → Has g x') → (Has m y → Has g y') →
+      Has m x ⊎ Has m y → Has g (one (opened_if p t o x' y'))
   if_has t x y x' y' None e f h (inl n) = inl (inl (f n))
   if_has t x y x' y' None e f h (inr n) = inl (inr (h n))
   if_has t x y x' y' (Some j) e f h (inl n) = no_only j x (both_of (is_bare p.plan.live y) (only_goto p.plan.live x) j e).1 n
@@ -72,7 +73,8 @@ module _ (p : Layout) (m : ℕ) (live : p.plan.live m ≡ true) where
         let e = Becomes (p.plan.break_label h.construct) in let k = p.head_label h.construct in
         inl (has_left g (opened p (inside (While t a) h) e (Becomes k) r a) (one (Mark k)) (stays a (inside (While t a) h) e (Becomes k) r n))
     stays_in (Do a t) h b c r n =
-        inl (has_left g (opened p (inside (Do a t) h) (break_aim p h a) (continue_aim p h a) r a) (mark_of (continue_aim p h a)) (stays a (inside (Do a t) h) (break_aim p h a) (continue_aim p h a) r n))
+        inl (has_left g (opened p (inside (Do a t) h) (break_aim p h a) (continue_aim p h a) r a) (mark_of (continue_aim p h a))
+        (stays a (inside (Do a t) h) (break_aim p h a) (continue_aim p h a) r n))
     stays_in (For f t u a) h b c r n =
         let h' = inside (For f t u a) h in
         let list = opened p (past f h') (for_aim p h t a) (continue_aim p h a) r a in
@@ -83,7 +85,8 @@ module _ (p : Layout) (m : ℕ) (live : p.plan.live m ≡ true) where
         let k = switch_kind t in
         let names = names_of p.plan h k d in
         let ys = opened_among p (inside (Switch t d) h) (scatter_aim p.plan h d) c names d in
-        inr (has_right g (tests_among p.plan.number k h.variable names d) (Then (Goto (otherwise_label p.plan h d)) ys) (inr (stays_among d (inside (Switch t d) h) (scatter_aim p.plan h d) c names n)))
+        inr (has_right g (tests_among p.plan.number k h.variable names d) (Then (Goto (otherwise_label p.plan h d)) ys)
+        (inr (stays_among d (inside (Switch t d) h) (scatter_aim p.plan h d) c names n)))
     stays_in (Mark k) h b c r n = mark_has (p.plan.live k) k refl n
     stays_in (Evaluate e) h b c r n = absurd n
     stays_in (Return e) h b c r n = absurd n
@@ -107,7 +110,8 @@ module _ (p : Layout) (m : ℕ) (live : p.plan.live m ≡ true) where
         let xs = opened p h b c (Arrives names) a in
         let es = end_goto ends b in
         let ds = opened_among p (past a h) b c names d in
-        has_right g (case_marks names cases default) (join xs (join es ds)) (has_right g xs (join es ds) (has_right g es ds (stays_among d (past a h) b c names n)))
+        has_right g (case_marks names cases default) (join xs (join es ds))
+        (has_right g xs (join es ds) (has_right g es ds (stays_among d (past a h) b c names n)))
 
 -- ---- labels that stand once
 
@@ -144,7 +148,8 @@ module _ (A : Forest) (l : ℕ) where
     fewer_item (st_jump_if t m n) = omega arith
     fewer_item (st_if t m e {a = a} {a' = a'} {b = b} {b' = b'} fa fb) =
         let i = fewer fa in let j = fewer fb in
-        let k = places_join l b' (Then (Goto e) (Then (Mark m) (join a' (one (Mark e))))) in let n = places_join l a' (one (Mark e)) in omega (arith, i, j, k, n)
+        let k = places_join l b' (Then (Goto e) (Then (Mark m) (join a' (one (Mark e))))) in let n = places_join l a' (one (Mark e)) in
+        omega (arith, i, j, k, n)
     fewer_item (st_do t b {a = a} {a' = a'} fa) = let i = fewer fa in let k = places_join l a' (one (If (Source t) (one (Goto b)) Nil)) in omega (arith, i, k)
     fewer_item (st_ever h {a = a} {a' = a'} fa) = let i = fewer fa in let k = places_join l a' (one (Goto h)) in omega (arith, i, k)
 

@@ -123,7 +123,8 @@ module _ (p : Layout) where
   -- ---- the labels of the cases of a switch
 
   module _ (number : IntKind → ℤ → ExpressionTree) (k : IntKind) (v : ℕ) (names : Names) (l : ℕ) where
-    case_named : (e : ExpressionTree) (o : Option ℤ) → Naming l (option_map_or (λ z. one (If (Source (is_number k v (number k z))) (one (Goto (names (Some e)))) Nil)) o Nil) → l ≡ names (Some e)
+    case_named : (e : ExpressionTree) (o : Option ℤ) → Naming l
+        (option_map_or (λ z. one (If (Source (is_number k v (number k z))) (one (Goto (names (Some e)))) Nil)) o Nil) → l ≡ names (Some e)
     case_named e None n = absurd n
     case_named e (Some z) (inl (inl (inl n))) = n
     case_named e (Some z) (inl (inl (inr n))) = absurd n
@@ -132,28 +133,37 @@ module _ (p : Layout) where
 
     cases_stand : (es : List ExpressionTree) (default : Bool) → Naming l (tests_for number k v names es) → Has l (case_marks names es default)
     cases_stand [] default n = absurd n
-    cases_stand (e ∷ es) default n = split l (test_for number k v names e) (tests_for number k v names es) (λ m. inl (case_named e (case_number k e) m)) (λ m. inr (cases_stand es default m)) n
+    cases_stand (e ∷ es) default n = split l (test_for number k v names e) (tests_for number k v names es)
+        (λ m. inl (case_named e (case_number k e) m)) (λ m. inr (cases_stand es default m)) n
 
-    if_stands : (t : TestTree) (x y x' y' : Forest) (o : Option ℕ) → jump_of p.plan.live x y ≡ o → (Naming l (tests number k v names x) → Has l x') → (Naming l (tests number k v names y) → Has l y') → Naming l (join (tests number k v names x) (tests number k v names y)) → Has l (one (opened_if p t o x' y'))
+    if_stands : (t : TestTree) (x y x' y' : Forest) (o : Option ℕ) → jump_of p.plan.live x y ≡ o → (Naming l (tests number k v names x) → Has l x') →
+        (Naming l (tests number k v names y) → Has l y') → Naming l (join (tests number k v names x) (tests number k v names y)) →
+        Has l (one (opened_if p t o x' y'))
     if_stands t x y x' y' None e f g n = split l (tests number k v names x) (tests number k v names y) (λ m. inl (inl (f m))) (λ m. inl (inr (g m))) n
     if_stands t x y x' y' (Some j) e f g n =
         let q = both_of (is_bare p.plan.live y) (only_goto p.plan.live x) j e in
-        split l (tests number k v names x) (tests number k v names y) (λ m. no_only p.plan.live number k v names l (only p.plan.live j x q.1) m) (λ m. no_bare p.plan.live number k v names l y q.0 m) n
+        split l (tests number k v names x) (tests number k v names y) (λ m. no_only p.plan.live number k v names l (only p.plan.live j x q.1) m)
+        (λ m. no_bare p.plan.live number k v names l y q.0 m) n
 
     mutual
       tests_stand : (a : Forest) (h : Here) (b c : Aim) → Naming l (tests number k v names a) → Has l (opened p h b c (Arrives names) a)
       tests_stand Nil h b c n = absurd n
       tests_stand (Then x a) h b c n =
           let y = opened_item p h b c (Arrives names) x in let z = opened p (past_item x h) b c (Arrives names) a in
-          split l (tests_in number k v names x) (tests number k v names a) (λ m. has_left l y z (test_stands x h b c m)) (λ m. has_right l y z (tests_stand a (past_item x h) b c m)) n
+          split l (tests_in number k v names x) (tests number k v names a) (λ m. has_left l y z (test_stands x h b c m))
+          (λ m. has_right l y z (tests_stand a (past_item x h) b c m)) n
 
       test_stands : (x : Tree) (h : Here) (b c : Aim) → Naming l (tests_in number k v names x) → Has l (opened_item p h b c (Arrives names) x)
       test_stands (If t x y) h b c n =
-          if_stands t x y (opened p (inside (If t x y) h) b c (Arrives names) x) (opened p (past x (inside (If t x y) h)) b c (Arrives names) y) (jump_of p.plan.live x y) refl (λ m. tests_stand x (inside (If t x y) h) b c m) (λ m. tests_stand y (past x (inside (If t x y) h)) b c m) n
+          if_stands t x y (opened p (inside (If t x y) h) b c (Arrives names) x) (opened p (past x (inside (If t x y) h)) b c (Arrives names) y)
+          (jump_of p.plan.live x y) refl (λ m. tests_stand x (inside (If t x y) h) b c m) (λ m. tests_stand y (past x (inside (If t x y) h)) b c m) n
       test_stands (While t a) h b c n =
-          inl (has_left l (opened p (inside (While t a) h) (Becomes (p.plan.break_label h.construct)) (Becomes (p.head_label h.construct)) (Arrives names) a) (one (Mark (p.head_label h.construct))) (tests_stand a (inside (While t a) h) (Becomes (p.plan.break_label h.construct)) (Becomes (p.head_label h.construct)) n))
+          inl (has_left l (opened p (inside (While t a) h) (Becomes (p.plan.break_label h.construct)) (Becomes (p.head_label h.construct))
+          (Arrives names) a) (one (Mark (p.head_label h.construct)))
+          (tests_stand a (inside (While t a) h) (Becomes (p.plan.break_label h.construct)) (Becomes (p.head_label h.construct)) n))
       test_stands (Do a t) h b c n =
-          inl (has_left l (opened p (inside (Do a t) h) (break_aim p h a) (continue_aim p h a) (Arrives names) a) (mark_of (continue_aim p h a)) (tests_stand a (inside (Do a t) h) (break_aim p h a) (continue_aim p h a) n))
+          inl (has_left l (opened p (inside (Do a t) h) (break_aim p h a) (continue_aim p h a) (Arrives names) a) (mark_of (continue_aim p h a))
+          (tests_stand a (inside (Do a t) h) (break_aim p h a) (continue_aim p h a) n))
       test_stands (For f t u a) h b c n =
           let h' = inside (For f t u a) h in
           let list = opened p (past f h') (for_aim p h t a) (continue_aim p h a) (Arrives names) a in
@@ -182,8 +192,10 @@ module _ (p : Layout) where
         let xs = opened p h b c (Arrives names) a in
         let es = end_goto ends b in
         let ds = opened_among p (past a h) b c names d in
-        split l (tests_for number k v names cases) (join (tests number k v names a) (tests_among number k v names d)) (λ m. has_left l cs (join xs (join es ds)) (cases_stand cases default m))
-        (λ m. has_right l cs (join xs (join es ds)) (split l (tests number k v names a) (tests_among number k v names d) (λ m. has_left l xs (join es ds) (tests_stand a h b c m))
+        split l (tests_for number k v names cases) (join (tests number k v names a) (tests_among number k v names d))
+        (λ m. has_left l cs (join xs (join es ds)) (cases_stand cases default m))
+        (λ m. has_right l cs (join xs (join es ds)) (split l (tests number k v names a) (tests_among number k v names d)
+        (λ m. has_left l xs (join es ds) (tests_stand a h b c m))
         (λ m. has_right l xs (join es ds) (has_right l es ds (among_stand d (past a h) b c m))) m)) n
 
   -- ---- the label of the default
@@ -213,7 +225,8 @@ module _ (p : Layout) where
     abbrev d0 : ℕ
     d0 = names None
 
-    if_default : (t : TestTree) (x y x' y' : Forest) (o : Option ℕ) → jump_of p.plan.live x y ≡ o → (has_default (arrivals x) ≡ true → Has d0 x') → (has_default (arrivals y) ≡ true → Has d0 y') → has_default (arrivals x ++ arrivals y) ≡ true → Has d0 (one (opened_if p t o x' y'))
+    if_default : (t : TestTree) (x y x' y' : Forest) (o : Option ℕ) → jump_of p.plan.live x y ≡ o → (has_default (arrivals x) ≡ true → Has d0 x') →
+        (has_default (arrivals y) ≡ true → Has d0 y') → has_default (arrivals x ++ arrivals y) ≡ true → Has d0 (one (opened_if p t o x' y'))
     if_default t x y x' y' None e f g n = either (arrivals x) (arrivals y) (λ m. inl (inl (f m))) (λ m. inl (inr (g m))) n
     if_default t x y x' y' (Some j) e f g n =
         let q = both_of (is_bare p.plan.live y) (only_goto p.plan.live x) j e in
@@ -224,17 +237,21 @@ module _ (p : Layout) where
       default_stands Nil h b c n = false_true n
       default_stands (Then x a) h b c n =
           let y = opened_item p h b c (Arrives names) x in let z = opened p (past_item x h) b c (Arrives names) a in
-          either (arrivals_in x) (arrivals a) (λ m. has_left d0 y z (default_stands_in x h b c m)) (λ m. has_right d0 y z (default_stands a (past_item x h) b c m)) n
+          either (arrivals_in x) (arrivals a) (λ m. has_left d0 y z (default_stands_in x h b c m))
+          (λ m. has_right d0 y z (default_stands a (past_item x h) b c m)) n
 
       default_stands_in : (x : Tree) (h : Here) (b c : Aim) → has_default (arrivals_in x) ≡ true → Has d0 (opened_item p h b c (Arrives names) x)
       default_stands_in (If t x y) h b c n =
-          if_default t x y (opened p (inside (If t x y) h) b c (Arrives names) x) (opened p (past x (inside (If t x y) h)) b c (Arrives names) y) (jump_of p.plan.live x y) refl
+          if_default t x y (opened p (inside (If t x y) h) b c (Arrives names) x) (opened p (past x (inside (If t x y) h)) b c (Arrives names) y)
+          (jump_of p.plan.live x y) refl
           (λ m. default_stands x (inside (If t x y) h) b c m) (λ m. default_stands y (past x (inside (If t x y) h)) b c m) n
       default_stands_in (While t a) h b c n =
           let e = Becomes (p.plan.break_label h.construct) in let g = p.head_label h.construct in
-          inl (has_left d0 (opened p (inside (While t a) h) e (Becomes g) (Arrives names) a) (one (Mark g)) (default_stands a (inside (While t a) h) e (Becomes g) n))
+          inl (has_left d0 (opened p (inside (While t a) h) e (Becomes g) (Arrives names) a) (one (Mark g))
+          (default_stands a (inside (While t a) h) e (Becomes g) n))
       default_stands_in (Do a t) h b c n =
-          inl (has_left d0 (opened p (inside (Do a t) h) (break_aim p h a) (continue_aim p h a) (Arrives names) a) (mark_of (continue_aim p h a)) (default_stands a (inside (Do a t) h) (break_aim p h a) (continue_aim p h a) n))
+          inl (has_left d0 (opened p (inside (Do a t) h) (break_aim p h a) (continue_aim p h a) (Arrives names) a) (mark_of (continue_aim p h a))
+          (default_stands a (inside (Do a t) h) (break_aim p h a) (continue_aim p h a) n))
       default_stands_in (For f t u a) h b c n =
           let h' = inside (For f t u a) h in
           let list = opened p (past f h') (for_aim p h t a) (continue_aim p h a) (Arrives names) a in
@@ -341,22 +358,26 @@ module _ (p : Layout) where
     live_of i (og_mark k o) = live_of i.1 o
     live_of i (og_goto e) = i.0
 
-    if_named : (t : TestTree) (x y x' y' : Forest) (o : Option ℕ) → jump_of p.plan.live x y ≡ o → Everywhere Fine x → (Naming l x' → (Into x' → Goal)) → (Naming l y' → (Into y' → Goal)) → Into (one (opened_if p t o x' y')) → Naming l (one (opened_if p t o x' y')) → Goal
+    if_named : (t : TestTree) (x y x' y' : Forest) (o : Option ℕ) → jump_of p.plan.live x y ≡ o → Everywhere Fine x →
+        (Naming l x' → (Into x' → Goal)) → (Naming l y' → (Into y' → Goal)) → Into (one (opened_if p t o x' y')) → Naming l (one (opened_if p t o x' y')) → Goal
     if_named t x y x' y' None e i f g into (inl (inl n)) = f n (λ m h. into m (inl (inl h)))
     if_named t x y x' y' None e i f g into (inl (inr n)) = g n (λ m h. into m (inl (inr h)))
     if_named t x y x' y' None e i f g into (inr n) = absurd n
-    if_named t x y x' y' (Some m) e i f g into (inl (inl (inl n))) = equals (p.plan.source m) n (sources m (live_of i (only p.plan.live m x (both_of (is_bare p.plan.live y) (only_goto p.plan.live x) m e).1)))
+    if_named t x y x' y' (Some m) e i f g into (inl (inl (inl n))) = equals (p.plan.source m) n
+        (sources m (live_of i (only p.plan.live m x (both_of (is_bare p.plan.live y) (only_goto p.plan.live x) m e).1)))
     if_named t x y x' y' (Some m) e i f g into (inl (inl (inr n))) = absurd n
     if_named t x y x' y' (Some m) e i f g into (inl (inr n)) = absurd n
     if_named t x y x' y' (Some m) e i f g into (inr n) = absurd n
 
     -- where a switch goes of which no case is selected
-    otherwise_named : (y u z : Bool) (h : Here) (c : Aim) (names : Names) (d : Sections) (m : ℕ) → (y ≡ true → Has (names None) (opened_among p h (cond (not y || u || z) (Becomes m) Absent) c names d))
+    otherwise_named : (y u z : Bool) (h : Here) (c : Aim) (names : Names) (d : Sections) (m : ℕ) →
+        (y ≡ true → Has (names None) (opened_among p h (cond (not y || u || z) (Becomes m) Absent) c names d))
         → Into (opened_among p h (cond (not y || u || z) (Becomes m) Absent) c names d) → l ≡ cond y (names None) m → Goal
     otherwise_named true u z h c names d m f into e = equals (names None) e (into (names None) (f refl))
     otherwise_named false u z h c names d m f into e = equals m e (into m (behind_stands m d h c names))
 
-    scatter_there : (y : Bool) (h : Here) (c : Aim) (names : Names) (d : Sections) (m : ℕ) → Into (opened_among p h (cond y (Becomes m) Absent) c names d) → There (cond y (Becomes m) Absent)
+    scatter_there : (y : Bool) (h : Here) (c : Aim) (names : Names) (d : Sections) (m : ℕ) →
+        Into (opened_among p h (cond y (Becomes m) Absent) c names d) → There (cond y (Becomes m) Absent)
     scatter_there true h c names d m into = into m (behind_stands m d h c names)
     scatter_there false h c names d m into = tt
 
@@ -373,13 +394,15 @@ module _ (p : Layout) where
         behind (inr m) = h m
 
     mutual
-      pub named : (xs : Forest) (h : Here) (b c : Aim) (r : Arrivals) → There b → There c → Everywhere Fine xs → Into (opened p h b c r xs) → Naming l (opened p h b c r xs) → Goal
+      pub named : (xs : Forest) (h : Here) (b c : Aim) (r : Arrivals) → There b → There c → Everywhere Fine xs → Into (opened p h b c r xs) →
+          Naming l (opened p h b c r xs) → Goal
       named Nil h b c r tb tc i into n = absurd n
       named (Then x xs) h b c r tb tc i into n =
           let y = opened_item p h b c r x in let z = opened p (past_item x h) b c r xs in
           split l y z (λ m. named_item x h b c r tb tc i.0 (into_left y z into) m) (λ m. named xs (past_item x h) b c r tb tc i.1 (into_right y z into) m) n
 
-      named_item : (x : Tree) (h : Here) (b c : Aim) (r : Arrivals) → There b → There c → EverywhereOf Fine x → Into (opened_item p h b c r x) → Naming l (opened_item p h b c r x) → Goal
+      named_item : (x : Tree) (h : Here) (b c : Aim) (r : Arrivals) → There b → There c → EverywhereOf Fine x → Into (opened_item p h b c r x) →
+          Naming l (opened_item p h b c r x) → Goal
       named_item (If t x y) h b c r tb tc i into n =
           let h' = inside (If t x y) h in
           if_named t x y (opened p h' b c r x) (opened p (past x h') b c r y) (jump_of p.plan.live x y) refl i.1
@@ -389,14 +412,18 @@ module _ (p : Layout) where
           let h' = inside (While t a) h in
           let list = opened p h' (Becomes e) (Becomes g) r a in
           let inner : Into (join list (one (Mark g))) = λ m k. into m (inl k) in
-          let run : Naming l (join list (one (Mark g))) → Goal = λ n. split l list (one (Mark g)) (λ m. named a h' (Becomes e) (Becomes g) r (into e (inr (inl refl))) (inner g (has_right g list (one (Mark g)) (inl refl))) i.1 (into_left list (one (Mark g)) inner) m) (λ m. none m) n in
+          let run : Naming l (join list (one (Mark g))) → Goal = λ n. split l list (one (Mark g))
+          (λ m. named a h' (Becomes e) (Becomes g) r (into e (inr (inl refl))) (inner g (has_right g list (one (Mark g)) (inl refl))) i.1
+          (into_left list (one (Mark g)) inner) m) (λ m. none m) n in
           marked_named (Becomes e) run n
       named_item (Do a t) h b c r tb tc i into n =
           let b1 = break_aim p h a in let c1 = continue_aim p h a in
           let h' = inside (Do a t) h in
           let list = opened p h' b1 c1 r a in
           let inner : Into (join list (mark_of c1)) = λ m k. into m (inl k) in
-          let run : Naming l (join list (mark_of c1)) → Goal = λ n. split l list (mark_of c1) (λ m. named a h' b1 c1 r (there b1 (λ m k. into m (inr k))) (there c1 (into_right list (mark_of c1) inner)) i.1 (into_left list (mark_of c1) inner) m) (λ m. no_mark l c1 m) n in
+          let run : Naming l (join list (mark_of c1)) → Goal = λ n. split l list (mark_of c1)
+          (λ m. named a h' b1 c1 r (there b1 (λ m k. into m (inr k))) (there c1 (into_right list (mark_of c1) inner)) i.1
+          (into_left list (mark_of c1) inner) m) (λ m. no_mark l c1 m) n in
           marked_named b1 run n
       named_item (For f t u a) h b c r tb tc i into n =
           let b1 = for_aim p h t a in let c1 = continue_aim p h a in
@@ -407,7 +434,8 @@ module _ (p : Layout) where
           let loop = opened_for t u list b1 c1 in
           let inner : Into (join list more) = λ m k. into_right first loop into m (inl k) in
           let run : Naming l (join list more) → Goal = λ n. split l list more
-          (λ m. named a (past f h') b1 c1 r (there b1 (λ m k. into_right first loop into m (inr k))) (there c1 (into_left (mark_of c1) (third_items u) (into_right list more inner))) i.2 (into_left list more inner) m)
+          (λ m. named a (past f h') b1 c1 r (there b1 (λ m k. into_right first loop into m (inr k)))
+          (there c1 (into_left (mark_of c1) (third_items u) (into_right list more inner))) i.2 (into_left list more inner) m)
           (λ m. split l (mark_of c1) (third_items u) (λ k. no_mark l c1 k) (λ k. no_third l u k) m) n in
           split l first loop (λ m. named f h' b c NoArrival tb tc i.1 (into_left first loop into) m) (λ m. marked_named b1 run m) n
       named_item (Block a) h b c r tb tc i into n = named a h b c r tb tc i.1 into n
@@ -421,10 +449,12 @@ module _ (p : Layout) where
           let o = otherwise_label p.plan h d in
           let inner : Into ys = λ m j. into m (inr (has_right m ts (Then (Goto o) ys) (inr j))) in
           switch_named ts ys o (λ m. inner l (among_stand p.plan.number k h.variable names l d h' b1 c m))
-          (λ m. otherwise_named (has_default (switch_labels d)) (ends_some d) (is_some_number (breaks_in d)) h' c names d (p.plan.break_label h.construct) (λ y. default_among names d h' b1 c y) inner m)
+          (λ m. otherwise_named (has_default (switch_labels d)) (ends_some d) (is_some_number (breaks_in d)) h' c names d
+          (p.plan.break_label h.construct) (λ y. default_among names d h' b1 c y) inner m)
           (λ m. named_among d h' b1 c names (scatter_there (leaves d) h' c names d (p.plan.break_label h.construct) inner) tc i.1 inner m) n
       named_item (Local x None) h b c r tb tc i into n = absurd n
-      named_item (Local x (Some es)) h b c r tb tc i into n = no_assigned l (entry_or no_slot p.plan.slots x).kind x (entry_or no_slot p.plan.slots x).cells es n
+      named_item (Local x (Some es)) h b c r tb tc i into n = no_assigned l (entry_or no_slot p.plan.slots x).kind x
+          (entry_or no_slot p.plan.slots x).cells es n
       named_item Break h b c r tb tc i into n = exit_named b Break (λ m. none m) tb n
       named_item Continue h b c r tb tc i into n = exit_named c Continue (λ m. none m) tc n
       named_item (Goto m) h b c r tb tc i into (inl e) = equals (p.plan.source m) e (sources m i)
@@ -438,7 +468,8 @@ module _ (p : Layout) where
       named_item (Leap m) h b c r tb tc i into n = none n
       named_item (Land m) h b c r tb tc i into n = none n
 
-      named_among : (d : Sections) (h : Here) (b c : Aim) (names : Names) → There b → There c → EverywhereIn Fine d → Into (opened_among p h b c names d) → Naming l (opened_among p h b c names d) → Goal
+      named_among : (d : Sections) (h : Here) (b c : Aim) (names : Names) → There b → There c → EverywhereIn Fine d →
+          Into (opened_among p h b c names d) → Naming l (opened_among p h b c names d) → Goal
       named_among NoSection h b c names tb tc i into n = no_mark l b n
       named_among (Section cases default a ends d) h b c names tb tc i into n =
           let cs = case_marks names cases default in

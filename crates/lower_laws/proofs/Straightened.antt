@@ -20,12 +20,15 @@ module _ (p q : Code) (lo : RewrittenCode IsStraight p q) where
   alike c d (rl_ended n es) = refl
   alike c d (rl_trapped u es) = refl
 
-  start_related : (m : List ℕ) (arguments : List ℤ) (input : List ℕ) (answers : List ℤ) → Related p q lo (start p m arguments input answers) (start q m arguments input answers)
+  start_related : (m : List ℕ) (arguments : List ℤ) (input : List ℕ) (answers : List ℤ) →
+      Related p q lo (start p m arguments input answers) (start q m arguments input answers)
   start_related m arguments input answers =
       let w = world_at_start p input answers in
       let vs = map Integer arguments in
-      subst (λ u. Related p q lo (start p m arguments input answers) (begin_call m (items_of (q.functions m)) (push (q.functions m) vs u) [] u)) (same_world p q lo.globals lo.cells input answers)
-      (subst (λ r. Related p q lo (start p m arguments input answers) (begin_call m (items_of (q.functions m)) r [] w)) (same_push (lo.functions m) vs w) (begins p q lo m (push (p.functions m) vs w) w fr_none))
+      subst (λ u. Related p q lo (start p m arguments input answers) (begin_call m (items_of (q.functions m)) (push (q.functions m) vs u) [] u))
+      (same_world p q lo.globals lo.cells input answers)
+      (subst (λ r. Related p q lo (start p m arguments input answers) (begin_call m (items_of (q.functions m)) r [] w))
+      (same_push (lo.functions m) vs w) (begins p q lo m (push (p.functions m) vs w) w fr_none))
 
   -- ---- entries
 
@@ -44,12 +47,14 @@ module _ (p q : Code) (lo : RewrittenCode IsStraight p q) where
       let h = q.functions m in (
         (λ e. record {
           defined = some_body l e.defined;
-          numbers = subst (λ n. All (λ s. IsNone s.cells) (take n h.slots)) (same_params l) (subst (λ ss. All (λ s. IsNone s.cells) (take f.params ss)) (same_slots l) e.numbers);
+          numbers = subst (λ n. All (λ s. IsNone s.cells) (take n h.slots)) (same_params l)
+              (subst (λ ss. All (λ s. IsNone s.cells) (take f.params ss)) (same_slots l) e.numbers);
           given = e.given ∙ same_params l;
         }),
         (λ e. record {
           defined = body_some l e.defined;
-          numbers = subst (λ n. All (λ s. IsNone s.cells) (take n f.slots)) (sym (same_params l)) (subst (λ ss. All (λ s. IsNone s.cells) (take h.params ss)) (sym (same_slots l)) e.numbers);
+          numbers = subst (λ n. All (λ s. IsNone s.cells) (take n f.slots)) (sym (same_params l))
+              (subst (λ ss. All (λ s. IsNone s.cells) (take h.params ss)) (sym (same_slots l)) e.numbers);
           given = e.given ∙ sym (same_params l);
         }),
       )
@@ -58,7 +63,9 @@ pub of_codes : (p q : Code) → RewrittenCode IsStraight p q → SameBehaviour p
 of_codes p q lo = record {
   entries = entries p q lo;
   runs = λ m arguments e input answers.
-      same (step p) (step q) shows shows (Related p q lo) (λ c. Unit {0}) (λ c. Unit {0}) weight (λ c d r ok. joint p q lo c d r) (alike p q lo) (step_covers p) (step_covers q) (start p m arguments input answers) (start q m arguments input answers) (start_related p q lo m arguments input answers) (λ n. tt);
+      same (step p) (step q) shows shows (Related p q lo) (λ c. Unit {0}) (λ c. Unit {0}) weight (λ c d r ok. joint p q lo c d r) (alike p q lo)
+      (step_covers p) (step_covers q) (start p m arguments input answers) (start q m arguments input answers)
+      (start_related p q lo m arguments input answers) (λ n. tt);
 }
 
 pub of_programs : (p q : Program) → RewrittenTops IsStraight p.tops q.tops → BehaveTheSame p q

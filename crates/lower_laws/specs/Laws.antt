@@ -29,4 +29,5 @@ pub record LoweredLaws : Type 0 where
   -- such a body is one flat list
   pub flat : (f h : FunctionTree) → IsLowered f h → AreFlat (items_of h)
   -- each label of a function so made stands at most once, where that is so in the source and the cases of each switch differ
-  pub once : (number : IntKind → ℤ → ExpressionTree) (params : ℕ) (slots : List Slot) (n : ℕ) (body : Forest) → HasOwnLabels n body → IsOnce (lowered_body number params slots body)
+  pub once : (number : IntKind → ℤ → ExpressionTree) (params : ℕ) (slots : List Slot) (n : ℕ) (body : Forest) → HasOwnLabels n body →
+      IsOnce (lowered_body number params slots body)

@@ -89,7 +89,8 @@ lowered_do p h t a b c = join (do_items t (p.list_label h.construct) (join a (ma
 
 -- a `for` behind its first part; without a test it needs the label behind it for a `break` alone
 abbrev pub lowered_for : Layout → Here → Option ExpressionTree → Option ExpressionTree → Forest → Aim → Aim → Forest
-lowered_for p h (Some t) u a b c = while_items (Source t) (p.head_label h.construct) (p.list_label h.construct) (p.plan.break_label h.construct) (with_third a c u)
+lowered_for p h (Some t) u a b c = while_items (Source t) (p.head_label h.construct) (p.list_label h.construct) (p.plan.break_label h.construct)
+    (with_third a c u)
 lowered_for p h None u a b c = join (ever_items (p.head_label h.construct) (with_third a c u)) (mark_of b)
 
 -- what a `break` of a loop becomes, and its `continue` where that is not in front of the loop
@@ -112,14 +113,17 @@ abbrev mutual
 
   -- what stands in the place of an item
   pub lowered_item : Layout → Here → Aim → Aim → Arrivals → Tree → Forest
-  lowered_item p h b c r (If t x y) = lowered_if p h t (jump_of p.plan.live x y) (lowered p (inside (If t x y) h) b c r x) (lowered p (past x (inside (If t x y) h)) b c r y)
+  lowered_item p h b c r (If t x y) = lowered_if p h t (jump_of p.plan.live x y) (lowered p (inside (If t x y) h) b c r x)
+      (lowered p (past x (inside (If t x y) h)) b c r y)
   lowered_item p h b c r (While t a) =
       while_items t (p.head_label h.construct) (p.list_label h.construct) (p.plan.break_label h.construct)
       (lowered p (inside (While t a) h) (Becomes (p.plan.break_label h.construct)) (Becomes (p.head_label h.construct)) r a)
-  lowered_item p h b c r (Do a t) = lowered_do p h t (lowered p (inside (Do a t) h) (break_aim p h a) (continue_aim p h a) r a) (break_aim p h a) (continue_aim p h a)
+  lowered_item p h b c r (Do a t) = lowered_do p h t (lowered p (inside (Do a t) h) (break_aim p h a) (continue_aim p h a) r a) (break_aim p h a)
+      (continue_aim p h a)
   lowered_item p h b c r (For first t u a) =
       join (lowered p (inside (For first t u a) h) b c NoArrival first)
-      (lowered_for p h t u (lowered p (past first (inside (For first t u a) h)) (for_aim p h t a) (continue_aim p h a) r a) (for_aim p h t a) (continue_aim p h a))
+      (lowered_for p h t u (lowered p (past first (inside (For first t u a) h)) (for_aim p h t a) (continue_aim p h a) r a) (for_aim p h t a)
+      (continue_aim p h a))
   lowered_item p h b c r (Block a) = lowered p h b c r a
   lowered_item p h b c r (Local x None) = Nil
   lowered_item p h b c r (Local x (Some es)) = initialised p.plan x es
@@ -128,13 +132,15 @@ abbrev mutual
   lowered_item p h b c r (Goto l) = one (Goto (p.plan.source l))
   lowered_item p h b c r (Mark l) = mark_if (p.plan.live l) (p.plan.source l)
   lowered_item p h b c r (Arrival e) = arrival r e
-  lowered_item p h b c r (Switch s d) = dissolved p.plan h s d (lowered_among p (inside (Switch s d) h) (scatter_aim p.plan h d) c (names_of p.plan h (switch_kind s) d) d)
+  lowered_item p h b c r (Switch s d) = dissolved p.plan h s d
+      (lowered_among p (inside (Switch s d) h) (scatter_aim p.plan h d) c (names_of p.plan h (switch_kind s) d) d)
   lowered_item p h b c r x = one x
 
   -- the lists of a switch, each behind its labels
   pub lowered_among : Layout → Here → Aim → Aim → Names → Sections → Forest
   lowered_among p h b c names NoSection = mark_of b
-  lowered_among p h b c names (Section cases default a ends d) = join (case_marks names cases default) (join (lowered p h b c (Arrives names) a) (join (end_goto ends b) (lowered_among p (past a h) b c names d)))
+  lowered_among p h b c names (Section cases default a ends d) = join (case_marks names cases default)
+      (join (lowered p h b c (Arrives names) a) (join (end_goto ends b) (lowered_among p (past a h) b c names d)))
 
 -- ---- of a whole function
 

@@ -87,7 +87,12 @@ lowered_names used taken f body =
 pub record IsBodyLowered (used taken : List (List ℕ)) (f : Function) (body : List Item) (h : Function) : Type 0 where
   pub new : List Item
   pub trees : trees_of new ≡ lowered_body constant f.params f.slots (trees_of body)
-  pub whole : h ≡ record f { slots = (lowered_names used taken f (trees_of body)).slots; labels = (lowered_names used taken f (trees_of body)).labels; body = Some new; flat = false }
+  pub whole : h ≡ record f {
+    slots = (lowered_names used taken f (trees_of body)).slots;
+    labels = (lowered_names used taken f (trees_of body)).labels;
+    body = Some new;
+    flat = false;
+  }
 
 -- h is f lowered, where these names are used and taken; a prototype stays as it is
 abbrev pub IsLoweredBeside : List (List ℕ) → List (List ℕ) → Function → Function → Type 0

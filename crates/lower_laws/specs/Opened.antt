@@ -37,8 +37,10 @@ abbrev mutual
 
   -- what stands in the place of an item
   pub opened_item : Layout → Here → Aim → Aim → Arrivals → Tree → Forest
-  opened_item p h b c r (If t x y) = one (opened_if p t (jump_of p.plan.live x y) (opened p (inside (If t x y) h) b c r x) (opened p (past x (inside (If t x y) h)) b c r y))
-  opened_item p h b c r (While t a) = opened_while p h t (opened p (inside (While t a) h) (Becomes (p.plan.break_label h.construct)) (Becomes (p.head_label h.construct)) r a)
+  opened_item p h b c r (If t x y) = one (opened_if p t (jump_of p.plan.live x y) (opened p (inside (If t x y) h) b c r x)
+      (opened p (past x (inside (If t x y) h)) b c r y))
+  opened_item p h b c r (While t a) = opened_while p h t (opened p (inside (While t a) h) (Becomes (p.plan.break_label h.construct))
+      (Becomes (p.head_label h.construct)) r a)
   opened_item p h b c r (Do a t) = opened_do t (opened p (inside (Do a t) h) (break_aim p h a) (continue_aim p h a) r a) (break_aim p h a) (continue_aim p h a)
   opened_item p h b c r (For first t u a) =
       join (opened p (inside (For first t u a) h) b c NoArrival first)
@@ -51,13 +53,15 @@ abbrev mutual
   opened_item p h b c r (Goto l) = one (Goto (p.plan.source l))
   opened_item p h b c r (Mark l) = mark_if (p.plan.live l) (p.plan.source l)
   opened_item p h b c r (Arrival e) = arrival r e
-  opened_item p h b c r (Switch s d) = dissolved p.plan h s d (opened_among p (inside (Switch s d) h) (scatter_aim p.plan h d) c (names_of p.plan h (switch_kind s) d) d)
+  opened_item p h b c r (Switch s d) = dissolved p.plan h s d
+      (opened_among p (inside (Switch s d) h) (scatter_aim p.plan h d) c (names_of p.plan h (switch_kind s) d) d)
   opened_item p h b c r x = one x
 
   -- the lists of a switch, each behind its labels
   pub opened_among : Layout → Here → Aim → Aim → Names → Sections → Forest
   opened_among p h b c names NoSection = mark_of b
-  opened_among p h b c names (Section cases default a ends d) = join (case_marks names cases default) (join (opened p h b c (Arrives names) a) (join (end_goto ends b) (opened_among p (past a h) b c names d)))
+  opened_among p h b c names (Section cases default a ends d) = join (case_marks names cases default)
+      (join (opened p h b c (Arrives names) a) (join (end_goto ends b) (opened_among p (past a h) b c names d)))
 
 abbrev mutual
   -- some goto of a list names the label

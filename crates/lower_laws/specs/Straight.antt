@@ -37,7 +37,8 @@ mutual
     st_goto : (l : ℕ) → Has l A → StraightItem A s (Goto l) (one (Goto (s l)))
     st_mark : (l : ℕ) → StraightItem A s (Mark l) (one (Mark (s l)))
     st_jump_if : (t : ExpressionTree) (l : ℕ) → Has l A → StraightItem A s (jump_if (Source t) l) (one (jump_if (Source t) (s l)))
-    st_if : (t : ExpressionTree) (l e : ℕ) {a a' b b' : Forest} → Straight A s None a a' → Straight A s None b b' → StraightItem A s (If (Source t) a b) (if_items (Source t) l e a' b')
+    st_if : (t : ExpressionTree) (l e : ℕ) {a a' b b' : Forest} → Straight A s None a a' → Straight A s None b b' →
+        StraightItem A s (If (Source t) a b) (if_items (Source t) l e a' b')
     st_do : (t : ExpressionTree) (b : ℕ) {a a' : Forest} → Straight A s None a a' → StraightItem A s (Do a (Source t)) (do_items (Source t) b a')
     st_ever : (h : ℕ) {a a' : Forest} → Straight A s None a a' → StraightItem A s (While (Source (test_or_one None)) a) (ever_items h a')
 
@@ -49,7 +50,8 @@ mutual
     -- declarations without initialisers may come in addition
     sl_declares : {o : Option ℕ} (x : ℕ) {xs xs' : Forest} → Straight A s o xs xs' → Straight A s o xs (Then (Local x None) xs')
     -- a `while` with a label behind it
-    sl_while : {o : Option ℕ} (t : ExpressionTree) (h b e : ℕ) {a a' xs xs' : Forest} → Straight A s (Some h) a a' → Straight A s o xs xs' → Straight A s o (Then (While (Source t) a) (Then (Mark e) xs)) (join (while_items (Source t) h b (s e) a') xs')
+    sl_while : {o : Option ℕ} (t : ExpressionTree) (h b e : ℕ) {a a' xs xs' : Forest} → Straight A s (Some h) a a' → Straight A s o xs xs' →
+        Straight A s o (Then (While (Source t) a) (Then (Mark e) xs)) (join (while_items (Source t) h b (s e) a') xs')
 
 -- ---- functions
 

@@ -116,7 +116,8 @@ module _ (a : Forest) where
 
   given : Everywhere Given a
   given =
-      everywhere_both (Implies IsOther V) (λ x. Implies IsInitialiser OfInitialiser x × Implies IsSelector OfSelector x) a (everywhere_some IsOther V a (λ e s. stays s))
+      everywhere_both (Implies IsOther V) (λ x. Implies IsInitialiser OfInitialiser x × Implies IsSelector OfSelector x) a
+      (everywhere_some IsOther V a (λ e s. stays s))
       (everywhere_both (Implies IsInitialiser OfInitialiser) (Implies IsSelector OfSelector) a
       (everywhere_some IsInitialiser OfInitialiser a (λ d s e h. initialises d s h))
       (everywhere_some IsSelector OfSelector a (λ d s e h. selects d s h)))
@@ -149,7 +150,8 @@ module _ (a : Forest) where
   assigned_have k x None (e ∷ es) w = ((w.0 _ (omega arith), tt), tt)
   assigned_have k x (Some n) es w = cells_have k x 0 es _ w
 
-  chosen : (t : SelectorTree) → OfSelector (selector_source t) → (v : ℕ) → V (assign_number (switch_kind t) v (selector_source t)) × Tests V V C R AnyNote constant (switch_kind t) v
+  chosen : (t : SelectorTree) → OfSelector (selector_source t) → (v : ℕ) →
+      V (assign_number (switch_kind t) v (selector_source t)) × Tests V V C R AnyNote constant (switch_kind t) v
   chosen t i v =
       let b = bracket_most (level_of (selector_source t)) 2 in
       (i (assign_number (switch_kind t) v (selector_source t)) (omega (arith, b)), λ z. made (test_counted (switch_kind t) v (converted (switch_kind t) z)))
@@ -188,12 +190,14 @@ module _ (a : Forest) where
 
   -- ---- each item of the flat list
 
-  others : (x : Tree) → ((e : ExpressionTree) → IsInitialiser e x → ⊥) → ((e : ExpressionTree) → IsSelector e x → ⊥) → ((e : ExpressionTree) → IsOther e x → V e) → ComeFrom a x
+  others : (x : Tree) → ((e : ExpressionTree) → IsInitialiser e x → ⊥) → ((e : ExpressionTree) → IsSelector e x → ⊥) →
+      ((e : ExpressionTree) → IsOther e x → V e) → ComeFrom a x
   others x n m k e (inl i) = absurd (n e i)
   others x n m k e (inr (inl i)) = absurd (m e i)
   others x n m k e (inr (inr i)) = k e i
 
-  none : (x : Tree) → ((e : ExpressionTree) → IsInitialiser e x → ⊥) → ((e : ExpressionTree) → IsSelector e x → ⊥) → ((e : ExpressionTree) → IsOther e x → ⊥) → ComeFrom a x
+  none : (x : Tree) → ((e : ExpressionTree) → IsInitialiser e x → ⊥) → ((e : ExpressionTree) → IsSelector e x → ⊥) →
+      ((e : ExpressionTree) → IsOther e x → ⊥) → ComeFrom a x
   none x n m k = others x n m (λ e i. absurd (k e i))
 
   come : (xs : Forest) → AreFlat xs → Everywhere (ItemHas V V C R AnyNote) xs → Everywhere (ComeFrom a) xs
@@ -207,7 +211,11 @@ module _ (a : Forest) where
       at (fv_local x) i = none (Local x None) (λ e n. n) (λ e n. n) (λ e n. n)
       at (fv_goto l) i = none (Goto l) (λ e n. n) (λ e n. n) (λ e n. n)
       at (fv_mark l) i = none (Mark l) (λ e n. n) (λ e n. n) (λ e n. n)
-      at (fv_jump t l) i = (others (jump_if (Source t) l) (λ e n. n) (λ e n. n) (λ e o. subst V (sym o) i.0), (none (Goto l) (λ e n. n) (λ e n. n) (λ e n. n), tt), tt)
+      at (fv_jump t l) i = (
+        others (jump_if (Source t) l) (λ e n. n) (λ e n. n) (λ e o. subst V (sym o) i.0),
+        (none (Goto l) (λ e n. n) (λ e n. n) (λ e n. n), tt),
+        tt,
+      )
 
 -- ---- functions
 
@@ -221,7 +229,8 @@ module _ (counts : FlatCounts) (ts : List Top) (names file : List (List ℕ)) wh
   abbrev taken : List (List ℕ)
   taken = with_known file
 
-  lowered_comes : (f h : Function) → IsResolvedFunction counts ts f → (body : List Item) → f.body ≡ Some body → IsBodyLowered used taken f body h → TopComesFrom (T.Function f) (T.Function h)
+  lowered_comes : (f h : Function) → IsResolvedFunction counts ts f → (body : List Item) → f.body ≡ Some body → IsBodyLowered used taken f body h →
+      TopComesFrom (T.Function f) (T.Function h)
   lowered_comes f h r body e i =
       let a = trees_of body in
       let k = result counts ts f r used taken body e i.new in
@@ -231,7 +240,8 @@ module _ (counts : FlatCounts) (ts : List Top) (names file : List (List ℕ)) wh
 
   function_comes : (f h : Function) → IsResolvedFunction counts ts f → IsLoweredFunction names file f h → TopComesFrom (T.Function f) (T.Function h)
   function_comes f h r w =
-      either used taken f h (TopComesFrom (T.Function f) (T.Function h)) (λ e i. subst (Everywhere (ComeFrom (body_of f))) (sym (ap body_of i ∙ bodiless f e)) tt) (lowered_comes f h r) w
+      either used taken f h (TopComesFrom (T.Function f) (T.Function h))
+      (λ e i. subst (Everywhere (ComeFrom (body_of f))) (sym (ap body_of i ∙ bodiless f e)) tt) (lowered_comes f h r) w
 
   top_comes : (t u : Top) → IsResolvedTop counts ts t → IsTopLowered names file t u → TopComesFrom t u
   top_comes (T.Function f) (T.Function h) r w = function_comes f h r w.0

@@ -82,7 +82,8 @@ module _ (V O C : ExpressionTree → Type 0) (R : Option ExpressionTree → Type
     test_for_has : (x : ExpressionTree) → AreH (test_for number k v names x)
     test_for_has x = at (constant_value x)
       where
-        at : (o : Option ℤ) → AreH (option_map_or (λ n. one (If (Source (is_number k v (number k n))) (one (Goto (names (Some x)))) Nil)) (option_map (converted k) o) Nil)
+        at : (o : Option ℤ) → AreH (option_map_or (λ n. one (If (Source (is_number k v (number k n))) (one (Goto (names (Some x)))) Nil))
+            (option_map (converted k) o) Nil)
         at None = tt
         at (Some z) = (((holds z, tt), (nothing, tt), tt), tt)
 
@@ -114,8 +115,11 @@ module _ (V O C : ExpressionTree → Type 0) (R : Option ExpressionTree → Type
   -- ---- the items of `if`s and loops
 
   if_have : (t : TestTree) (l e : ℕ) (a b : Forest) → TestExpression V t → AreH a → AreH b → AreH (if_items t l e a b)
-  if_have t l e a b h i j =
-      (goto_has t l h, everywhere_join H b (Then (Goto e) (Then (Mark l) (join a (one (Mark e))))) j (nothing, (nothing, everywhere_join H a (one (Mark e)) i (nothing, tt))))
+  if_have t l e a b h i j = (
+    goto_has t l h,
+    everywhere_join H b (Then (Goto e) (Then (Mark l) (join a (one (Mark e))))) j
+        (nothing, (nothing, everywhere_join H a (one (Mark e)) i (nothing, tt))),
+  )
 
   while_have : (t : TestTree) (l b e : ℕ) (a : Forest) → TestExpression V t → AreH a → AreH (while_items t l b e a)
   while_have t l b e a h i = (nothing, (goto_has t b h, (nothing, (nothing, everywhere_join H a (Then (Goto l) (one (Mark e))) i (nothing, (nothing, tt))))))
@@ -131,7 +135,8 @@ module _ (V O C : ExpressionTree → Type 0) (R : Option ExpressionTree → Type
   if_has p h t None a b v i j = if_have t (p.list_label h.construct) (p.plan.break_label h.construct) a b v i j
 
   with_third_has : (a : Forest) (c : Aim) (u : Option ExpressionTree) → AreH a → IfSome u O → AreH (with_third a c u)
-  with_third_has a c u i j = everywhere_join H a (join (mark_of c) (third_items u)) i (everywhere_join H (mark_of c) (third_items u) (marks_have c) (third_has u j))
+  with_third_has a c u i j = everywhere_join H a (join (mark_of c) (third_items u)) i
+      (everywhere_join H (mark_of c) (third_items u) (marks_have c) (third_has u j))
 
   do_has : (p : Layout) (h : Here) (t : TestTree) (a : Forest) (b c : Aim) → TestExpression V t → AreH a → AreH (lowered_do p h t a b c)
   do_has p h t a b c v i =
@@ -139,9 +144,11 @@ module _ (V O C : ExpressionTree → Type 0) (R : Option ExpressionTree → Type
       (do_have t (p.list_label h.construct) (join a (mark_of c)) v (everywhere_join H a (mark_of c) i (marks_have c))) (marks_have b)
 
   for_has : (p : Layout) (h : Here) (t u : Option ExpressionTree) (a : Forest) (b c : Aim) → IfSome t V → IfSome u O → AreH a → AreH (lowered_for p h t u a b c)
-  for_has p h (Some t) u a b c v j i = while_have (Source t) (p.head_label h.construct) (p.list_label h.construct) (p.plan.break_label h.construct) (with_third a c u) v (with_third_has a c u i j)
+  for_has p h (Some t) u a b c v j i = while_have (Source t) (p.head_label h.construct) (p.list_label h.construct) (p.plan.break_label h.construct)
+      (with_third a c u) v (with_third_has a c u i j)
   for_has p h None u a b c v j i =
-      everywhere_join H (ever_items (p.head_label h.construct) (with_third a c u)) (mark_of b) (ever_have (p.head_label h.construct) (with_third a c u) (with_third_has a c u i j)) (marks_have b)
+      everywhere_join H (ever_items (p.head_label h.construct) (with_third a c u)) (mark_of b)
+      (ever_have (p.head_label h.construct) (with_third a c u) (with_third_has a c u i j)) (marks_have b)
 
   -- ---- along the body
 
@@ -149,37 +156,47 @@ module _ (V O C : ExpressionTree → Type 0) (R : Option ExpressionTree → Type
     -- what a declaration with initialisers becomes has the facts, and of a switch `v = e` and `v == c`
     abbrev pub Becomes_so : Tree → Type 0
     Becomes_so (Local x (Some es)) = AreH (initialised p.plan x es)
-    Becomes_so (Switch t d) = (v : ℕ) → IsVariable s v (switch_kind t) → v < length s.new → O (assign_number (switch_kind t) v (selector_source t)) × Tests p.plan.number (switch_kind t) v
+    Becomes_so (Switch t d) = (v : ℕ) → IsVariable s v (switch_kind t) → v < length s.new →
+        O (assign_number (switch_kind t) v (selector_source t)) × Tests p.plan.number (switch_kind t) v
     Becomes_so _ = Unit {0}
 
     abbrev pub F : Tree → Type 0
     F x = ItemHas V O C R N x × Becomes_so x
 
-    dissolved_has : (h : Here) (t : SelectorTree) (d : Sections) (ys : Forest) → Becomes_so (Switch t d) → IsVariable s h.variable (switch_kind t) → h.variable < length s.new → AreH ys → AreH (dissolved p.plan h t d ys)
+    dissolved_has : (h : Here) (t : SelectorTree) (d : Sections) (ys : Forest) → Becomes_so (Switch t d) → IsVariable s h.variable (switch_kind t) →
+        h.variable < length s.new → AreH ys → AreH (dissolved p.plan h t d ys)
     dissolved_has h t d ys o w b y =
         let k = switch_kind t in
         let names = names_of p.plan h k d in
-        let f = o h.variable w b in
-        ((f.0, tt), everywhere_join H (tests_among p.plan.number k h.variable names d) (Then (Goto (otherwise_label p.plan h d)) ys) (tests_among_have p.plan.number k h.variable names f.1 d) (nothing, y))
+        let f = o h.variable w b in (
+          (f.0, tt),
+          everywhere_join H (tests_among p.plan.number k h.variable names d) (Then (Goto (otherwise_label p.plan h d)) ys)
+              (tests_among_have p.plan.number k h.variable names f.1 d) (nothing, y),
+        )
 
     abbrev Most : ℕ
     Most = length s.new
 
     mutual
-      pub lowered_has : (h : Here) (b e : Aim) (r : Arrivals) (a : Forest) → Everywhere F a → HaveVariables s h a → h.variable + total variables_of a ≤ Most → AreH (lowered p h b e r a)
+      pub lowered_has : (h : Here) (b e : Aim) (r : Arrivals) (a : Forest) → Everywhere F a → HaveVariables s h a →
+          h.variable + total variables_of a ≤ Most → AreH (lowered p h b e r a)
       lowered_has h b e r Nil o v n = tt
       lowered_has h b e r (Then x xs) o v n =
-          everywhere_join H (lowered_item p h b e r x) (lowered p (past_item x h) b e r xs) (item_has h b e r x o.0 v.0 (omega (arith, n))) (lowered_has (past_item x h) b e r xs o.1 v.1 (omega (arith, n)))
+          everywhere_join H (lowered_item p h b e r x) (lowered p (past_item x h) b e r xs) (item_has h b e r x o.0 v.0 (omega (arith, n)))
+          (lowered_has (past_item x h) b e r xs o.1 v.1 (omega (arith, n)))
 
-      item_has : (h : Here) (b e : Aim) (r : Arrivals) (x : Tree) → EverywhereOf F x → HasVariables s h x → h.variable + total_of variables_of x ≤ Most → AreH (lowered_item p h b e r x)
+      item_has : (h : Here) (b e : Aim) (r : Arrivals) (x : Tree) → EverywhereOf F x → HasVariables s h x →
+          h.variable + total_of variables_of x ≤ Most → AreH (lowered_item p h b e r x)
       item_has h b e r (If t x y) o v n =
           let i = inside (If t x y) h in
-          if_has p h t (jump_of p.plan.live x y) (lowered p i b e r x) (lowered p (past x i) b e r y) o.0.0 (lowered_has i b e r x o.1 v.0 (omega (arith, n))) (lowered_has (past x i) b e r y o.2 v.1 (omega (arith, n)))
+          if_has p h t (jump_of p.plan.live x y) (lowered p i b e r x) (lowered p (past x i) b e r y) o.0.0
+          (lowered_has i b e r x o.1 v.0 (omega (arith, n))) (lowered_has (past x i) b e r y o.2 v.1 (omega (arith, n)))
       item_has h b e r (While t a) o v n =
           let i = inside (While t a) h in
           let B = Becomes (p.plan.break_label h.construct) in
           let E = Becomes (p.head_label h.construct) in
-          while_have t (p.head_label h.construct) (p.list_label h.construct) (p.plan.break_label h.construct) (lowered p i B E r a) o.0.0 (lowered_has i B E r a o.1 v (omega (arith, n)))
+          while_have t (p.head_label h.construct) (p.list_label h.construct) (p.plan.break_label h.construct) (lowered p i B E r a) o.0.0
+          (lowered_has i B E r a o.1 v (omega (arith, n)))
       item_has h b e r (Do a t) o v n =
           let i = inside (Do a t) h in
           let B = break_aim p h a in
@@ -203,7 +220,8 @@ module _ (V O C : ExpressionTree → Type 0) (R : Option ExpressionTree → Type
       item_has h b e r (Switch t d) o v n =
           let i = inside (Switch t d) h in
           let names = names_of p.plan h (switch_kind t) d in
-          dissolved_has h t d (lowered_among p i (scatter_aim p.plan h d) e names d) o.0.1 v.0 (omega (arith, n)) (among_has i (scatter_aim p.plan h d) e names d o.1 v.1 (omega (arith, n)))
+          dissolved_has h t d (lowered_among p i (scatter_aim p.plan h d) e names d) o.0.1 v.0 (omega (arith, n))
+          (among_has i (scatter_aim p.plan h d) e names d o.1 v.1 (omega (arith, n)))
       item_has h b e r (Evaluate x) o v n = ((o.0, tt), tt)
       item_has h b e r (Return x) o v n = ((o.0, tt), tt)
       item_has h b e r (Note bs) o v n = ((o.0, tt), tt)
@@ -211,9 +229,13 @@ module _ (V O C : ExpressionTree → Type 0) (R : Option ExpressionTree → Type
       item_has h b e r (Leap l) o v n = (nothing, tt)
       item_has h b e r (Land l) o v n = (nothing, tt)
 
-      among_has : (h : Here) (b e : Aim) (names : Names) (d : Sections) → EverywhereIn F d → HaveVariablesAmong s h d → h.variable + total_in variables_of d ≤ Most → AreH (lowered_among p h b e names d)
+      among_has : (h : Here) (b e : Aim) (names : Names) (d : Sections) → EverywhereIn F d → HaveVariablesAmong s h d →
+          h.variable + total_in variables_of d ≤ Most → AreH (lowered_among p h b e names d)
       among_has h b e names NoSection o v n = marks_have b
       among_has h b e names (Section cases default a ends d) o v n =
-          everywhere_join H (case_marks names cases default) (join (lowered p h b e (Arrives names) a) (join (end_goto ends b) (lowered_among p (past a h) b e names d))) (case_marks_have names cases default)
-          (everywhere_join H (lowered p h b e (Arrives names) a) (join (end_goto ends b) (lowered_among p (past a h) b e names d)) (lowered_has h b e (Arrives names) a o.0 v.0 (omega (arith, n)))
-          (everywhere_join H (end_goto ends b) (lowered_among p (past a h) b e names d) (end_has ends b) (among_has (past a h) b e names d o.1 v.1 (omega (arith, n)))))
+          everywhere_join H (case_marks names cases default)
+          (join (lowered p h b e (Arrives names) a) (join (end_goto ends b) (lowered_among p (past a h) b e names d))) (case_marks_have names cases default)
+          (everywhere_join H (lowered p h b e (Arrives names) a) (join (end_goto ends b) (lowered_among p (past a h) b e names d))
+          (lowered_has h b e (Arrives names) a o.0 v.0 (omega (arith, n)))
+          (everywhere_join H (end_goto ends b) (lowered_among p (past a h) b e names d) (end_has ends b)
+          (among_has (past a h) b e names d o.1 v.1 (omega (arith, n)))))

@@ -67,7 +67,8 @@ pub record AreNewNames (used ms : List (List ℕ)) : Type 0 where
   pub each : Each (IsNewName used) ms
   pub apart : AllDiffer ms
 
-pub switches_new : (k : ℕ) (cs : List (Option IntKind)) (used : List (List ℕ)) → 2 + length (used_behind k cs used) < 2 ^ 64 → AreNewNames used (names_of (more_variables k cs used))
+pub switches_new : (k : ℕ) (cs : List (Option IntKind)) (used : List (List ℕ)) → 2 + length (used_behind k cs used) < 2 ^ 64 →
+    AreNewNames used (names_of (more_variables k cs used))
 switches_new k [] used f = record { each = tt; apart = tt }
 switches_new k (None ∷ cs) used f = switches_new (k + 1) cs used f
 switches_new k (Some kind ∷ cs) used f =
@@ -76,8 +77,18 @@ switches_new k (Some kind ∷ cs) used f =
     let rest = switches_new (k + 1) cs (with_name used w) f in
     let ms = names_of (more_variables (k + 1) cs (with_name used w)) in
     record {
-      each = ((fresh_name used (numbered (codes "switch") k) (numbered_name (codes "switch") k refl), fresh_unused used (numbered (codes "switch") k) (omega (arith, f, g))), new_before used (with_name used w) (grows_with used w) ms rest.each);
-      apart = (each_map (IsNewName (with_name used w)) (λ m. m ≢ w) (λ m i e. in_out (with_name used w) w m (own_with used w) i.1 (sym e)) ms rest.each, rest.apart);
+      each = (
+        (
+          fresh_name used (numbered (codes "switch") k) (numbered_name (codes "switch") k refl),
+          fresh_unused used (numbered (codes "switch") k) (omega (arith, f, g)),
+        ),
+        new_before used (with_name used w) (grows_with used w) ms rest.each,
+      );
+      apart = (
+        each_map (IsNewName (with_name used w)) (λ m. m ≢ w) (λ m i e. in_out (with_name used w) w m (own_with used w) i.1 (sym e)) ms
+            rest.each,
+        rest.apart,
+      );
     }
 
 -- ---- labels
@@ -123,14 +134,18 @@ module _ (labels : List (List ℕ)) (distinct : AllDiffer labels) (own : (l : �
   named used n c cs = at (eqb (c % 7) 0) refl
     where
       at : (b : Bool) → eqb (c % 7) 0 ≡ b → Named used n c cs
-      at true e = of_source ((Decides-eqb (c % 7) 0).0 e) (ap (λ b. cond b (get_or labels (c / 7) [] ∷ label_names labels used n cs) (Low n used ∷ label_names labels (with_name used (Low n used)) (n + 1) cs)) e)
-      at false e = made (ap (λ b. cond b (get_or labels (c / 7) [] ∷ label_names labels used n cs) (Low n used ∷ label_names labels (with_name used (Low n used)) (n + 1) cs)) e)
+      at true e = of_source ((Decides-eqb (c % 7) 0).0 e)
+          (ap (λ b. cond b (get_or labels (c / 7) [] ∷ label_names labels used n cs)
+          (Low n used ∷ label_names labels (with_name used (Low n used)) (n + 1) cs)) e)
+      at false e = made (ap (λ b. cond b (get_or labels (c / 7) [] ∷ label_names labels used n cs)
+          (Low n used ∷ label_names labels (with_name used (Low n used)) (n + 1) cs)) e)
 
   pub labels_length : (used : List (List ℕ)) (n : ℕ) (cs : List ℕ) → length (label_names labels used n cs) ≡ length cs
   labels_length used n [] = refl
   labels_length used n (c ∷ cs) = at (named used n c cs) (labels_length used n cs) (labels_length (with_name used (Low n used)) (n + 1) cs)
     where
-      at : Named used n c cs → length (label_names labels used n cs) ≡ length cs → length (label_names labels (with_name used (Low n used)) (n + 1) cs) ≡ length cs → length (label_names labels used n (c ∷ cs)) ≡ length (c ∷ cs)
+      at : Named used n c cs → length (label_names labels used n cs) ≡ length cs →
+          length (label_names labels (with_name used (Low n used)) (n + 1) cs) ≡ length cs → length (label_names labels used n (c ∷ cs)) ≡ length (c ∷ cs)
       at (of_source e q) i j = ap length q ∙ ap suc i
       at (made q) i j = ap length q ∙ ap suc j
 
@@ -141,7 +156,8 @@ module _ (labels : List (List ℕ)) (distinct : AllDiffer labels) (own : (l : �
   labels_named used n [] h = tt
   labels_named used n (c ∷ cs) h = at (named used n c cs) (labels_named used n cs h.1) (labels_named (with_name used (Low n used)) (n + 1) cs h.1)
     where
-      at : Named used n c cs → Each IsName (label_names labels used n cs) → Each IsName (label_names labels (with_name used (Low n used)) (n + 1) cs) → Each IsName (label_names labels used n (c ∷ cs))
+      at : Named used n c cs → Each IsName (label_names labels used n cs) →
+          Each IsName (label_names labels (with_name used (Low n used)) (n + 1) cs) → Each IsName (label_names labels used n (c ∷ cs))
       at (of_source e q) i j = subst (Each IsName) (sym q) (own (c / 7) (h.0 e), i)
       at (made q) i j = subst (Each IsName) (sym q) (low_name n used, j)
 
@@ -153,26 +169,36 @@ module _ (labels : List (List ℕ)) (distinct : AllDiffer labels) (own : (l : �
   few_more used w c cs f = let h = one_more used w in omega (arith, f, h)
 
   -- no label of these is the used name, where none of the source among them is
-  other_than : (m : List ℕ) (used : List (List ℕ)) (n : ℕ) (cs : List ℕ) → In used m → IsFew used cs → Each (λ c. c % 7 ≡ 0 → get_or labels (c / 7) [] ≢ m) cs → Each (λ y. y ≢ m) (label_names labels used n cs)
+  other_than : (m : List ℕ) (used : List (List ℕ)) (n : ℕ) (cs : List ℕ) → In used m → IsFew used cs →
+      Each (λ c. c % 7 ≡ 0 → get_or labels (c / 7) [] ≢ m) cs → Each (λ y. y ≢ m) (label_names labels used n cs)
   other_than m used n [] i f s = tt
   other_than m used n (c ∷ cs) i f s =
       let w = Low n used in
-      at (named used n c cs) (other_than m used n cs i (omega (arith, f)) s.1) (other_than m (with_name used w) (n + 1) cs ((grows_with used w).0 m i) (few_more used w c cs f) s.1)
+      at (named used n c cs) (other_than m used n cs i (omega (arith, f)) s.1)
+      (other_than m (with_name used w) (n + 1) cs ((grows_with used w).0 m i) (few_more used w c cs f) s.1)
     where
-      at : Named used n c cs → Each (λ y. y ≢ m) (label_names labels used n cs) → Each (λ y. y ≢ m) (label_names labels (with_name used (Low n used)) (n + 1) cs) → Each (λ y. y ≢ m) (label_names labels used n (c ∷ cs))
+      at : Named used n c cs → Each (λ y. y ≢ m) (label_names labels used n cs) →
+          Each (λ y. y ≢ m) (label_names labels (with_name used (Low n used)) (n + 1) cs) → Each (λ y. y ≢ m) (label_names labels used n (c ∷ cs))
       at (of_source e q) j k = subst (Each (λ y. y ≢ m)) (sym q) (s.0 e, j)
-      at (made q) j k = subst (Each (λ y. y ≢ m)) (sym q) (λ e. in_out used m (Low n used) i (fresh_unused used (numbered (codes "low") n) (omega (arith, f))) (sym e), k)
+      at (made q) j k = subst (Each (λ y. y ≢ m)) (sym q) (
+        λ e. in_out used m (Low n used) i
+            (fresh_unused used (numbered (codes "low") n) (omega (arith, f))) (sym e),
+        k,
+      )
 
   seventh : (c d : ℕ) → c % 7 ≡ 0 → d % 7 ≡ 0 → d ≢ c → d / 7 ≢ c / 7
   seventh c d e i n q = n (omega (arith, e, i, q))
 
-  pub labels_apart : (used : List (List ℕ)) (n : ℕ) (cs : List ℕ) → Each (IsCode (length labels)) cs → AllDiffer cs → AreUsed used → IsFew used cs → AllDiffer (label_names labels used n cs)
+  pub labels_apart : (used : List (List ℕ)) (n : ℕ) (cs : List ℕ) → Each (IsCode (length labels)) cs → AllDiffer cs → AreUsed used → IsFew used cs →
+      AllDiffer (label_names labels used n cs)
   labels_apart used n [] h d u f = tt
   labels_apart used n (c ∷ cs) h d u f =
       let w = Low n used in
-      at (named used n c cs) (labels_apart used n cs h.1 d.1 u (omega (arith, f))) (labels_apart (with_name used w) (n + 1) cs h.1 d.1 (used_more used (with_name used w) (grows_with used w) u) (few_more used w c cs f))
+      at (named used n c cs) (labels_apart used n cs h.1 d.1 u (omega (arith, f)))
+      (labels_apart (with_name used w) (n + 1) cs h.1 d.1 (used_more used (with_name used w) (grows_with used w) u) (few_more used w c cs f))
     where
-      sources : c % 7 ≡ 0 → (ds : List ℕ) → Each (IsCode (length labels)) ds → Each (λ y. y ≢ c) ds → Each (λ x. x % 7 ≡ 0 → get_or labels (x / 7) [] ≢ get_or labels (c / 7) []) ds
+      sources : c % 7 ≡ 0 → (ds : List ℕ) → Each (IsCode (length labels)) ds → Each (λ y. y ≢ c) ds →
+          Each (λ x. x % 7 ≡ 0 → get_or labels (x / 7) [] ≢ get_or labels (c / 7) []) ds
       sources e [] k j = tt
       sources e (x ∷ ds) k j = (λ i. differ_at labels (x / 7) (c / 7) distinct (k.0 i) (h.0 e) (seventh c x e i j.0), sources e ds k.1 j.1)
 
@@ -180,8 +206,13 @@ module _ (labels : List (List ℕ)) (distinct : AllDiffer labels) (own : (l : �
       of_used w o [] k = tt
       of_used w o (x ∷ ds) k = (λ i. in_out used (get_or labels (x / 7) []) w (u (x / 7) (k.0 i)) o, of_used w o ds k.1)
 
-      at : Named used n c cs → AllDiffer (label_names labels used n cs) → AllDiffer (label_names labels (with_name used (Low n used)) (n + 1) cs) → AllDiffer (label_names labels used n (c ∷ cs))
-      at (of_source e q) i j = subst AllDiffer (sym q) (other_than (get_or labels (c / 7) []) used n cs (u (c / 7) (h.0 e)) (omega (arith, f)) (sources e cs h.1 d.0), i)
+      at : Named used n c cs → AllDiffer (label_names labels used n cs) → AllDiffer (label_names labels (with_name used (Low n used)) (n + 1) cs) →
+          AllDiffer (label_names labels used n (c ∷ cs))
+      at (of_source e q) i j = subst AllDiffer (sym q) (
+        other_than (get_or labels (c / 7) []) used n cs (u (c / 7) (h.0 e)) (omega (arith, f))
+            (sources e cs h.1 d.0),
+        i,
+      )
       at (made q) i j =
           let w = Low n used in
           let o = fresh_unused used (numbered (codes "low") n) (omega (arith, f)) in

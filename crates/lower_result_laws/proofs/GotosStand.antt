@@ -19,7 +19,8 @@ abbrev AtHead : Option ℕ → ℕ → Type 0
 AtHead o l = o ≡ Some l
 
 module _ (A : Forest) (s : ℕ → ℕ) (l : ℕ) where
-  front_of : (m : ℕ) (o : Option ℕ) (ys zs : Forest) → Has (s l) ys ⊎ AtHead (Some m) (s l) → (Has (s l) ys → Has (s l) zs) → (s l ≡ m → Has (s l) zs) → Has (s l) zs ⊎ AtHead o (s l)
+  front_of : (m : ℕ) (o : Option ℕ) (ys zs : Forest) → Has (s l) ys ⊎ AtHead (Some m) (s l) → (Has (s l) ys → Has (s l) zs) →
+      (s l ≡ m → Has (s l) zs) → Has (s l) zs ⊎ AtHead o (s l)
   front_of m o ys zs (inl n) f g = inl (f n)
   front_of m o ys zs (inr e) f g = inl (g (same m (s l) e))
     where
@@ -65,7 +66,8 @@ module _ (A : Forest) (s : ℕ → ℕ) (l : ℕ) where
     stands_in (st_jump_if t m i) (inl (inr n)) = absurd n
     stands_in (st_jump_if t m i) (inr n) = absurd n
     stands_in (st_if t m e {a' = a'} {b' = b'} fa fb) (inl n) =
-        in_list a' (if_items (Source t) m e a' b') (stands fa n) (λ q. inr (has_right (s l) b' (Then (Goto e) (Then (Mark m) (join a' (one (Mark e))))) (inr (inr (has_left (s l) a' (one (Mark e)) q)))))
+        in_list a' (if_items (Source t) m e a' b') (stands fa n)
+        (λ q. inr (has_right (s l) b' (Then (Goto e) (Then (Mark m) (join a' (one (Mark e))))) (inr (inr (has_left (s l) a' (one (Mark e)) q)))))
     stands_in (st_if t m e {a' = a'} {b' = b'} fa fb) (inr n) =
         in_list b' (if_items (Source t) m e a' b') (stands fb n) (λ q. inr (has_left (s l) b' (Then (Goto e) (Then (Mark m) (join a' (one (Mark e))))) q))
     stands_in (st_do t b {a' = a'} fa) n = in_list a' (do_items (Source t) b a') (stands fa n) (λ q. inr (has_left (s l) a' (one (jump_if (Source t) b)) q))
@@ -125,12 +127,25 @@ module _ (A : Forest) (s : ℕ → ℕ) (Q : ℕ → Type 0) (known : (l : ℕ) 
         let end = join a' (one (Mark e)) in
         let tail = Then (Goto e) (Then (Mark l) end) in (
           (tt, (f l (inr (has_right l b' tail (inr (inl refl)))), tt), tt),
-          everywhere_join (OfGoto Q) b' tail (gotos fb (λ m n. f m (inr (has_left m b' tail n))))
-              (f e (inr (has_right e b' tail (inr (inr (has_right e a' (one (Mark e)) (inl refl)))))), (tt, everywhere_join (OfGoto Q) a' (one (Mark e)) (gotos fa (λ m n. f m (inr (has_right m b' tail (inr (inr (has_left m a' (one (Mark e)) n))))))) (tt, tt))),
+          everywhere_join (OfGoto Q) b' tail (gotos fb (λ m n. f m (inr (has_left m b' tail n)))) (
+            f e (inr (has_right e b' tail (inr (inr (has_right e a' (one (Mark e)) (inl refl)))))),
+            (
+              tt,
+              everywhere_join (OfGoto Q) a' (one (Mark e))
+                  (gotos fa (λ m n. f m (inr (has_right m b' tail (inr (inr (has_left m a' (one (Mark e)) n))))))) (tt, tt),
+            ),
+          ),
         )
-    gotos_in (st_do t b {a' = a'} fa) f =
-        (tt, everywhere_join (OfGoto Q) a' (one (jump_if (Source t) b)) (gotos fa (λ m n. f m (inr (has_left m a' (one (jump_if (Source t) b)) n)))) ((tt, (f b (inl refl), tt), tt), tt))
-    gotos_in (st_ever h {a' = a'} fa) f = (tt, everywhere_join (OfGoto Q) a' (one (Goto h)) (gotos fa (λ m n. f m (inr (has_left m a' (one (Goto h)) n)))) (f h (inl refl), tt))
+    gotos_in (st_do t b {a' = a'} fa) f = (
+      tt,
+      everywhere_join (OfGoto Q) a' (one (jump_if (Source t) b)) (gotos fa (λ m n. f m (inr (has_left m a' (one (jump_if (Source t) b)) n))))
+          ((tt, (f b (inl refl), tt), tt), tt),
+    )
+    gotos_in (st_ever h {a' = a'} fa) f = (
+      tt,
+      everywhere_join (OfGoto Q) a' (one (Goto h))
+          (gotos fa (λ m n. f m (inr (has_left m a' (one (Goto h)) n)))) (f h (inl refl), tt),
+    )
 
 -- ---- of a lowered function
 

@@ -85,23 +85,32 @@ module _ (used taken : List (List ℕ)) (f : Function) (a : Forest) where
   slots_are = ap (λ (n : Named). n.slots) (variables_are 1 (constructs a) blocks)
 
   pub slots_extend : ExtendSlots f.slots (lowered_names used taken f a).slots
-  slots_extend = subst (ExtendSlots f.slots) (sym slots_are) (extended switches (kinds (constructs a)) (more_numbers 1 (constructs a) blocks.used) f.params taken used f.slots)
+  slots_extend = subst (ExtendSlots f.slots) (sym slots_are)
+      (extended switches (kinds (constructs a)) (more_numbers 1 (constructs a) blocks.used) f.params taken used f.slots)
 
   pub have_variables : f.params ≤ length f.slots → HaveVariables (setting f a (lowered_names used taken f a).slots) (first_here (length f.slots)) a
   have_variables params =
       let l = named_length f.params taken used f.slots in
       let s = setting f a (lowered_names used taken f a).slots in
-      have s (first_here (length f.slots)) (length blocks.slots) a (sym l) (at_numbers s blocks.slots switches (kinds (constructs a)) (more_numbers 1 (constructs a) blocks.used) slots_are (omega (arith, params, l)) (omega (arith, l)))
+      have s (first_here (length f.slots)) (length blocks.slots) a (sym l)
+      (at_numbers s blocks.slots switches (kinds (constructs a)) (more_numbers 1 (constructs a) blocks.used) slots_are (omega (arith, params, l))
+      (omega (arith, l)))
 
 -- ---- a function of a resolved program
 
-module _ (counts : FlatCounts) (ts : List Top) (f : Function) (r : IsResolvedFunction counts ts f) (used taken : List (List ℕ)) (old : List Item) (there : f.body ≡ Some old) where
+module _ (counts : FlatCounts) (ts : List Top) (f : Function) (r : IsResolvedFunction counts ts f) (used taken : List (List ℕ)) (old : List Item)
+    (there : f.body ≡ Some old) where
   abbrev pub body : Forest
   body = body_of f
 
   -- what it is lowered to, with this body
   abbrev pub result : List Item → Function
-  result new = record f { slots = (lowered_names used taken f (trees_of old)).slots; labels = (lowered_names used taken f (trees_of old)).labels; body = Some new; flat = false }
+  result new = record f {
+    slots = (lowered_names used taken f (trees_of old)).slots;
+    labels = (lowered_names used taken f (trees_of old)).labels;
+    body = Some new;
+    flat = false;
+  }
 
   module _ (new : List Item) (trees : trees_of new ≡ lowered_body constant f.params f.slots (trees_of old)) where
     abbrev h : Function
@@ -121,7 +130,8 @@ module _ (counts : FlatCounts) (ts : List Top) (f : Function) (r : IsResolvedFun
           labels = λ l. refl;
           slots = λ x b. stay x b.1;
           number = refl;
-          items = subst (λ z. Everywhere (IsSourceItem s (is_named z)) z) (body_is f old there) (function_source counts ts f s r (record { old = refl; params = refl; cells = stay }));
+          items = subst (λ z. Everywhere (IsSourceItem s (is_named z)) z) (body_is f old there)
+              (function_source counts ts f s r (record { old = refl; params = refl; cells = stay }));
           variables = have_variables used taken f a r.form.parameters;
           bound = ap (λ z. is_empty (arrivals z)) (sym (body_is f old there)) ∙ function_calm counts ts f r;
         }
@@ -147,7 +157,8 @@ module _ (counts : FlatCounts) (ts : List Top) (f : Function) (r : IsResolvedFun
       source = subst (IsSourceBody (layout_of f a) (setting f a h.slots) (first_here (length f.slots))) (sym same) source;
       unbroken = ap breaks same ∙ unbound.0;
       uncontinued = ap continues same ∙ unbound.1;
-      body = trees ∙ ap (λ z. join (declarations f.params (length f.slots - f.params + total variables_of a)) (lowered (layout_of f a) (first_here (length f.slots)) Stays Stays NoArrival z)) (sym same);
+      body = trees ∙ ap (λ z. join (declarations f.params (length f.slots - f.params + total variables_of a))
+          (lowered (layout_of f a) (first_here (length f.slots)) Stays Stays NoArrival z)) (sym same);
       named = λ l i. subst (Has l) (sym same) (made_laws.named (length f.labels) a good l i);
       once = subst IsOnce (sym same) (made_laws.once (length f.labels) a good);
       new_once = subst IsOnce (sym trees) (lowered_laws.once constant f.params f.slots (length f.labels) a own);

@@ -54,7 +54,8 @@ are_declarations base end x (suc n) = one_more (variable x) (are_declarations ba
 
 -- ---- a lowered function, in the scopes of its file
 
-module _ (f : Function) (params : f.params ≤ length f.slots) (used taken : List (List ℕ)) (a : Forest) (ts : List Top) (own : HasOwnNames ts (record f { slots = new_slots f params used taken a })) (file : List Scope) (no_slots : (n : List ℕ) → IsNoSlot (look_up file n))
+module _ (f : Function) (params : f.params ≤ length f.slots) (used taken : List (List ℕ)) (a : Forest) (ts : List Top)
+    (own : HasOwnNames ts (record f { slots = new_slots f params used taken a })) (file : List Scope) (no_slots : (n : List ℕ) → IsNoSlot (look_up file n))
     (unbound : (n : List ℕ) → IsFreeIn ts n → is_known n ≡ false → look_up file n ≡ None) where
   abbrev G : List Slot
   G = new_slots f params used taken a
@@ -90,9 +91,13 @@ module _ (f : Function) (params : f.params ≤ length f.slots) (used taken : Lis
   nowhere : Each (λ k. IsNowhere (slot_name G k)) ks
   nowhere =
       let D = drop P G in
-      let besides = each_map (λ (s : Slot). Each (λ (t : Slot). t.name ≢ s.name) (take P G)) (λ s. found s.name parameters ≡ None) (λ s d. found_beside P 0 G [] s.name d) D own.beside in
-      let free = each_map (λ (s : Slot). IsFreeIn ts s.name × (is_known s.name ≡ false)) (λ s. look_up file s.name ≡ None) (λ s d. unbound s.name d.0 d.1) D (each_both (λ (s : Slot). IsFreeIn ts s.name) (λ s. is_known s.name ≡ false) D own.free own.unknown) in
-      each_under (slot_name G) IsNowhere ks (subst (Each IsNowhere) (sym names) (each_name IsNowhere D (each_both (λ (s : Slot). found s.name parameters ≡ None) (λ s. look_up file s.name ≡ None) D besides free)))
+      let besides = each_map (λ (s : Slot). Each (λ (t : Slot). t.name ≢ s.name) (take P G)) (λ s. found s.name parameters ≡ None)
+      (λ s d. found_beside P 0 G [] s.name d) D own.beside in
+      let free = each_map (λ (s : Slot). IsFreeIn ts s.name × (is_known s.name ≡ false)) (λ s. look_up file s.name ≡ None)
+      (λ s d. unbound s.name d.0 d.1) D (each_both (λ (s : Slot). IsFreeIn ts s.name) (λ s. is_known s.name ≡ false) D own.free own.unknown) in
+      each_under (slot_name G) IsNowhere ks
+      (subst (Each IsNowhere) (sym names)
+      (each_name IsNowhere D (each_both (λ (s : Slot). found s.name parameters ≡ None) (λ s. look_up file s.name ≡ None) D besides free)))
 
   slot_bound : (k : ℕ) → P ≤ k → k < length G → look_up last (slot_name G k) ≡ Some (AVariable (Home.Slot k))
   slot_bound k i j =
@@ -100,7 +105,8 @@ module _ (f : Function) (params : f.params ≤ length f.slots) (used taken : Lis
       ap (λ o. option_or o (look_up file (slot_name G k))) (found_declared G P (length G - P) parameters k i (omega (arith, i, j, w)) distinct)
 
   others : (n : List ℕ) (b : Meaning) → look_up base n ≡ Some b → look_up last n ≡ Some b
-  others n b e = ap (λ o. option_or o (look_up file n)) (found_undeclared G ks parameters n (each_map (λ k. IsNowhere (slot_name G k)) (λ k. slot_name G k ≢ n) differ ks nowhere)) ∙ e
+  others n b e = ap (λ o. option_or o (look_up file n)) (found_undeclared G ks parameters n
+      (each_map (λ k. IsNowhere (slot_name G k)) (λ k. slot_name G k ≢ n) differ ks nowhere)) ∙ e
     where
       differ : (k : ℕ) → IsNowhere (slot_name G k) → slot_name G k ≢ n
       differ k w q = none_some b (sym ((λ i. option_or (w.0 i) (w.1 i))) ∙ ap (look_up base) q ∙ e)
@@ -119,7 +125,8 @@ module _ (f : Function) (params : f.params ≤ length f.slots) (used taken : Lis
       at (parameter j i b q) =
           let s = slot_some k j (sym e ∙ ap (λ o. option_or o (look_up file (slot_name f.slots k))) q) in
           first_name k P f.slots G (same_parameters f params used taken a) (omega (arith, b, s))
-      at (before q) = absurd (no_file (look_up file (slot_name f.slots k)) (no_slots (slot_name f.slots k)) (sym (ap (λ o. option_or o (look_up file (slot_name f.slots k))) q) ∙ e))
+      at (before q) = absurd (no_file (look_up file (slot_name f.slots k)) (no_slots (slot_name f.slots k))
+          (sym (ap (λ o. option_or o (look_up file (slot_name f.slots k))) q) ∙ e))
 
   -- ---- what lowering makes is bound
 
@@ -143,17 +150,20 @@ module _ (f : Function) (params : f.params ≤ length f.slots) (used taken : Lis
       at false true = (tt, ((tt, (tt, tt)), (tt, tt)))
       at false false = (tt, (tt, tt))
 
-  cells_bound : (k : IntKind) (x i : ℕ) (es : List ExpressionTree) (n : ℕ) → P ≤ x → x < length G → AllByRecursion A es → AreBoundItems (assigned_cells k x i es n)
+  cells_bound : (k : IntKind) (x i : ℕ) (es : List ExpressionTree) (n : ℕ) → P ≤ x → x < length G → AllByRecursion A es →
+      AreBoundItems (assigned_cells k x i es n)
   cells_bound k x i (e ∷ es) n l b j = (((slot_bound x l b, ((tt, tt), j.0)), tt), cells_bound k x (suc i) es n l b j.1)
   cells_bound k x i [] zero l b j = tt
   cells_bound k x i [] (suc n) l b j = (((slot_bound x l b, ((tt, tt), (tt, tt))), tt), cells_bound k x (suc i) [] n l b tt)
 
-  assigned_bound : (k : IntKind) (x : ℕ) (o : Option ℕ) (es : List ExpressionTree) → P ≤ x → x < length G → AllByRecursion A es → AreBoundItems (assigned k x o es)
+  assigned_bound : (k : IntKind) (x : ℕ) (o : Option ℕ) (es : List ExpressionTree) → P ≤ x → x < length G → AllByRecursion A es →
+      AreBoundItems (assigned k x o es)
   assigned_bound k x None [] l b j = tt
   assigned_bound k x None (e ∷ es) l b j = (((slot_bound x l b, (tt, j.0)), tt), tt)
   assigned_bound k x (Some n) es l b j = cells_bound k x 0 es _ l b j
 
-  selects : (t : SelectorTree) → A (selector_source t) → (v : ℕ) → IsVariable (setting f a G) v (switch_kind t) → v < length G → A (assign_number (switch_kind t) v (selector_source t)) × Tests A A A Returns AnyNote constant (switch_kind t) v
+  selects : (t : SelectorTree) → A (selector_source t) → (v : ℕ) → IsVariable (setting f a G) v (switch_kind t) → v < length G →
+      A (assign_number (switch_kind t) v (selector_source t)) × Tests A A A Returns AnyNote constant (switch_kind t) v
   selects t i v w b =
       let n = w.new in
       let there = slot_bound v n.0 b in
@@ -187,18 +197,22 @@ module _ (f : Function) (params : f.params ≤ length f.slots) (used taken : Lis
       at (fv_mark l) i = (tt, tt)
       at (fv_jump t l) i = (i.0, ((tt, tt), tt), tt)
 
-  pub lowered_bound : AreBound f.slots (with_parameters P 0 f.slots (inside file)) a → Everywhere (DeclaresIn P (length f.slots)) a → AreFlat (list f params used taken a) → AreBound G (with_parameters P 0 G (inside file)) (join (front f params used taken a) (list f params used taken a))
+  pub lowered_bound : AreBound f.slots (with_parameters P 0 f.slots (inside file)) a → Everywhere (DeclaresIn P (length f.slots)) a →
+      AreFlat (list f params used taken a) → AreBound G (with_parameters P 0 G (inside file)) (join (front f params used taken a) (list f params used taken a))
   lowered_bound bound declares flat =
       let D = front f params used taken a in
       let L = list f params used taken a in
       let n = slots_length f params used taken a in
-      let source = source_seen f.slots G P (length f.slots) base last (λ k i j. slot_bound k i (omega (arith, j, n))) others named a (subst (λ sc. AreBound f.slots sc a) same_base bound) declares in
-      let given = everywhere_map (λ x. HasNames x × DeclaresIn P (length f.slots) x) FromSource from_source a (everywhere_both HasNames (DeclaresIn P (length f.slots)) a source declares) in
+      let source = source_seen f.slots G P (length f.slots) base last (λ k i j. slot_bound k i (omega (arith, j, n))) others named a
+      (subst (λ sc. AreBound f.slots sc a) same_base bound) declares in
+      let given = everywhere_map (λ x. HasNames x × DeclaresIn P (length f.slots) x) FromSource from_source a
+      (everywhere_both HasNames (DeclaresIn P (length f.slots)) a source declares) in
       let nothing = binds L flat (list_has f params used taken a A A A Returns AnyNote given) in
       let is_declared = are_declarations 0 0 P (length f.slots - P + total variables_of a) in
       let numbers = declared P (length f.slots - P + total variables_of a) ∙ ap (numbers_from P) (omega (arith, n, params)) in
       let behind = declarations_bind G _ _ D parameters file is_declared ∙ ap (λ l. declared_scope G l parameters ∷ file) numbers in
       let first = declarations_bound G _ _ D parameters file is_declared (subst (λ l. AllDiffer (map (slot_name G) l)) (sym numbers) distinct)
-      (subst (Each (λ k. found (slot_name G k) parameters ≡ None)) (sym numbers) (each_map (λ k. IsNowhere (slot_name G k)) (λ k. found (slot_name G k) parameters ≡ None) (λ k i. i.0) ks nowhere)) in
+      (subst (Each (λ k. found (slot_name G k) parameters ≡ None)) (sym numbers)
+      (each_map (λ k. IsNowhere (slot_name G k)) (λ k. found (slot_name G k) parameters ≡ None) (λ k i. i.0) ks nowhere)) in
       let whole = bound_join G D L base first (subst (λ sc. AreBound G sc L) (sym behind) (one_scope G last L nothing)) in
       subst (λ sc. AreBound G sc (join D L)) (sym (parameters_bound P 0 G [] file)) whole

@@ -47,7 +47,8 @@ module _ (f : Function) (params : f.params ≤ length f.slots) (used taken : Lis
     pub list_has : Everywhere Source a → AreH V O C R N list
     list_has k =
         let e = slots_length in
-        lowered_has V O C R N (setting f a new_slots) (layout_of f a) (first_here (length f.slots)) Stays Stays NoArrival a k (have_variables used taken f a params) (omega (arith, e))
+        lowered_has V O C R N (setting f a new_slots) (layout_of f a) (first_here (length f.slots)) Stays Stays NoArrival a k
+        (have_variables used taken f a params) (omega (arith, e))
 
     declarations_have : (x n : ℕ) → Everywhere (ItemHas V O C R N) (declarations x n)
     declarations_have x zero = tt

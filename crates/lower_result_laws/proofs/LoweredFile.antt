@@ -46,9 +46,13 @@ module _ (counts : FlatCounts) (p : Program) (few : length (names p) ≤ most_he
     pub among : AreAmong (top_names t) (names p)
     pub modest : IsModestTop t
 
-  pub known : (ts : List Top) → Each (IsResolvedTop counts p.tops) ts → Each TopIsSpelled ts → Each IsModestTop ts → AreAmong (tops_names ts) (names p) → Each Known ts
+  pub known : (ts : List Top) → Each (IsResolvedTop counts p.tops) ts → Each TopIsSpelled ts → Each IsModestTop ts →
+      AreAmong (tops_names ts) (names p) → Each Known ts
   known [] r s m a = tt
-  known (t ∷ ts) r s m a = (record { resolved = r.0; spelled = s.0; among = among_left (top_names t) (tops_names ts) (names p) a; modest = m.0 }, known ts r.1 s.1 m.1 (among_right (top_names t) (tops_names ts) (names p) a))
+  known (t ∷ ts) r s m a = (
+    record { resolved = r.0; spelled = s.0; among = among_left (top_names t) (tops_names ts) (names p) a; modest = m.0 },
+    known ts r.1 s.1 m.1 (among_right (top_names t) (tops_names ts) (names p) a),
+  )
 
   abbrev used : List (List ℕ)
   used = with_known (names p)
@@ -121,11 +125,13 @@ module _ (counts : FlatCounts) (p : Program) (few : length (names p) ≤ most_he
           untangled = untangled;
         }
 
-    function_resolved : (f h : Function) → IsTopLowered (names p) (file_names p) (T.Function f) (T.Function h) → Known (T.Function f) → IsUntangled counts' h → IsResolvedFunction counts' us h
+    function_resolved : (f h : Function) → IsTopLowered (names p) (file_names p) (T.Function f) (T.Function h) → Known (T.Function f) →
+        IsUntangled counts' h → IsResolvedFunction counts' us h
     function_resolved f h w k =
         either used taken f h (IsUntangled counts' h → IsResolvedFunction counts' us h)
         (λ e i. subst (λ j. IsUntangled counts' j → IsResolvedFunction counts' us j) (sym i) (declared_function f e k.resolved))
-        (λ old there b. subst (λ j. IsUntangled counts' j → IsResolvedFunction counts' us j) (sym b.whole) (F.function_resolved counts p f k.resolved k.spelled k.among few old there b.new b.trees us file counts')) w.0
+        (λ old there b. subst (λ j. IsUntangled counts' j → IsResolvedFunction counts' us j) (sym b.whole)
+        (F.function_resolved counts p f k.resolved k.spelled k.among few old there b.new b.trees us file counts')) w.0
 
     top_resolved : (t u : Top) → IsTopLowered (names p) (file_names p) t u → Known t → IsTopUntangled counts' u → IsResolvedTop counts' us u
     top_resolved (T.Function f) (T.Function h) w k o = function_resolved f h w k o
@@ -138,7 +144,8 @@ module _ (counts : FlatCounts) (p : Program) (few : length (names p) ≤ most_he
     top_resolved (T.Global g) u w k o = subst (IsResolvedTop counts' us) (sym w) (global_top g _ k.resolved)
     top_resolved (T.Note bytes) u w k o = subst (IsResolvedTop counts' us) (sym w) tt
 
-    tops_resolved : {ts vs : List Top} → LoweredTops (names p) (file_names p) ts vs → Each Known ts → Each (IsTopUntangled counts') vs → Each (IsResolvedTop counts' us) vs
+    tops_resolved : {ts vs : List Top} → LoweredTops (names p) (file_names p) ts vs → Each Known ts → Each (IsTopUntangled counts') vs →
+        Each (IsResolvedTop counts' us) vs
     tops_resolved lt_none k o = tt
     tops_resolved (lt_more {t = t} {u = u} w ws) k o = (top_resolved t u w k.0 o.0, tops_resolved ws k.1 o.1)
 
@@ -146,7 +153,8 @@ module _ (counts : FlatCounts) (p : Program) (few : length (names p) ≤ most_he
 
   function_spelled : (f h : Function) → IsTopLowered (names p) (file_names p) (T.Function f) (T.Function h) → Known (T.Function f) → FunctionIsSpelled h
   function_spelled f h w k =
-      either used taken f h (length h.slots ≤ most_held → length h.labels ≤ most_held → FunctionIsSpelled h) (λ e i held labels. subst FunctionIsSpelled (sym i) k.spelled)
+      either used taken f h (length h.slots ≤ most_held → length h.labels ≤ most_held → FunctionIsSpelled h)
+      (λ e i held labels. subst FunctionIsSpelled (sym i) k.spelled)
       (λ old there b. subst (λ j. length j.slots ≤ most_held → length j.labels ≤ most_held → FunctionIsSpelled j) (sym b.whole)
       (λ held labels. F.function_spelled counts p f k.resolved k.spelled k.among few old there b.new b.trees held labels k.modest)) w.0 w.1 w.2
 
@@ -168,16 +176,20 @@ module _ (counts : FlatCounts) (p : Program) (few : length (names p) ≤ most_he
   -- ---- scopes
 
   module _ (ss : List Scope) (o : AreOfFile p.tops ss) where
-    function_bound : (f h : Function) → IsTopLowered (names p) (file_names p) (T.Function f) (T.Function h) → Known (T.Function f) → ((n : List ℕ) → IsFree p.tops n → TopIsOther n (T.Function f)) → FunctionIsBound f ss → FunctionIsBound h ss
+    function_bound : (f h : Function) → IsTopLowered (names p) (file_names p) (T.Function f) (T.Function h) → Known (T.Function f) →
+        ((n : List ℕ) → IsFree p.tops n → TopIsOther n (T.Function f)) → FunctionIsBound f ss → FunctionIsBound h ss
     function_bound f h w k d b =
         either used taken f h (length h.slots ≤ most_held → FunctionIsBound h ss) (λ e i held. subst (λ j. FunctionIsBound j ss) (sym i) b)
         (λ old there l. subst (λ j. length j.slots ≤ most_held → FunctionIsBound j ss) (sym l.whole) (λ held. (
         let file = behind_top ss (T.Function f) in
         let scope = top_file p.tops (T.Function f) ss d o in
-        let body = F.function_bound counts p f k.resolved k.spelled k.among few old there l.new l.trees held file scope.no_slots (λ n free unknown. scope.unbound n (free, unknown)) (body_bound f file f.body refl b.body) in
-        function_over f (F.h counts p f k.resolved k.spelled k.among few old there l.new l.trees) ss (F.same_declaration counts p f k.resolved k.spelled k.among few old there l.new l.trees) b body))) w.0 w.1
+        let body = F.function_bound counts p f k.resolved k.spelled k.among few old there l.new l.trees held file scope.no_slots
+        (λ n free unknown. scope.unbound n (free, unknown)) (body_bound f file f.body refl b.body) in
+        function_over f (F.h counts p f k.resolved k.spelled k.among few old there l.new l.trees) ss
+        (F.same_declaration counts p f k.resolved k.spelled k.among few old there l.new l.trees) b body))) w.0 w.1
 
-    top_bound : (t u : Top) → IsTopLowered (names p) (file_names p) t u → Known t → ((n : List ℕ) → IsFree p.tops n → TopIsOther n t) → TopIsBound ss t → TopIsBound ss u
+    top_bound : (t u : Top) → IsTopLowered (names p) (file_names p) t u → Known t → ((n : List ℕ) → IsFree p.tops n → TopIsOther n t) →
+        TopIsBound ss t → TopIsBound ss u
     top_bound (T.Function f) (T.Function h) w k d b = function_bound f h w k d b
     top_bound (T.Function f) (T.Include bytes) w k d b = absurd w
     top_bound (T.Function f) (T.Enum xs) w k d b = absurd w
@@ -199,14 +211,19 @@ module _ (counts : FlatCounts) (p : Program) (few : length (names p) ≤ most_he
     same_behind (T.Global g) u w k = ap (behind_top ss) w
     same_behind (T.Note bytes) u w k = ap (behind_top ss) w
 
-  tops_bound : {ts us : List Top} (ss : List Scope) → AreOfFile p.tops ss → LoweredTops (names p) (file_names p) ts us → Each Known ts → ((n : List ℕ) → IsFree p.tops n → IsFreeIn ts n) → TopsAreBound ss ts → TopsAreBound ss us
+  tops_bound : {ts us : List Top} (ss : List Scope) → AreOfFile p.tops ss → LoweredTops (names p) (file_names p) ts us → Each Known ts →
+      ((n : List ℕ) → IsFree p.tops n → IsFreeIn ts n) → TopsAreBound ss ts → TopsAreBound ss us
   tops_bound ss o lt_none k d b = tt
-  tops_bound ss o (lt_more {t = t} {u = u} {us = us} w ws) k d b =
-      (top_bound ss o t u w k.0 (λ n f. (d n f).0) b.0, subst (λ sc. TopsAreBound sc us) (sym (same_behind ss o t u w k.0)) (tops_bound (behind_top ss t) (top_file p.tops t ss (λ n f. (d n f).0) o) ws k.1 (λ n f. (d n f).1) b.1))
+  tops_bound ss o (lt_more {t = t} {u = u} {us = us} w ws) k d b = (
+    top_bound ss o t u w k.0 (λ n f. (d n f).0) b.0,
+    subst (λ sc. TopsAreBound sc us) (sym (same_behind ss o t u w k.0))
+        (tops_bound (behind_top ss t) (top_file p.tops t ss (λ n f. (d n f).0) o) ws k.1 (λ n f. (d n f).1) b.1),
+  )
 
 -- ---- the whole
 
-pub lowered_is_resolved : (counts counts' : FlatCounts) (p q : Program) → IsResolvedWith counts p → IsLoweredProgram p q → Each IsModestTop p.tops → Each (IsTopUntangled counts') q.tops → IsResolvedWith counts' q
+pub lowered_is_resolved : (counts counts' : FlatCounts) (p q : Program) → IsResolvedWith counts p → IsLoweredProgram p q → Each IsModestTop p.tops →
+    Each (IsTopUntangled counts') q.tops → IsResolvedWith counts' q
 lowered_is_resolved counts counts' p q r w modest untangled =
     let ks = known counts p w.held p.tops r.tops r.spelled modest (λ n h. rising-members (tops_names p.tops) n ∙ h) in
     let same = same_file counts p w.held w.tops ks in

@@ -117,7 +117,8 @@ makes f a = record {
 
 -- ---- a function of a resolved program, and what it is lowered to
 
-module _ (counts : FlatCounts) (ts : List Top) (f : Function) (r : IsResolvedFunction counts ts f) (used taken : List (List ℕ)) (old : List Item) (there : f.body ≡ Some old) where
+module _ (counts : FlatCounts) (ts : List Top) (f : Function) (r : IsResolvedFunction counts ts f) (used taken : List (List ℕ)) (old : List Item)
+    (there : f.body ≡ Some old) where
   abbrev params : f.params ≤ length f.slots
   params = r.form.parameters
 
@@ -137,9 +138,11 @@ module _ (counts : FlatCounts) (ts : List Top) (f : Function) (r : IsResolvedFun
   known_labels = subst (Everywhere (ItemLabels (λ l. l < length f.labels))) (body_is f old there) (function_ranged counts ts f r).labels
 
   placed : Placed codes (coded constant f.slots source) (λ l. l < length f.labels) (IsCode (length f.labels)) (makes f source) codes (marks L)
-  placed = marks_both codes (coded constant f.slots source) (λ l. l < length f.labels) (IsCode (length f.labels)) (makes f source) (first_here (length f.slots)) source known_labels
+  placed = marks_both codes (coded constant f.slots source) (λ l. l < length f.labels) (IsCode (length f.labels)) (makes f source)
+      (first_here (length f.slots)) source known_labels
 
-  codes_known : (xs ys : List ℕ) → Placed codes (coded constant f.slots source) (λ l. l < length f.labels) (IsCode (length f.labels)) (makes f source) xs ys → Each (IsCode (length f.labels)) xs × AtPlaces codes xs ys
+  codes_known : (xs ys : List ℕ) → Placed codes (coded constant f.slots source) (λ l. l < length f.labels) (IsCode (length f.labels)) (makes f source)
+      xs ys → Each (IsCode (length f.labels)) xs × AtPlaces codes xs ys
   codes_known [] [] h = (tt, tt)
   codes_known (x ∷ xs) (y ∷ ys) h = let i = codes_known xs ys h.2 in ((h.0, i.0), (h.1, i.1))
   codes_known [] (y ∷ ys) h = absurd h

@@ -113,11 +113,15 @@ module _ (slots : List Slot) where
 
   declared_there : (x n : ℕ) → x + n ≤ length slots → Everywhere (IsInitialised slots) (declarations x n)
   declared_there x zero b = tt
-  declared_there x (suc n) b = (subst (λ o. IsSomeAnd o (λ (r : Slot). Unit {0})) (sym (entry_there slots x (omega (arith, b)))) tt, declared_there (suc x) n (omega (arith, b)))
+  declared_there x (suc n) b = (
+    subst (λ o. IsSomeAnd o (λ (r : Slot). Unit {0})) (sym (entry_there slots x (omega (arith, b)))) tt,
+    declared_there (suc x) n (omega (arith, b)),
+  )
 
 -- ---- a function of a resolved program, lowered with the names of the program
 
-module _ (counts : FlatCounts) (p : Program) (f : Function) (r : IsResolvedFunction counts p.tops f) (s : FunctionIsSpelled f) (among : AreAmong (function_names f) (names p)) (few : length (names p) ≤ most_held) (old : List Item) (there : f.body ≡ Some old)
+module _ (counts : FlatCounts) (p : Program) (f : Function) (r : IsResolvedFunction counts p.tops f) (s : FunctionIsSpelled f)
+    (among : AreAmong (function_names f) (names p)) (few : length (names p) ≤ most_held) (old : List Item) (there : f.body ≡ Some old)
     (new : List Item) (trees : trees_of new ≡ lowered_body constant f.params f.slots (trees_of old)) where
   abbrev used : List (List ℕ)
   used = with_known (names p)
@@ -148,7 +152,14 @@ module _ (counts : FlatCounts) (p : Program) (f : Function) (r : IsResolvedFunct
   same = body_is f old there
 
   pub same_declaration : SameDeclaration f h
-  same_declaration = record { name = refl; result = refl; file_only = refl; params = refl; parameters = same_parameters f params used taken a; body = ap is_some (sym there) }
+  same_declaration = record {
+    name = refl;
+    result = refl;
+    file_only = refl;
+    params = refl;
+    parameters = same_parameters f params used taken a;
+    body = ap is_some (sym there);
+  }
 
   -- ---- labels
 
@@ -168,7 +179,8 @@ module _ (counts : FlatCounts) (p : Program) (f : Function) (r : IsResolvedFunct
   as_many = ap length labels_are ∙ labels_length f.labels s.labels own_label end 1 codes
 
   labels_are_names : Each IsName h.labels
-  labels_are_names = subst (Each IsName) (sym labels_are) (labels_named f.labels s.labels own_label end 1 codes (are_codes counts p.tops f r used taken old there))
+  labels_are_names = subst (Each IsName) (sym labels_are) (labels_named f.labels s.labels own_label end 1 codes
+      (are_codes counts p.tops f r used taken old there))
 
   labels_differ : length h.slots ≤ most_held → length h.labels ≤ most_held → AllDiffer h.labels
   labels_differ held labels =
@@ -176,7 +188,8 @@ module _ (counts : FlatCounts) (p : Program) (f : Function) (r : IsResolvedFunct
       let l = slots_length f params used taken a in
       let m = as_many in
       subst AllDiffer (sym labels_are)
-      (labels_apart f.labels s.labels own_label end 1 codes (are_codes counts p.tops f r used taken old there) (codes_apart counts p.tops f r used taken old there new trees)
+      (labels_apart f.labels s.labels own_label end 1 codes (are_codes counts p.tops f r used taken old there)
+      (codes_apart counts p.tops f r used taken old there new trees)
       (O.labels_used_then counts p f r s among few old there held) (omega (arith, n, l, m, held, labels, few)))
 
   -- ---- the body
@@ -223,12 +236,14 @@ module _ (counts : FlatCounts) (p : Program) (f : Function) (r : IsResolvedFunct
         record {
           form = lowered_form counts p.tops f r used taken old there new trees as_many undeclaring;
           kinds = subst (Everywhere (ItemAgrees N)) (sym trees) (everywhere_map (Agrees N f.result) (ItemAgrees N) (λ x g. g.0) (join D L) agreeing);
-          returns = subst (Everywhere (ReturnFits f.result)) (sym trees) (everywhere_map (Agrees N f.result) (ReturnFits f.result) (λ x g. g.1.1) (join D L) agreeing);
+          returns = subst (Everywhere (ReturnFits f.result)) (sym trees)
+              (everywhere_map (Agrees N f.result) (ReturnFits f.result) (λ x g. g.1.1) (join D L) agreeing);
           cases = subst (Everywhere HasCases) (sym trees) (flat_cases (join D L) whole_flat);
           consts = subst (Everywhere (KeepsConsts N)) (sym trees) (everywhere_map (Agrees N f.result) (KeepsConsts N) (λ x g. g.1.0) (join D L) agreeing);
           lengths = record { parameters = lengths.0; others = lengths.1 };
           initialised = subst (Everywhere (IsInitialised G)) (sym trees)
-              (everywhere_join (IsInitialised G) D L (declared_there G f.params (length f.slots - f.params + total variables_of a) (omega (arith, n, params))) (uninitialised G L flat undeclaring));
+              (everywhere_join (IsInitialised G) D L (declared_there G f.params (length f.slots - f.params + total variables_of a)
+              (omega (arith, n, params))) (uninitialised G L flat undeclaring));
           untangled = untangled;
         }
 
@@ -242,24 +257,31 @@ module _ (counts : FlatCounts) (p : Program) (f : Function) (r : IsResolvedFunct
         let parameters = same_parameters f params used taken a in
         let marked = list_marks counts p.tops f r used taken old there new trees as_many in
         let below = everywhere_right D L gotos in
-        let items = lowered_spelled f params used taken a p.tops own lengths.1 h refl labels_are_names source_body.items (subst (Everywhere IsModestItem) same modest) (subst (Everywhere (IsInitialised f.slots)) same r.initialised)
+        let items = lowered_spelled f params used taken a p.tops own lengths.1 h refl labels_are_names source_body.items
+        (subst (Everywhere IsModestItem) same modest) (subst (Everywhere (IsInitialised f.slots)) same r.initialised)
         (subst (Everywhere (DeclaresIn f.params (length f.slots))) same (declares_in counts p.tops f r)) flat below marked in
         record {
           named = s.named;
           parameters = subst ParametersPrint (sym parameters) s.parameters;
           all_named = λ some. subst (Each HasName) (sym parameters) (s.all_named (ap is_some there));
           labels = labels_differ held labels;
-          body = record { items = subst (AreSpelled h) (sym trees) items; shallow = subst (λ b. 1 + depth b ≤ most) (sym trees) (flat_shallow (join D L) whole_flat) };
+          body = record {
+            items = subst (AreSpelled h) (sym trees) items;
+            shallow = subst (λ b. 1 + depth b ≤ most) (sym trees) (flat_shallow (join D L) whole_flat);
+          };
         }
       where
         everywhere_right : (xs ys : Forest) → Everywhere (OfGoto (λ l. l < length h.labels)) (join xs ys) → Everywhere (OfGoto (λ l. l < length h.labels)) ys
         everywhere_right Nil ys g = g
         everywhere_right (Then x xs) ys g = everywhere_right xs ys g.1
 
-    pub function_bound : (file : List Scope) → ((n : List ℕ) → IsNoSlot (look_up file n)) → ((n : List ℕ) → IsFreeIn p.tops n → is_known n ≡ false → look_up file n ≡ None)
-        → AreBound f.slots (with_parameters f.params 0 f.slots (inside file)) (body_of f) → AreBound G (with_parameters f.params 0 G (inside file)) (trees_of new)
+    pub function_bound : (file : List Scope) → ((n : List ℕ) → IsNoSlot (look_up file n)) →
+        ((n : List ℕ) → IsFreeIn p.tops n → is_known n ≡ false → look_up file n ≡ None)
+        → AreBound f.slots (with_parameters f.params 0 f.slots (inside file)) (body_of f) →
+        AreBound G (with_parameters f.params 0 G (inside file)) (trees_of new)
     function_bound file no_slots unbound bound =
         let own = O.variables_own counts p f r s among few old there held in
         subst (AreBound G (with_parameters f.params 0 G (inside file))) (sym trees)
-        (lowered_bound f params used taken a p.tops own file no_slots unbound (subst (AreBound f.slots (with_parameters f.params 0 f.slots (inside file))) same bound)
+        (lowered_bound f params used taken a p.tops own file no_slots unbound
+        (subst (AreBound f.slots (with_parameters f.params 0 f.slots (inside file))) same bound)
         (subst (Everywhere (DeclaresIn f.params (length f.slots))) same (declares_in counts p.tops f r)) flat)

@@ -56,19 +56,29 @@ module _ (k : Names) (result : Option IntKind) where
   abbrev AreKinds : Forest → Type 0
   AreKinds a = AreH (Value k) (Operand k) (Known k) (Returned k result) AnyNote a
 
-  cells_have : (kind : IntKind) (x i : ℕ) (es : List ExpressionTree) (m : ℕ) → IsFreeArray k x kind → i + length es + m ≤ 1024 → AllByRecursion (Value k) es → AreKinds (assigned_cells kind x i es m)
-  cells_have kind x i (e ∷ es) m a h v = ((value_operand k _ (cell_known k x i kind e a (small_in i (omega (arith, h))) v.0), tt), cells_have kind x (suc i) es m a (omega (arith, h)) v.1)
+  cells_have : (kind : IntKind) (x i : ℕ) (es : List ExpressionTree) (m : ℕ) → IsFreeArray k x kind → i + length es + m ≤ 1024 →
+      AllByRecursion (Value k) es → AreKinds (assigned_cells kind x i es m)
+  cells_have kind x i (e ∷ es) m a h v = (
+    (value_operand k _ (cell_known k x i kind e a (small_in i (omega (arith, h))) v.0), tt),
+    cells_have kind x
+        (suc i) es m a (omega (arith, h)) v.1,
+  )
   cells_have kind x i [] zero a h v = tt
-  cells_have kind x i [] (suc m) a h v = ((value_operand k _ (cell_known k x i kind _ a (small_in i (omega (arith, h))) (number_known k Int (pos 0) (small_in 0 (omega arith)))), tt), cells_have kind x (suc i) [] m a (omega (arith, h)) tt)
+  cells_have kind x i [] (suc m) a h v = (
+    (value_operand k _ (cell_known k x i kind _ a (small_in i (omega (arith, h))) (number_known k Int (pos 0) (small_in 0 (omega arith)))), tt),
+    cells_have kind x (suc i) [] m a (omega (arith, h)) tt,
+  )
 
-  assigned_have : (kind : IntKind) (x : ℕ) (o : Option ℕ) (es : List ExpressionTree) → (o ≡ None → IsFreeNumber k x kind) → (IsSome o → IsFreeArray k x kind) → AreInitialisers 1024 o es → AllByRecursion (Value k) es → AreKinds (assigned kind x o es)
+  assigned_have : (kind : IntKind) (x : ℕ) (o : Option ℕ) (es : List ExpressionTree) → (o ≡ None → IsFreeNumber k x kind) →
+      (IsSome o → IsFreeArray k x kind) → AreInitialisers 1024 o es → AllByRecursion (Value k) es → AreKinds (assigned kind x o es)
   assigned_have kind x None [] n a i v = tt
   assigned_have kind x None (e ∷ es) n a i v = ((value_operand k _ (assign_known k x kind e (n refl) v.0), tt), tt)
   assigned_have kind x (Some c) es n a i v = let l = i.0 in let q = i.1 in cells_have kind x 0 es (c - length es) (a refl) (omega (arith, l, q)) v
 
 -- ---- of a function of a resolved program
 
-module _ (counts : FlatCounts) (ts : List Top) (f : Function) (r : IsResolvedFunction counts ts f) (used taken : List (List ℕ)) (k : Names) (slots : k.slots ≡ new_slots f r.form.parameters used taken (body_of f)) (kept : KeepsNames (names_in ts f) k) where
+module _ (counts : FlatCounts) (ts : List Top) (f : Function) (r : IsResolvedFunction counts ts f) (used taken : List (List ℕ)) (k : Names)
+    (slots : k.slots ≡ new_slots f r.form.parameters used taken (body_of f)) (kept : KeepsNames (names_in ts f) k) where
   abbrev params : f.params ≤ length f.slots
   params = r.form.parameters
 
@@ -78,26 +88,34 @@ module _ (counts : FlatCounts) (ts : List Top) (f : Function) (r : IsResolvedFun
   abbrev FromSource : Tree → Type 0
   FromSource x = Source f params used taken a (Value k) (Operand k) (Known k) (Returned k f.result) AnyNote x
 
-  selects : (t : SelectorTree) → Value k (selector_source t) → (v : ℕ) → IsVariable (setting f a (new_slots f params used taken a)) v (switch_kind t) → v < length (new_slots f params used taken a)
-      → Operand k (assign_number (switch_kind t) v (selector_source t)) × Tests (Value k) (Operand k) (Known k) (Returned k f.result) AnyNote constant (switch_kind t) v
+  selects : (t : SelectorTree) → Value k (selector_source t) → (v : ℕ) →
+      IsVariable (setting f a (new_slots f params used taken a)) v (switch_kind t) → v < length (new_slots f params used taken a)
+      → Operand k (assign_number (switch_kind t) v (selector_source t)) ×
+      Tests (Value k) (Operand k) (Known k) (Returned k f.result) AnyNote constant (switch_kind t) v
   selects t s v w b =
       let kind = switch_kind t in
-      let free = switch_free f params used taken a k slots v kind w b in
-      (value_operand k _ (assign_known k v kind (selector_source t) free s), λ z. test_known k v kind z (promoted_twice (operand_kind (kind_of (selector_source t)))) free)
+      let free = switch_free f params used taken a k slots v kind w b in (
+        value_operand k _ (assign_known k v kind (selector_source t) free s),
+        λ z. test_known k v kind z (promoted_twice (operand_kind (kind_of (selector_source t)))) free,
+      )
 
-  local_has : (x : ℕ) (es : List ExpressionTree) → IsInitialised f.slots (Local x (Some es)) → f.params ≤ x → AllByRecursion (Value k) es → AreKinds k f.result (initialised (layout_of f a).plan x es)
+  local_has : (x : ℕ) (es : List ExpressionTree) → IsInitialised f.slots (Local x (Some es)) → f.params ≤ x → AllByRecursion (Value k) es →
+      AreKinds k f.result (initialised (layout_of f a).plan x es)
   local_has x es i p v = at (slice_get f.slots x) refl i
     where
-      at : (o : Option Slot) → slice_get f.slots x ≡ o → IsSomeAnd o (λ (s : Slot). AreInitialisers 1024 s.cells es) → AreKinds k f.result (initialised (layout_of f a).plan x es)
+      at : (o : Option Slot) → slice_get f.slots x ≡ o → IsSomeAnd o (λ (s : Slot). AreInitialisers 1024 s.cells es) →
+          AreKinds k f.result (initialised (layout_of f a).plan x es)
       at None e j = absurd j
       at (Some s) e j =
           let b = slice_get_within f.slots x s e in
           let there = entry_there f.slots x b in
           let own = entry_or no_slot f.slots x in
-          assigned_have k f.result own.kind x own.cells es (λ c. block_number f params used taken a k slots x own there p c) (λ c. block_array f params used taken a k slots x own there p c)
+          assigned_have k f.result own.kind x own.cells es (λ c. block_number f params used taken a k slots x own there p c)
+          (λ c. block_array f params used taken a k slots x own there p c)
           (initialisers s (sym e ∙ there) j) v
         where
-          initialisers : (s : Slot) → Some s ≡ Some (entry_or no_slot f.slots x) → AreInitialisers 1024 s.cells es → AreInitialisers 1024 (entry_or no_slot f.slots x).cells es
+          initialisers : (s : Slot) → Some s ≡ Some (entry_or no_slot f.slots x) → AreInitialisers 1024 s.cells es →
+              AreInitialisers 1024 (entry_or no_slot f.slots x).cells es
           initialisers s q j = subst (λ c. AreInitialisers 1024 c es) (ap cells_in q) j
 
   abbrev Given : Tree → Type 0

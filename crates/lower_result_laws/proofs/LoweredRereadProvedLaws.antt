@@ -21,7 +21,8 @@ lowered : (counts : limits.FlatCounts) (p q : Program) → IsResolvedWith counts
 lowered counts p q r w m = unmeasured counted q (lowered_resolved_laws.uncounted counts p q r w m) (lowered_resolved_laws.text counts p q r w)
 
 reads_back : (p q : Program) → IsResolved p → IsLoweredProgram p q → IsModest p → Each (IsTopUntangled flat_counts) q.tops → reading counted (text_of q) ≡ Ok q
-reads_back p q r w m o = reading_back_laws.resolved q (lowered_resolved_laws.resolved flat_counts flat_counts p q r w m o) (lowered_resolved_laws.text flat_counts p q r w)
+reads_back p q r w m o = reading_back_laws.resolved q (lowered_resolved_laws.resolved flat_counts flat_counts p q r w m o)
+    (lowered_resolved_laws.text flat_counts p q r w)
 
 pub lowered_reading_laws : LoweredReadingLaws
 lowered_reading_laws = record { one = one_lowering; unmeasured = unmeasured; lowered = lowered; reads_back = reads_back }

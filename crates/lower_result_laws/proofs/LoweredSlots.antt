@@ -47,19 +47,24 @@ module _ (f : Function) (params : f.params ≤ length f.slots) (used taken : Lis
   pub same_parameters : take f.params G ≡ take f.params f.slots
   same_parameters =
       ap (take f.params) (slots_are used taken f a)
-      ∙ first_same (switches used taken f a) (kinds (constructs a)) (more_numbers 1 (constructs a) (blocks used taken f a).used) f.params taken used f.slots params
+      ∙ first_same (switches used taken f a) (kinds (constructs a)) (more_numbers 1 (constructs a) (blocks used taken f a).used) f.params taken used
+      f.slots params
 
   -- no other variable is const
   pub others_free : AllByRecursion IsFree (drop f.params G)
   others_free =
       subst (λ ss. AllByRecursion IsFree (drop f.params ss)) (sym (slots_are used taken f a))
-      (free_behind (switches used taken f a) (kinds (constructs a)) (more_numbers 1 (constructs a) (blocks used taken f a).used) f.params taken used f.slots params)
+      (free_behind (switches used taken f a) (kinds (constructs a)) (more_numbers 1 (constructs a) (blocks used taken f a).used) f.params taken used
+      f.slots params)
 
   pub slots_kept : KeepsSlots f.slots G
   slots_kept = extended f.params f.slots G (slots_extend used taken f a) same_parameters others_free
 
   pub lengths_kept : HasLengths f → AreLengths IsParameterLength (take f.params G) × AreLengths IsLength (drop f.params G)
-  lengths_kept l = (subst (AreLengths IsParameterLength) (sym same_parameters) l.parameters, extended_lengths f.params f.slots G (slots_extend used taken f a) l.others)
+  lengths_kept l = (
+    subst (AreLengths IsParameterLength) (sym same_parameters) l.parameters,
+    extended_lengths f.params f.slots G (slots_extend used taken f a) l.others,
+  )
 
   slot_free : (x : ℕ) (s : Slot) → f.params ≤ x → slice_get G x ≡ Some s → s.constant ≡ false
   slot_free x s p e = in_drop IsFree f.params G x s others_free p e

@@ -113,7 +113,9 @@ length_prints (Some n) h = let b = h.1 in omega (arith, b)
 
 -- ---- a lowered function
 
-module _ (f : Function) (params : f.params ≤ length f.slots) (used taken : List (List ℕ)) (a : Forest) (ts : List Top) (own : HasOwnNames ts (record f { slots = new_slots f params used taken a })) (lengths : AreLengths IsLength (drop f.params (new_slots f params used taken a))) where
+module _ (f : Function) (params : f.params ≤ length f.slots) (used taken : List (List ℕ)) (a : Forest) (ts : List Top)
+    (own : HasOwnNames ts (record f { slots = new_slots f params used taken a }))
+    (lengths : AreLengths IsLength (drop f.params (new_slots f params used taken a))) where
   abbrev G : List Slot
   G = new_slots f params used taken a
 
@@ -150,20 +152,29 @@ module _ (f : Function) (params : f.params ≤ length f.slots) (used taken : Lis
   assign_prints : (k : IntKind) (x : ℕ) (e : ExpressionTree) → f.params ≤ x → x < length G → E e → IsModestOne e → E (assign_number k x e)
   assign_prints k x e p b i m = record { prints = (name_at x p b, i.prints); few = omega (arith, m) }
 
-  cells_print : (k : IntKind) (x i : ℕ) (es : List ExpressionTree) (n : ℕ) → f.params ≤ x → x < length G → i + length es + n ≤ 1024 → AllByRecursion E es → AllByRecursion IsModestOne es → ArePrinted (assigned_cells k x i es n)
+  cells_print : (k : IntKind) (x i : ℕ) (es : List ExpressionTree) (n : ℕ) → f.params ≤ x → x < length G → i + length es + n ≤ 1024 →
+      AllByRecursion E es → AllByRecursion IsModestOne es → ArePrinted (assigned_cells k x i es n)
   cells_print k x i (e ∷ es) n p b s j m =
       let o = m.0 in
-      let q = j.0 in
-      ((record { prints = ((name_at x p b, omega (arith, s)), q.prints); few = omega (arith, o) }, tt), cells_print k x (suc i) es n p b (omega (arith, s)) j.1 m.1)
+      let q = j.0 in (
+        (record { prints = ((name_at x p b, omega (arith, s)), q.prints); few = omega (arith, o) }, tt),
+        cells_print k x (suc i) es n p b (omega (arith, s)) j.1 m.1,
+      )
   cells_print k x i [] zero p b s j m = tt
-  cells_print k x i [] (suc n) p b s j m = ((record { prints = ((name_at x p b, omega (arith, s)), omega arith); few = omega arith }, tt), cells_print k x (suc i) [] n p b (omega (arith, s)) tt tt)
+  cells_print k x i [] (suc n) p b s j m = (
+    (record { prints = ((name_at x p b, omega (arith, s)), omega arith); few = omega arith }, tt),
+    cells_print
+        k x (suc i) [] n p b (omega (arith, s)) tt tt,
+  )
 
-  assigned_print : (k : IntKind) (x : ℕ) (o : Option ℕ) (es : List ExpressionTree) → f.params ≤ x → x < length G → AreInitialisers 1024 o es → AllByRecursion E es → AllByRecursion IsModestOne es → ArePrinted (assigned k x o es)
+  assigned_print : (k : IntKind) (x : ℕ) (o : Option ℕ) (es : List ExpressionTree) → f.params ≤ x → x < length G → AreInitialisers 1024 o es →
+      AllByRecursion E es → AllByRecursion IsModestOne es → ArePrinted (assigned k x o es)
   assigned_print k x None [] p b s j m = tt
   assigned_print k x None (e ∷ es) p b s j m = ((assign_prints k x e p b j.0 m.0, tt), tt)
   assigned_print k x (Some c) es p b s j m = let l = s.0 in let q = s.1 in cells_print k x 0 es (c - length es) p b (omega (arith, l, q)) j m
 
-  selects : (t : SelectorTree) → E (selector_source t) → counted (selector_source t) ≤ 398 → (v : ℕ) → IsVariable (setting f a G) v (switch_kind t) → v < length G
+  selects : (t : SelectorTree) → E (selector_source t) → counted (selector_source t) ≤ 398 → (v : ℕ) → IsVariable (setting f a G) v (switch_kind t) →
+      v < length G
       → E (assign_number (switch_kind t) v (selector_source t)) × Tests E E (C f.slots G names_over) (OptionPrints G) IsComment constant (switch_kind t) v
   selects t i m v w b =
       let n = w.new in
@@ -171,7 +182,15 @@ module _ (f : Function) (params : f.params ≤ length f.slots) (used taken : Lis
       let o = bracket_most (level_of (selector_source t)) 2 in
       let name = name_at v n.0 b in (
         record { prints = (name, i.prints); few = omega (arith, m, o) },
-        λ z. (let c = case_counted k v (converted k z) in record { prints = (name, constant_prints G k (converted k z) (promoted_twice (operand_kind (kind_of (selector_source t)))) (converted-in_range k z)); few = omega (arith, c) }),
+        λ z. (let c = case_counted k v (converted k z) in
+            record {
+              prints = (
+                name,
+                constant_prints G k (converted k z) (promoted_twice (operand_kind (kind_of (selector_source t))))
+                    (converted-in_range k z),
+              );
+              few = omega (arith, c);
+            }),
       )
 
   abbrev FromSource : Tree → Type 0
@@ -180,14 +199,16 @@ module _ (f : Function) (params : f.params ≤ length f.slots) (used taken : Lis
   abbrev Given : Tree → Type 0
   Given x = (HasText x × IsModestItem x) × (IsInitialised f.slots x × DeclaresIn f.params (length f.slots) x)
 
-  local_prints : (x : ℕ) (es : List ExpressionTree) → IsInitialised f.slots (Local x (Some es)) → f.params ≤ x → x < length f.slots → AllByRecursion E es → AllByRecursion IsModestOne es → ArePrinted (initialised (layout_of f a).plan x es)
+  local_prints : (x : ℕ) (es : List ExpressionTree) → IsInitialised f.slots (Local x (Some es)) → f.params ≤ x → x < length f.slots →
+      AllByRecursion E es → AllByRecursion IsModestOne es → ArePrinted (initialised (layout_of f a).plan x es)
   local_prints x es i p b j m = at (slice_get f.slots x) refl i
     where
       cells_in : Option Slot → Option ℕ
       cells_in None = None
       cells_in (Some s) = s.cells
 
-      at : (o : Option Slot) → slice_get f.slots x ≡ o → IsSomeAnd o (λ (s : Slot). AreInitialisers 1024 s.cells es) → ArePrinted (initialised (layout_of f a).plan x es)
+      at : (o : Option Slot) → slice_get f.slots x ≡ o → IsSomeAnd o (λ (s : Slot). AreInitialisers 1024 s.cells es) →
+          ArePrinted (initialised (layout_of f a).plan x es)
       at None e q = absurd q
       at (Some s) e q =
           let n = slots_length f params used taken a in
@@ -226,7 +247,8 @@ module _ (f : Function) (params : f.params ≤ length f.slots) (used taken : Lis
     spelled_flat Nil w p g m = tt
     spelled_flat (Then x xs) w p g m = at (view x w.0) p.0 g.0 m (λ n. spelled_flat xs w.1 p.1 g.1 n)
       where
-        at : {y : Tree} → FlatView y → EverywhereOf (H E E (C f.slots G names_over) (OptionPrints G) IsComment) y → EverywhereOf (OfGoto Below) y → Each Below (marks (Then y xs)) → (Each Below (marks xs) → AreSpelled h xs) → AreSpelled h (Then y xs)
+        at : {y : Tree} → FlatView y → EverywhereOf (H E E (C f.slots G names_over) (OptionPrints G) IsComment) y → EverywhereOf (OfGoto Below) y →
+            Each Below (marks (Then y xs)) → (Each Below (marks xs) → AreSpelled h xs) → AreSpelled h (Then y xs)
         at (fv_evaluate e) p g m k = (subst (λ ss. FullPrints ss 1 e) (sym slots) p.0, k m)
         at (fv_return e) p g m k = (subst (λ ss. OptionPrints ss e) (sym slots) p.0, k m)
         at (fv_note bs) p g m k = (p.0, k m)
@@ -241,13 +263,22 @@ module _ (f : Function) (params : f.params ≤ length f.slots) (used taken : Lis
         let s = entry_or no_slot G x in
         subst (λ ss. SlotPrints ss (slice_get ss x) None) (sym slots)
         (subst (λ o. SlotPrints G o None) (sym e)
-        (record { named = in_drop (λ (r : Slot). IsName r.name) f.params G x s own.words p e; length = length_prints s.cells (length_at f.params G x s lengths p e); values = tt }))
+        (record {
+          named = in_drop (λ (r : Slot). IsName r.name) f.params G x s own.words p e;
+          length = length_prints s.cells (length_at f.params G x s lengths p e);
+          values = tt;
+        }))
 
     declarations_spelled : (x n : ℕ) (xs : Forest) → f.params ≤ x → x + n ≤ length G → AreSpelled h xs → AreSpelled h (join (declarations x n) xs)
     declarations_spelled x zero xs p b s = s
-    declarations_spelled x (suc n) xs p b s = (declared_prints x p (omega (arith, b)), declarations_spelled (suc x) n xs (omega (arith, p)) (omega (arith, b)) s)
+    declarations_spelled x (suc n) xs p b s = (
+      declared_prints x p (omega (arith, b)),
+      declarations_spelled (suc x) n xs (omega (arith, p))
+          (omega (arith, b)) s,
+    )
 
-    pub lowered_spelled : AreSpelled f a → Everywhere IsModestItem a → Everywhere (IsInitialised f.slots) a → Everywhere (DeclaresIn f.params (length f.slots)) a
+    pub lowered_spelled : AreSpelled f a → Everywhere IsModestItem a → Everywhere (IsInitialised f.slots) a →
+        Everywhere (DeclaresIn f.params (length f.slots)) a
         → AreFlat (list f params used taken a) → Everywhere (OfGoto Below) (list f params used taken a) → Each Below (marks (list f params used taken a))
         → AreSpelled h (join (front f params used taken a) (list f params used taken a))
     lowered_spelled spelled modest initialised declares flat gotos labels =
@@ -258,4 +289,5 @@ module _ (f : Function) (params : f.params ≤ length f.slots) (used taken : Lis
         (everywhere_both (IsInitialised f.slots) (DeclaresIn f.params (length f.slots)) a initialised declares)) in
         let printed = list_has f params used taken a E E (C f.slots G names_over) (OptionPrints G) IsComment given in
         let n = slots_length f params used taken a in
-        declarations_spelled f.params (length f.slots - f.params + total variables_of a) L (omega arith) (omega (arith, n, params)) (spelled_flat L flat printed gotos labels)
+        declarations_spelled f.params (length f.slots - f.params + total variables_of a) L (omega arith) (omega (arith, n, params))
+        (spelled_flat L flat printed gotos labels)

@@ -45,7 +45,8 @@ module _ (counts : FlatCounts) (ts : List Top) (names file : List (List ℕ)) wh
       either (with_known names) (with_known file) f h (Everywhere IsNoArrival (body_of h))
       (λ e i. subst (Everywhere IsNoArrival) (sym (ap body_of i ∙ ap (λ o. option_map_or trees_of o Nil) e)) tt)
       (λ old there b. subst (λ (j : Function). Everywhere IsNoArrival (body_of j)) (sym b.whole)
-      (no_arrivals (trees_of b.new) (lowered_laws.flat (function_tree f) _ (is_lowered counts ts f r (with_known names) (with_known file) old there b.new b.trees)))) w.0
+      (no_arrivals (trees_of b.new) (lowered_laws.flat (function_tree f)
+      _ (is_lowered counts ts f r (with_known names) (with_known file) old there b.new b.trees)))) w.0
 
   top_text : (t u : Top) → IsResolvedTop counts ts t → IsTopLowered names file t u → TopHasText u
   top_text (T.Function f) (T.Function h) r w = function_text f h r w

@@ -126,7 +126,8 @@ module _ (ls : List ℕ) (p : Layout) (Known Q : ℕ → Type 0) (makes : Makes 
   placed_append (x ∷ xs) [] zs ws h i = absurd h
 
   both_join : (a b c d : Forest) → Both a b → Both c d → Both (join a c) (join b d)
-  both_join a b c d h i = subst (λ l. Placed l (marks (join b d))) (sym (marks_join a c)) (subst (Placed (marks a ++ marks c)) (sym (marks_join b d)) (placed_append (marks a) (marks b) (marks c) (marks d) h i))
+  both_join a b c d h i = subst (λ l. Placed l (marks (join b d))) (sym (marks_join a c))
+      (subst (Placed (marks a ++ marks c)) (sym (marks_join b d)) (placed_append (marks a) (marks b) (marks c) (marks d) h i))
 
   both_none : (a b : Forest) → marks a ≡ [] → marks b ≡ [] → Both a b
   both_none a b e i = subst (λ l. Placed l (marks b)) (sym e) (subst (Placed []) (sym i) tt)
@@ -174,7 +175,16 @@ module _ (ls : List ℕ) (p : Layout) (Known Q : ℕ → Type 0) (makes : Makes 
       (both_join (mark_of c) (mark_of c') (third_items u) (third_items u) i (both_none (third_items u) (third_items u) (none_third u) (none_third u)))
 
   while_both : (t : TestTree) (l b e : ℕ) (x y : Forest) → Q l → Q b → Q e → Both x y → Both (while_items t l b e x) (while_items t (g l) (g b) (g e) y)
-  while_both t l b e x y ql qb qe h = (ql, refl, (qb, refl, both_join x y (Then (Goto l) (one (Mark e))) (Then (Goto (g l)) (one (Mark (g e)))) h (qe, refl, tt)))
+  while_both t l b e x y ql qb qe h = (
+    ql,
+    refl,
+    (
+      qb,
+      refl,
+      both_join x y (Then (Goto l) (one (Mark e))) (Then (Goto (g l)) (one (Mark (g e)))) h
+          (qe, refl, tt),
+    ),
+  )
 
   if_both : (h : Here) (t : TestTree) (o : Option ℕ) (a a' b b' : Forest) → Both a a' → Both b b' → Both (lowered_if p h t o a b) (lowered_if p' h t o a' b')
   if_both h t (Some l) a a' b b' i j = tt
@@ -184,15 +194,22 @@ module _ (ls : List ℕ) (p : Layout) (Known Q : ℕ → Type 0) (makes : Makes 
       both_join b b' (Then (Goto e) (Then (Mark l) (join a (one (Mark e))))) (Then (Goto (g e)) (Then (Mark (g l)) (join a' (one (Mark (g e)))))) j
       (makes.lists h.construct, refl, both_join a a' (one (Mark e)) (one (Mark (g e))) i (makes.breaks h.construct, refl, tt))
 
-  do_both : (h : Here) (t : TestTree) (a a' : Forest) (b b' c c' : Aim) → Both a a' → Both (mark_of b) (mark_of b') → Both (mark_of c) (mark_of c') → Both (lowered_do p h t a b c) (lowered_do p' h t a' b' c')
+  do_both : (h : Here) (t : TestTree) (a a' : Forest) (b b' c c' : Aim) → Both a a' → Both (mark_of b) (mark_of b') → Both (mark_of c) (mark_of c') →
+      Both (lowered_do p h t a b c) (lowered_do p' h t a' b' c')
   do_both h t a a' b b' c c' i j k =
       let l = p.list_label h.construct in
-      both_join (do_items t l (join a (mark_of c))) (do_items t (g l) (join a' (mark_of c'))) (mark_of b) (mark_of b')
-      (makes.lists h.construct, refl, both_join (join a (mark_of c)) (join a' (mark_of c')) (one (jump_if t l)) (one (jump_if t (g l))) (both_join a a' (mark_of c) (mark_of c') i k) tt) j
+      both_join (do_items t l (join a (mark_of c))) (do_items t (g l) (join a' (mark_of c'))) (mark_of b) (mark_of b') (
+        makes.lists h.construct,
+        refl,
+        both_join (join a (mark_of c)) (join a' (mark_of c')) (one (jump_if t l)) (one (jump_if t (g l)))
+            (both_join a a' (mark_of c) (mark_of c') i k) tt,
+      ) j
 
-  for_both : (h : Here) (t u : Option ExpressionTree) (a a' : Forest) (b b' c c' : Aim) → Both a a' → Both (mark_of b) (mark_of b') → Both (mark_of c) (mark_of c') → Both (lowered_for p h t u a b c) (lowered_for p' h t u a' b' c')
+  for_both : (h : Here) (t u : Option ExpressionTree) (a a' : Forest) (b b' c c' : Aim) → Both a a' → Both (mark_of b) (mark_of b') →
+      Both (mark_of c) (mark_of c') → Both (lowered_for p h t u a b c) (lowered_for p' h t u a' b' c')
   for_both h (Some t) u a a' b b' c c' i j k =
-      while_both (Source t) (p.head_label h.construct) (p.list_label h.construct) (p.plan.break_label h.construct) (with_third a c u) (with_third a' c' u) (makes.heads h.construct) (makes.lists h.construct) (makes.breaks h.construct)
+      while_both (Source t) (p.head_label h.construct) (p.list_label h.construct) (p.plan.break_label h.construct) (with_third a c u)
+      (with_third a' c' u) (makes.heads h.construct) (makes.lists h.construct) (makes.breaks h.construct)
       (third_both a a' c c' u i k)
   for_both h None u a a' b b' c c' i j k =
       let l = p.head_label h.construct in
@@ -215,13 +232,15 @@ module _ (ls : List ℕ) (p : Layout) (Known Q : ℕ → Type 0) (makes : Makes 
   IsKnown x = ItemLabels Known x
 
   mutual
-    list_both : (h : Here) (b b' c c' : Aim) {r r' : Arrivals} → SameArrivals r r' → (xs : Forest) → Everywhere IsKnown xs → Both (lowered p h b c r xs) (lowered p' h b' c' r' xs)
+    list_both : (h : Here) (b b' c c' : Aim) {r r' : Arrivals} → SameArrivals r r' → (xs : Forest) → Everywhere IsKnown xs →
+        Both (lowered p h b c r xs) (lowered p' h b' c' r' xs)
     list_both h b b' c c' s Nil k = tt
     list_both h b b' c c' {r} {r'} s (Then x xs) k =
         both_join (lowered_item p h b c r x) (lowered_item p' h b' c' r' x) (lowered p (past_item x h) b c r xs) (lowered p' (past_item x h) b' c' r' xs)
         (item_both h b b' c c' s x k.0) (list_both (past_item x h) b b' c c' s xs k.1)
 
-    item_both : (h : Here) (b b' c c' : Aim) {r r' : Arrivals} → SameArrivals r r' → (x : Tree) → EverywhereOf IsKnown x → Both (lowered_item p h b c r x) (lowered_item p' h b' c' r' x)
+    item_both : (h : Here) (b b' c c' : Aim) {r r' : Arrivals} → SameArrivals r r' → (x : Tree) → EverywhereOf IsKnown x →
+        Both (lowered_item p h b c r x) (lowered_item p' h b' c' r' x)
     item_both h b b' c c' {r} {r'} s (If t x y) k =
         let i = inside (If t x y) h in
         if_both h t (jump_of p.plan.live x y) (lowered p i b c r x) (lowered p' i b' c' r' x) (lowered p (past x i) b c r y) (lowered p' (past x i) b' c' r' y)
@@ -232,7 +251,8 @@ module _ (ls : List ℕ) (p : Layout) (Known Q : ℕ → Type 0) (makes : Makes 
         let B' = Becomes (p'.plan.break_label h.construct) in
         let C = Becomes (p.head_label h.construct) in
         let C' = Becomes (p'.head_label h.construct) in
-        while_both t (p.head_label h.construct) (p.list_label h.construct) (p.plan.break_label h.construct) (lowered p i B C r a) (lowered p' i B' C' r' a) (makes.heads h.construct) (makes.lists h.construct) (makes.breaks h.construct)
+        while_both t (p.head_label h.construct) (p.list_label h.construct) (p.plan.break_label h.construct) (lowered p i B C r a)
+        (lowered p' i B' C' r' a) (makes.heads h.construct) (makes.lists h.construct) (makes.breaks h.construct)
         (list_both i B B' C C' s a k.1)
     item_both h b b' c c' {r} {r'} s (Do a t) k =
         let i = inside (Do a t) h in
@@ -250,7 +270,8 @@ module _ (ls : List ℕ) (p : Layout) (Known Q : ℕ → Type 0) (makes : Makes 
         let C' = continue_aim p' h a in
         let x = lowered p j B C r a in
         let y = lowered p' j B' C' r' a in
-        both_join (lowered p i b c NoArrival first) (lowered p' i b' c' NoArrival first) (lowered_for p h t u x B C) (lowered_for p' h t u y B' C') (list_both i b b' c c' sa_none first k.1)
+        both_join (lowered p i b c NoArrival first) (lowered p' i b' c' NoArrival first) (lowered_for p h t u x B C) (lowered_for p' h t u y B' C')
+        (list_both i b b' c c' sa_none first k.1)
         (for_both h t u x y B B' C C' (list_both j B B' C C' s a k.2) (for_aim_both h t a) (continue_both h a))
     item_both h b b' c c' s (Block a) k = list_both h b b' c c' s a k.1
     item_both h b b' c c' s (Local x None) k = tt
@@ -273,8 +294,10 @@ module _ (ls : List ℕ) (p : Layout) (Known Q : ℕ → Type 0) (makes : Makes 
         let B' = scatter_aim p'.plan h d in
         let x = lowered_among p i B c n d in
         let y = lowered_among p' i B' c' m d in
-        both_join (tests_among p.plan.number j v n d) (tests_among p'.plan.number j v m d) (Then (Goto (otherwise_label p.plan h d)) x) (Then (Goto (otherwise_label p'.plan h d)) y)
-        (both_none (tests_among p.plan.number j v n d) (tests_among p'.plan.number j v m d) (none_tests_among p.plan.number j v n d) (none_tests_among p'.plan.number j v m d))
+        both_join (tests_among p.plan.number j v n d) (tests_among p'.plan.number j v m d) (Then (Goto (otherwise_label p.plan h d)) x)
+        (Then (Goto (otherwise_label p'.plan h d)) y)
+        (both_none (tests_among p.plan.number j v n d) (tests_among p'.plan.number j v m d) (none_tests_among p.plan.number j v n d)
+        (none_tests_among p'.plan.number j v m d))
         (among_both i B B' (scatter_both (leaves d) (p.plan.break_label h.construct) (makes.breaks h.construct)) c c' n m (names_both h j d) d k.1)
     item_both h b b' c c' s (Evaluate e) k = tt
     item_both h b b' c c' s (Return e) k = tt
@@ -283,16 +306,19 @@ module _ (ls : List ℕ) (p : Layout) (Known Q : ℕ → Type 0) (makes : Makes 
     item_both h b b' c c' s (Land l) k = tt
     item_both h b b' c c' s (Note bs) k = tt
 
-    among_both : (h : Here) (b b' : Aim) → Both (mark_of b) (mark_of b') → (c c' : Aim) (n m : Names) → AreNames n m → (d : Sections) → EverywhereIn IsKnown d → Both (lowered_among p h b c n d) (lowered_among p' h b' c' m d)
+    among_both : (h : Here) (b b' : Aim) → Both (mark_of b) (mark_of b') → (c c' : Aim) (n m : Names) → AreNames n m → (d : Sections) →
+        EverywhereIn IsKnown d → Both (lowered_among p h b c n d) (lowered_among p' h b' c' m d)
     among_both h b b' w c c' n m i NoSection k = w
     among_both h b b' w c c' n m i (Section cases default a ends d) k =
         let x = lowered p h b c (Arrives n) a in
         let y = lowered p' h b' c' (Arrives m) a in
         let z = lowered_among p (past a h) b c n d in
         let z' = lowered_among p' (past a h) b' c' m d in
-        both_join (case_marks n cases default) (case_marks m cases default) (join x (join (end_goto ends b) z)) (join y (join (end_goto ends b') z')) (case_marks_both n m i cases default)
+        both_join (case_marks n cases default) (case_marks m cases default) (join x (join (end_goto ends b) z)) (join y (join (end_goto ends b') z'))
+        (case_marks_both n m i cases default)
         (both_join x y (join (end_goto ends b) z) (join (end_goto ends b') z') (list_both h b b' c c' (sa_names i) a k.0)
-        (both_join (end_goto ends b) (end_goto ends b') z z' (both_none (end_goto ends b) (end_goto ends b') (none_end ends b) (none_end ends b')) (among_both (past a h) b b' w c c' n m i d k.1)))
+        (both_join (end_goto ends b) (end_goto ends b') z z' (both_none (end_goto ends b) (end_goto ends b') (none_end ends b) (none_end ends b'))
+        (among_both (past a h) b b' w c c' n m i d k.1)))
 
   -- of a whole list
   pub marks_both : (h : Here) (xs : Forest) → Everywhere IsKnown xs → Both (lowered p h Stays Stays NoArrival xs) (lowered p' h Stays Stays NoArrival xs)

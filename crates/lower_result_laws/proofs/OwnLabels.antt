@@ -23,11 +23,13 @@ use Rattle.c_resolved_defs.specs.Limits.{FlatCounts}
 use Rattle.c_resolved_defs.specs.Resolved.{IsResolvedFunction}
 use Rattle.c_resolved_laws.proofs.LabelsGiven.{labels_same, cases_same, nones_same, different, function_labels}
 
-own_labels : (k : IntKind) (c : Sections) → AreLabels k (switch_labels c) → (nones (P.switch_labels c) ≤ 1) × AreDifferent (map (case_number k) (P.cases_among (P.switch_labels c)))
+own_labels : (k : IntKind) (c : Sections) → AreLabels k (switch_labels c) →
+    (nones (P.switch_labels c) ≤ 1) × AreDifferent (map (case_number k) (P.cases_among (P.switch_labels c)))
 own_labels k c h =
     subst (λ ls. (nones ls ≤ 1) × AreDifferent (map (case_number k) (P.cases_among ls))) (sym (labels_same c)) (
       subst (λ n. n ≤ 1) (sym (nones_same (switch_labels c))) h.single,
-      subst (λ es. AreDifferent (map (case_number k) es)) (sym (cases_same (switch_labels c))) (different k (cases_among (switch_labels c)) h.constant h.distinct),
+      subst (λ es. AreDifferent (map (case_number k) es)) (sym (cases_same (switch_labels c)))
+          (different k (cases_among (switch_labels c)) h.constant h.distinct),
     )
 
 -- a fact of the kind of a selector, and of the kind in which its switch compares
@@ -49,5 +51,6 @@ function_own counts ts f r =
     record {
       once = l.once;
       all = l.all;
-      cases = everywhere_map (λ x. HasCases x × HasSourceForm f x) HasOwnCases (own_cases f) (body_of f) (everywhere_both HasCases (HasSourceForm f) (body_of f) r.cases r.form.items);
+      cases = everywhere_map (λ x. HasCases x × HasSourceForm f x) HasOwnCases (own_cases f) (body_of f)
+          (everywhere_both HasCases (HasSourceForm f) (body_of f) r.cases r.form.items);
     }

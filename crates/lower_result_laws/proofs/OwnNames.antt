@@ -93,7 +93,10 @@ slot_among (c ∷ cs) all f = inr (f (c ∷ cs) (itself (c ∷ cs)))
 
 slots_among : (ss : List Slot) (all : List (List ℕ)) → AreAmong (slots_names ss) all → Each (IsNoneOrAmong all) ss
 slots_among [] all f = tt
-slots_among (s ∷ ss) all f = (slot_among s.name all (among_left (given_name s.name) (slots_names ss) all f), slots_among ss all (among_right (given_name s.name) (slots_names ss) all f))
+slots_among (s ∷ ss) all f = (
+  slot_among s.name all (among_left (given_name s.name) (slots_names ss) all f),
+  slots_among ss all (among_right (given_name s.name) (slots_names ss) all f),
+)
 
 own_among : (all : List (List ℕ)) (s : Slot) → IsName s.name × IsNoneOrAmong all s → IsName s.name × In all s.name
 own_among all s (n, inl e) = absurd (true≢false (sym n.0 ∙ ap is_word e))
@@ -123,20 +126,25 @@ slots_used n taken used (s ∷ ss) =
     omega (arith, h, e)
 
 -- a variable has no name, or a used one
-blocks_used : (n : ℕ) (taken used : List (List ℕ)) (ss : List Slot) → Each (IsNoneOrAmong used) ss → Each (IsNoneOrAmong (named_slots n taken used ss).used) (named_slots n taken used ss).slots
+blocks_used : (n : ℕ) (taken used : List (List ℕ)) (ss : List Slot) → Each (IsNoneOrAmong used) ss →
+    Each (IsNoneOrAmong (named_slots n taken used ss).used) (named_slots n taken used ss).slots
 blocks_used n taken used [] h = tt
 blocks_used n taken used (s ∷ ss) h =
     let b = nat_lt 0 n in
     let used' = slot_used b taken used s in
     let rest = slots_grow [] (λ m. Unit {0}) (n - 1) (slot_taken b taken used s) used' ss in
-    let step = one b in
-    (more used' (named_slots (n - 1) (slot_taken b taken used s) used' ss).used (slot_named b taken used s) rest step.0, blocks_used (n - 1) (slot_taken b taken used s) used' ss (each_map (IsNoneOrAmong used) (IsNoneOrAmong used') (λ t i. more used used' t step.1 i) ss h.1))
+    let step = one b in (
+      more used' (named_slots (n - 1) (slot_taken b taken used s) used' ss).used (slot_named b taken used s) rest step.0,
+      blocks_used (n - 1) (slot_taken b taken used s) used' ss
+          (each_map (IsNoneOrAmong used) (IsNoneOrAmong used') (λ t i. more used used' t step.1 i) ss h.1),
+    )
   where
     more : (us vs : List (List ℕ)) (t : Slot) → Grows us vs → IsNoneOrAmong us t → IsNoneOrAmong vs t
     more us vs t g (inl e) = inl e
     more us vs t g (inr i) = inr (g.0 t.name i)
 
-    named : (z : Bool) → ((cond z (fresh s.name used) s.name ≡ []) ⊎ In (cond z (with_name used (fresh s.name used)) used) (cond z (fresh s.name used) s.name)) × Grows used (cond z (with_name used (fresh s.name used)) used)
+    named : (z : Bool) → ((cond z (fresh s.name used) s.name ≡ []) ⊎ In (cond z (with_name used (fresh s.name used)) used)
+        (cond z (fresh s.name used) s.name)) × Grows used (cond z (with_name used (fresh s.name used)) used)
     named true = (inr (own_with used (fresh s.name used)), grows_with used (fresh s.name used))
     named false = (h.0, grows_self used)
 
@@ -146,7 +154,8 @@ blocks_used n taken used (s ∷ ss) h =
 
 -- ---- a function of a resolved program
 
-module _ (counts : FlatCounts) (p : Program) (f : Function) (resolved : IsResolvedFunction counts p.tops f) (spelled : FunctionIsSpelled f) (among : AreAmong (function_names f) (names p)) (few : length (names p) ≤ most_held) where
+module _ (counts : FlatCounts) (p : Program) (f : Function) (resolved : IsResolvedFunction counts p.tops f) (spelled : FunctionIsSpelled f)
+    (among : AreAmong (function_names f) (names p)) (few : length (names p) ≤ most_held) where
   abbrev params : f.params ≤ length f.slots
   params = resolved.form.parameters
 
@@ -157,7 +166,8 @@ module _ (counts : FlatCounts) (p : Program) (f : Function) (resolved : IsResolv
   taken = with_known (file_names p)
 
   parts_among : AreAmong (slots_names f.slots ++ f.labels) (names p)
-  parts_among = among_left (slots_names f.slots ++ f.labels) (body_names f.body) (names p) (among_right (f.name ∷ []) (slots_names f.slots ++ f.labels ++ body_names f.body) (names p) among)
+  parts_among = among_left (slots_names f.slots ++ f.labels) (body_names f.body) (names p)
+      (among_right (f.name ∷ []) (slots_names f.slots ++ f.labels ++ body_names f.body) (names p) among)
 
   slots_there : Each (IsNoneOrAmong (names p)) f.slots
   slots_there = slots_among f.slots (names p) (among_left (slots_names f.slots) f.labels (names p) parts_among)
@@ -173,7 +183,8 @@ module _ (counts : FlatCounts) (p : Program) (f : Function) (resolved : IsResolv
   new_unknown m h = let k = or_neither (has_name (names p) m) (has_name known_functions m) (sym (known_in (names p) m) ∙ h) in all_turned m known_functions k.1
 
   new_free : (m : List ℕ) → Out used m → IsFreeIn p.tops m
-  new_free m h = let k = or_neither (has_name (names p) m) (has_name known_functions m) (sym (known_in (names p) m) ∙ h) in tops_other m p.tops (sym (rising-members (tops_names p.tops) m) ∙ k.0)
+  new_free m h = let k = or_neither (has_name (names p) m) (has_name known_functions m) (sym (known_in (names p) m) ∙ h) in
+      tops_other m p.tops (sym (rising-members (tops_names p.tops) m) ∙ k.0)
 
   module _ (old : List Item) (there : f.body ≡ Some old) where
     abbrev a : Forest
@@ -216,12 +227,14 @@ module _ (counts : FlatCounts) (p : Program) (f : Function) (resolved : IsResolv
         all = rising-members (tops_names p.tops);
         scope = rising-members (tops_name p.tops);
         parameters = each_taken (IsNoneOrAmong (names p)) f.params f.slots slots_there;
-        variables = each_map (λ (s : Slot). IsName s.name × IsNoneOrAmong (names p) s) (λ (s : Slot). IsName s.name × In (names p) s.name) (own_among (names p)) (drop f.params f.slots)
+        variables = each_map (λ (s : Slot). IsName s.name × IsNoneOrAmong (names p) s) (λ (s : Slot). IsName s.name × In (names p) s.name)
+            (own_among (names p)) (drop f.params f.slots)
             (each_both (λ (s : Slot). IsName s.name) (IsNoneOrAmong (names p)) (drop f.params f.slots)
             (slots_named f a body_spelled.items params (ap (gathered declared_slot) (sym same) ∙ resolved.form.slots))
             (each_dropped (IsNoneOrAmong (names p)) f.params f.slots slots_there));
         few = subst (λ z. 2 + length (used_at_end (names p) (file_names p) f z) < 2 ^ 64) (sym trees-none)
-            (let b = no_more [] (names p) in let c = no_more (with_names [] (names p)) known_functions in let d = slots_used f.params taken used f.slots in let l = slots_length f params used taken a in omega (arith, b, c, d, l, held, few));
+            (let b = no_more [] (names p) in let c = no_more (with_names [] (names p)) known_functions in
+            let d = slots_used f.params taken used f.slots in let l = slots_length f params used taken a in omega (arith, b, c, d, l, held, few));
       }
 
       -- the variables of a flat form
@@ -248,7 +261,8 @@ module _ (counts : FlatCounts) (p : Program) (f : Function) (resolved : IsResolv
       grown = slots_grow [] (λ m. Unit {0}) f.params taken used f.slots
 
       there_before : Each (IsNoneOrAmong blocks.used) blocks.slots
-      there_before = blocks_used f.params taken used f.slots (each_map (IsNoneOrAmong (names p)) (IsNoneOrAmong used) (λ s i. in_either_way s i) f.slots slots_there)
+      there_before = blocks_used f.params taken used f.slots
+          (each_map (IsNoneOrAmong (names p)) (IsNoneOrAmong used) (λ s i. in_either_way s i) f.slots slots_there)
         where
           in_either_way : (s : Slot) → IsNoneOrAmong (names p) s → IsNoneOrAmong used s
           in_either_way s (inl e) = inl e
@@ -274,10 +288,12 @@ module _ (counts : FlatCounts) (p : Program) (f : Function) (resolved : IsResolv
       each_slot P [] h = tt
       each_slot P (s ∷ ss) h = (h.0, each_slot P ss h.1)
 
-      each_own : (P : List ℕ → Type 0) → Each (λ (s : Slot). P s.name) (drop f.params blocks.slots) → ((m : List ℕ) → IsNewName blocks.used m → P m) → Each (λ (s : Slot). P s.name) (drop f.params (new_slots f params used taken a))
+      each_own : (P : List ℕ → Type 0) → Each (λ (s : Slot). P s.name) (drop f.params blocks.slots) → ((m : List ℕ) → IsNewName blocks.used m → P m) →
+          Each (λ (s : Slot). P s.name) (drop f.params (new_slots f params used taken a))
       each_own P h k =
           subst (Each (λ (s : Slot). P s.name)) (sym behind)
-          (each_append (λ (s : Slot). P s.name) (drop f.params blocks.slots) more h (each_slot P more (each_map (IsNewName blocks.used) P k (names_of more) made.each)))
+          (each_append (λ (s : Slot). P s.name) (drop f.params blocks.slots) more h
+          (each_slot P more (each_map (IsNewName blocks.used) P k (names_of more) made.each)))
 
       names_more : (xs ys : List Slot) → names_of (xs ++ ys) ≡ names_of xs ++ names_of ys
       names_more [] ys = refl
@@ -297,7 +313,9 @@ module _ (counts : FlatCounts) (p : Program) (f : Function) (resolved : IsResolv
       apart =
           subst AllDiffer (sym (ap names_of behind ∙ names_more beyond more))
           (differ_append (names_of beyond) (names_of more) blocks_own.apart made.apart
-          (each_map (IsNewName blocks.used) (λ m. Each (λ x. x ≢ m) (names_of beyond)) (λ m n. each_names (λ x. x ≢ m) beyond (all_other beyond m (each_dropped (IsNoneOrAmong blocks.used) f.params blocks.slots there_before) n)) (names_of more) made.each))
+          (each_map (IsNewName blocks.used) (λ m. Each (λ x. x ≢ m) (names_of beyond))
+          (λ m n. each_names (λ x. x ≢ m) beyond (all_other beyond m (each_dropped (IsNoneOrAmong blocks.used) f.params blocks.slots there_before)
+          n)) (names_of more) made.each))
 
       pub variables_own : HasOwnNames p.tops (record f { slots = new_slots f params used taken a })
       variables_own = record {

@@ -107,7 +107,11 @@ module _ (f : Function) (new : List Slot) (name : (k : ℕ) → IsName (slot_nam
     item_prints (If t a b) h = (test t h.0, source_prints a h.1, source_prints b h.2)
     item_prints (While t a) h = (test t h.0, source_prints a h.1)
     item_prints (Do a t) h = (test t h.1, source_prints a h.0)
-    item_prints (For first t u a) h = ((some_over f.slots new name t h.1, some_over f.slots new name u h.2), start_over f.slots new name first h.0, source_prints a h.3)
+    item_prints (For first t u a) h = (
+      (some_over f.slots new name t h.1, some_over f.slots new name u h.2),
+      start_over f.slots new name first h.0,
+      source_prints a h.3,
+    )
     item_prints (Switch s c) h = ((selector_over f.slots new name s h.0, no_cases f.slots new name (all_cases c)), sections_print c h.1)
     item_prints (Block a) h = (tt, source_prints a h)
     item_prints (Local k o) h = slot_over f.slots new name (slice_get f.slots k) o h

@@ -24,21 +24,25 @@ module _ (used taken : List (List ℕ)) (f h : Function) where
   abbrev Lowers : Option (List Item) → Type 0
   Lowers o = elim o [ None ↦ h ≡ f | Some body ↦ IsBodyLowered used taken f body h ]
 
-  by_body : (X : Type 0) → (f.body ≡ None → h ≡ f → X) → ((body : List Item) → f.body ≡ Some body → IsBodyLowered used taken f body h → X) → (o : Option (List Item)) → f.body ≡ o → Lowers o → X
+  by_body : (X : Type 0) → (f.body ≡ None → h ≡ f → X) → ((body : List Item) → f.body ≡ Some body → IsBodyLowered used taken f body h → X) →
+      (o : Option (List Item)) → f.body ≡ o → Lowers o → X
   by_body X none some None e w = none e w
   by_body X none some (Some body) e w = some body e w
 
   -- a prototype stays; a function with a body is lowered
-  pub either : (X : Type 0) → (f.body ≡ None → h ≡ f → X) → ((body : List Item) → f.body ≡ Some body → IsBodyLowered used taken f body h → X) → IsLoweredBeside used taken f h → X
+  pub either : (X : Type 0) → (f.body ≡ None → h ≡ f → X) → ((body : List Item) → f.body ≡ Some body → IsBodyLowered used taken f body h → X) →
+      IsLoweredBeside used taken f h → X
   either X none some w = by_body X none some f.body refl w
 
 -- ---- functions
 
 module _ (counts : FlatCounts) (ts : List Top) (names file : List (List ℕ)) where
-  function_rewritten : (f h : Function) → IsResolvedFunction counts ts f → IsLoweredFunction names file f h → RewrittenTop IsLowered (T.Function f) (T.Function h)
+  function_rewritten : (f h : Function) → IsResolvedFunction counts ts f → IsLoweredFunction names file f h →
+      RewrittenTop IsLowered (T.Function f) (T.Function h)
   function_rewritten f h r w =
       either (with_known names) (with_known file) f h (RewrittenTop IsLowered (T.Function f) (T.Function h)) (λ e i. rt_same (ap T.Function (sym i)))
-      (λ body e i. subst (λ k. RewrittenTop IsLowered (T.Function f) (T.Function k)) (sym i.whole) (rt_by refl (is_lowered counts ts f r (with_known names) (with_known file) body e i.new i.trees))) w
+      (λ body e i. subst (λ k. RewrittenTop IsLowered (T.Function f) (T.Function k)) (sym i.whole)
+      (rt_by refl (is_lowered counts ts f r (with_known names) (with_known file) body e i.new i.trees))) w
 
   top_rewritten : (t u : Top) → IsResolvedTop counts ts t → IsTopLowered names file t u → RewrittenTop IsLowered t u
   top_rewritten (T.Function f) (T.Function h) r w = function_rewritten f h r w.0

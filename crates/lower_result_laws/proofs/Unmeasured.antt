@@ -73,7 +73,8 @@ if_tangled : (b : Bool) (at : ℕ) (vs : Faults) → AreTangled vs → AreTangle
 if_tangled true at vs h = (refl, h)
 if_tangled false at vs h = h
 
-measured_tangled : (flat : FlatCounts) (word : ℕ → List ℕ) (x : tops.Function) (o : Option Body) (q : Option (List Item)) (vs : Faults) → AreTangled vs → AreTangled (measured flat word x o q vs)
+measured_tangled : (flat : FlatCounts) (word : ℕ → List ℕ) (x : tops.Function) (o : Option Body) (q : Option (List Item)) (vs : Faults) →
+    AreTangled vs → AreTangled (measured flat word x o q vs)
 measured_tangled flat word x (Some b) (Some items) vs h = at (flat items)
   where
     at : (m : Option (ℕ × ℕ)) → AreTangled (elim m [ Some n ↦ fault_if (is_tangled (measures word x b n)) x.name 39 vs | None ↦ vs ])
@@ -117,7 +118,8 @@ constants_of_file (e ∷ es) ss h = constants_of_file es (bind e.name (AConstant
 
 -- ---- files
 
-directive_behind : (tokens : List Spelling) (bytes : List ℕ) (at : ℕ) (ps : List Piece) → IsDirective bytes → Stands tokens at (verbatim bytes (newline ps)) → Stands tokens (at + 1) ps
+directive_behind : (tokens : List Spelling) (bytes : List ℕ) (at : ℕ) (ps : List Piece) → IsDirective bytes →
+    Stands tokens at (verbatim bytes (newline ps)) → Stands tokens (at + 1) ps
 directive_behind tokens [] at ps h s = absurd h
 directive_behind tokens (a ∷ []) at ps h s = absurd h
 directive_behind tokens (a ∷ b ∷ w) at ps h s =
@@ -172,7 +174,8 @@ module _ (ts : List Top) (file : File) (tokens : List Spelling) (words : AreWord
     named : NameReads ts f file.bodies s.bodies (of f at) (env_of file s) ss
     bodies_are : (function_declared file (of f at) s).bodies ≡ bodies_behind f s.bodies
 
-  function_here : (f : Function) (s : State) (ss : List Scope) (at : ℕ) (ps : List Piece) → IsInScope ss → AreOfFile ss → AreSameScopes n ss s.scopes → IsFileFunction no_counts ts file f ss s.bodies at → Stands tokens at (function_text f ps) → FunctionHere f s ss at ps
+  function_here : (f : Function) (s : State) (ss : List Scope) (at : ℕ) (ps : List Piece) → IsInScope ss → AreOfFile ss →
+      AreSameScopes n ss s.scopes → IsFileFunction no_counts ts file f ss s.bodies at → Stands tokens at (function_text f ps) → FunctionHere f s ss at ps
   function_here f s ss at ps there k h g b = by_declared (the_function f.name ts) (g.declared)
     where
       by_declared : (o : Option Function) → IsSomeAnd o (λ g. IsDeclared ts f g file.bodies s.bodies ss) → FunctionHere f s ss at ps
@@ -183,23 +186,28 @@ module _ (ts : List Top) (file : File) (tokens : List Spelling) (words : AreWord
           let known = bind_of_file f.name AFunction ss tt k in
           let first = bound_same ts f q file.word x file.bodies s.bodies ss d s.scopes there h in
           let scopes = kinds.bind f.name (binding.Function (sig ts f q file.word x file.bodies s.bodies ss d)) s.scopes in
-          let r = function_reads no_counts ts f file.word file.notes tokens behind scopes at (g.function) words (in_function ts f behind scopes known first) ps (g.notes) b in
+          let r = function_reads no_counts ts f file.word file.notes tokens behind scopes at (g.function) words
+          (in_function ts f behind scopes known first) ps (g.notes) b in
           let w : IsWrittenAs file.word x f = record { name = r.name; result = r.result; wants = r.wants; static = refl; body = body_same f at } in
           let named = name_reads ts f q file.word x file.bodies s.bodies ss d w s.scopes there h in
           let inner = (function_declared file x s).scopes in
           record {
-            here = function_reads no_counts ts f file.word file.notes tokens behind inner at (g.function) words (in_function ts f behind inner known (named.same)) ps (g.notes) b;
+            here = function_reads no_counts ts f file.word file.notes tokens behind inner at (g.function) words
+                (in_function ts f behind inner known (named.same)) ps (g.notes) b;
             named = named;
             bodies_are = (λ i. cond (w.body i) (with_function (w.name i) s.bodies) s.bodies);
           }
 
   -- ---- violations
 
-  tangled : (xs : List Top) (ss : List Scope) (s : State) (at : ℕ) (noted : List (List ℕ)) → IsInScope ss → AreOfFile ss → AreSameScopes n ss s.scopes → AreTops no_counts ts file ss s.bodies at noted xs → Stands tokens at (joined (map top_text xs) [])
+  tangled : (xs : List Top) (ss : List Scope) (s : State) (at : ℕ) (noted : List (List ℕ)) → IsInScope ss → AreOfFile ss →
+      AreSameScopes n ss s.scopes → AreTops no_counts ts file ss s.bodies at noted xs → Stands tokens at (joined (map top_text xs) [])
       → (vs : Faults) → AreTangled vs → AreTangled (file_faults measuring (written_tops file.word at (derivation.tops_of xs)) s vs)
   tangled [] ss s at noted there k h g b vs a = a
-  tangled (T.Note bytes ∷ xs) ss s at noted there k h g b vs a = tangled xs ss s at (noted ++ bytes ∷ []) there k h (g.1) (past_comment tokens at bytes (newline (joined (map top_text xs) [])) (g.0) b) vs a
-  tangled (T.Include bytes ∷ xs) ss s at noted there k h g b vs a = tangled xs ss s (at + 1) [] there k h (g.2) (directive_behind tokens bytes at (joined (map top_text xs) []) (g.0) b) vs a
+  tangled (T.Note bytes ∷ xs) ss s at noted there k h g b vs a = tangled xs ss s at (noted ++ bytes ∷ []) there k h (g.1)
+      (past_comment tokens at bytes (newline (joined (map top_text xs) [])) (g.0) b) vs a
+  tangled (T.Include bytes ∷ xs) ss s at noted there k h g b vs a = tangled xs ss s (at + 1) [] there k h (g.2)
+      (directive_behind tokens bytes at (joined (map top_text xs) []) (g.0) b) vs a
   tangled (T.Enum [] ∷ xs) ss s at noted there k h g b vs a = absurd g
   tangled (T.Enum (x ∷ es) ∷ xs) ss s at noted there k h g b vs a =
       let form = tops.Enum (written_enumeration at (enumeration_of x es)) in
@@ -214,7 +222,8 @@ module _ (ts : List Top) (file : File) (tokens : List Spelling) (words : AreWord
       let inner = behind_form file form s in
       let y = declaration_end at (global_of v) in
       subst AreTangled (sym (ap (file_faults measuring (written_tops file.word y (derivation.tops_of xs)) inner) (e.clear vs)))
-      (tangled xs (behind_top ss (T.Global v)) inner y [] (bind_inside v.slot.name (AVariable (H.Global v.slot.name)) ss there) (bind_of_file v.slot.name (AVariable (H.Global v.slot.name)) ss tt k) (e.same) (g.2) (e.behind) vs a)
+      (tangled xs (behind_top ss (T.Global v)) inner y [] (bind_inside v.slot.name (AVariable (H.Global v.slot.name)) ss there)
+      (bind_of_file v.slot.name (AVariable (H.Global v.slot.name)) ss tt k) (e.same) (g.2) (e.behind) vs a)
   tangled (T.Function f ∷ xs) ss s at noted there k h g b vs a =
       let e = function_here f s ss at (joined (map top_text xs) []) there k h (g.0) b in
       let x = of f at in
@@ -225,7 +234,8 @@ module _ (ts : List Top) (file : File) (tokens : List Spelling) (words : AreWord
       let ws = measured flat file.word x x.body f.body vs in
       let found = e.here.clear flat _ ∙ ap (measured flat file.word x x.body f.body) (e.named.clear vs) in
       subst AreTangled (sym (ap (file_faults measuring (written_tops file.word y (derivation.tops_of xs)) inner) found))
-      (tangled xs behind inner y [] (bind_inside f.name AFunction ss there) (bind_of_file f.name AFunction ss tt k) (e.named.same) later (e.here.behind) ws (measured_tangled flat file.word x x.body f.body vs a))
+      (tangled xs behind inner y [] (bind_inside f.name AFunction ss there) (bind_of_file f.name AFunction ss tt k) (e.named.same) later
+      (e.here.behind) ws (measured_tangled flat file.word x x.body f.body vs a))
 
 -- ---- the text of a program
 
@@ -260,8 +270,10 @@ unmeasured flat p r t =
     let word = word_of text tokens in
     let read : reading flat text ≡ answer text tokens p (violation_of (file_at flat text tokens comments xs) xs) =
     ap (of_tokens flat text) (parses.scanned) ∙ ap (of_syntax flat text (scanned_of (printed_pieces p))) (parses.parsed_so)
-    ∙ ap (λ z. answer text tokens (program_of (file_at flat text tokens comments z) z) (violation_of (file_at flat text tokens comments z) z)) (file_writes word (derivation.file_of p) (reads.keywords))
-    ∙ ap (λ l. answer text tokens (record { tops = l }) (violation_of (file_at flat text tokens comments xs) xs)) (same_tops p.tops file spelled known flat xs start ∙ reads.tops) in
+    ∙ ap (λ z. answer text tokens (program_of (file_at flat text tokens comments z) z) (violation_of (file_at flat text tokens comments z) z))
+    (file_writes word (derivation.file_of p) (reads.keywords))
+    ∙ ap (λ l. answer text tokens (record { tops = l }) (violation_of (file_at flat text tokens comments xs) xs))
+    (same_tops p.tops file spelled known flat xs start ∙ reads.tops) in
     subst (IsGood p) (sym read) (by_violation p text tokens (violation_of (file_at flat text tokens comments xs) xs) (least_tangled None _ tt all))
   where
     library_of_file : ScopeIsOfFile (map (λ m. (m, AFunction)) known_functions)

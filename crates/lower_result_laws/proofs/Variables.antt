@@ -33,20 +33,23 @@ kinds (Some k ∷ cs) = k ∷ kinds cs
 abbrev pub more_variables : ℕ → List (Option IntKind) → List (List ℕ) → List Slot
 more_variables k [] used = []
 more_variables k (None ∷ cs) used = more_variables (k + 1) cs used
-more_variables k (Some kind ∷ cs) used = number_slot kind (fresh (numbered (codes "switch") k) used) ∷ more_variables (k + 1) cs (with_name used (fresh (numbered (codes "switch") k) used))
+more_variables k (Some kind ∷ cs) used = number_slot kind (fresh (numbered (codes "switch") k) used) ∷ more_variables (k + 1) cs
+    (with_name used (fresh (numbered (codes "switch") k) used))
 
 abbrev pub used_behind : ℕ → List (Option IntKind) → List (List ℕ) → List (List ℕ)
 used_behind k [] used = used
 used_behind k (None ∷ cs) used = used_behind (k + 1) cs used
 used_behind k (Some kind ∷ cs) used = used_behind (k + 1) cs (with_name used (fresh (numbered (codes "switch") k) used))
 
-pub variables_are : (k : ℕ) (cs : List (Option IntKind)) (n : Named) → with_variables k cs n ≡ record { slots = n.slots ++ more_variables k cs n.used; used = used_behind k cs n.used }
+pub variables_are : (k : ℕ) (cs : List (Option IntKind)) (n : Named) →
+    with_variables k cs n ≡ record { slots = n.slots ++ more_variables k cs n.used; used = used_behind k cs n.used }
 variables_are k [] n = ap (λ ss. record { slots = ss; used = n.used }) (sym (append-nil n.slots))
 variables_are k (None ∷ cs) n = variables_are (k + 1) cs n
 variables_are k (Some kind ∷ cs) n =
     let m = fresh (numbered (codes "switch") k) n.used in
     variables_are (k + 1) cs (with_variable k (Some kind) n)
-    ∙ ap (λ ss. record { slots = ss; used = used_behind (k + 1) cs (with_name n.used m) }) (append_assoc n.slots (number_slot kind m ∷ []) (more_variables (k + 1) cs (with_name n.used m)))
+    ∙ ap (λ ss. record { slots = ss; used = used_behind (k + 1) cs (with_name n.used m) })
+    (append_assoc n.slots (number_slot kind m ∷ []) (more_variables (k + 1) cs (with_name n.used m)))
 
 pub more_numbers : (k : ℕ) (cs : List (Option IntKind)) (used : List (List ℕ)) → AreNumbers (kinds cs) (more_variables k cs used)
 more_numbers k [] used = tt
@@ -93,7 +96,9 @@ mutual
 
   counted_among : (d : Sections) → length (kinds (constructs_among d)) ≡ total_in variables_of d
   counted_among NoSection = refl
-  counted_among (Section cases default a ends d) = let e = kinds_length (constructs a) (constructs_among d) in let i = counted a in let j = counted_among d in omega (arith, e, i, j)
+  counted_among (Section cases default a ends d) = let e = kinds_length (constructs a) (constructs_among d) in let i = counted a in let j =
+      counted_among d in
+      omega (arith, e, i, j)
 
 -- ---- each switch has its variable
 
@@ -160,7 +165,8 @@ module _ (s : Setting) where
   entry_at [] t more = refl
   entry_at (x ∷ olds) t more = entry_at olds t more
 
-  pub at_numbers : (olds vs : List Slot) (ks : List IntKind) → AreNumbers ks vs → s.new ≡ olds ++ vs → s.params ≤ length olds → length s.old ≤ length olds → At (length olds) ks
+  pub at_numbers : (olds vs : List Slot) (ks : List IntKind) → AreNumbers ks vs → s.new ≡ olds ++ vs → s.params ≤ length olds →
+      length s.old ≤ length olds → At (length olds) ks
   at_numbers olds vs [] h e p o = tt
   at_numbers olds [] (k ∷ ks) h e p o = absurd h
   at_numbers olds (t ∷ vs) (k ∷ ks) h e p o =
@@ -207,7 +213,8 @@ module _ (vs : List Slot) (ks : List IntKind) (numbers : AreNumbers ks vs) where
       (ap (λ z. (slot_named z taken used s).constant) f, all_free (n - 1) (slot_taken b taken used s) (slot_used b taken used s) ss (omega (arith, e)))
 
   -- no variable that is no parameter is const
-  pub free_behind : (n : ℕ) (taken used : List (List ℕ)) (ss : List Slot) → n ≤ length ss → AllByRecursion IsFree (drop n ((named_slots n taken used ss).slots ++ vs))
+  pub free_behind : (n : ℕ) (taken used : List (List ℕ)) (ss : List Slot) → n ≤ length ss →
+      AllByRecursion IsFree (drop n ((named_slots n taken used ss).slots ++ vs))
   free_behind zero taken used ss h = all_free 0 taken used ss refl
   free_behind (suc n) taken used [] h = absurd (omega (arith, h))
   free_behind (suc n) taken used (s ∷ ss) h =

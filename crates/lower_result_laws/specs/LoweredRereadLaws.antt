@@ -29,6 +29,8 @@ pub record LoweredReadingLaws : Type 0 where
   -- the text of a program that is resolved but for the measures of its flat forms has no fault but functions that are too tangled
   pub unmeasured : (flat : FlatCounts) (p : Program) → IsResolvedWith limits.no_counts p → HasText p → IsReadOrTangled flat (text_of p) p
   -- so has the text of what a modest resolved program is lowered to
-  pub lowered : (counts : limits.FlatCounts) (p q : Program) → IsResolvedWith counts p → IsLoweredProgram p q → IsModest p → IsReadOrTangled counted (text_of q) q
+  pub lowered : (counts : limits.FlatCounts) (p q : Program) → IsResolvedWith counts p → IsLoweredProgram p q → IsModest p →
+      IsReadOrTangled counted (text_of q) q
   -- which reads back where none of its functions is too tangled
-  pub reads_back : (p q : Program) → IsResolved p → IsLoweredProgram p q → IsModest p → Each (IsTopUntangled flat_counts) q.tops → reading counted (text_of q) ≡ Ok q
+  pub reads_back : (p q : Program) → IsResolved p → IsLoweredProgram p q → IsModest p → Each (IsTopUntangled flat_counts) q.tops →
+      reading counted (text_of q) ≡ Ok q

@@ -18,6 +18,7 @@ pub record LoweredResolvedLaws : Type 0 where
   -- what a modest resolved program is lowered to is resolved but for the measures of its flat forms
   pub uncounted : (counts : FlatCounts) (p q : Program) → IsResolvedWith counts p → IsLoweredProgram p q → IsModest p → IsResolvedWith no_counts q
   -- and resolved where none of its functions is too tangled
-  pub resolved : (counts counts' : FlatCounts) (p q : Program) → IsResolvedWith counts p → IsLoweredProgram p q → IsModest p → Each (IsTopUntangled counts') q.tops → IsResolvedWith counts' q
+  pub resolved : (counts counts' : FlatCounts) (p q : Program) → IsResolvedWith counts p → IsLoweredProgram p q → IsModest p →
+      Each (IsTopUntangled counts') q.tops → IsResolvedWith counts' q
   -- it has a text
   pub text : (counts : FlatCounts) (p q : Program) → IsResolvedWith counts p → IsLoweredProgram p q → HasText q

@@ -34,7 +34,8 @@ mutual
     else_list : (m : ℕ) (w : Way) (t : TestTree) (a b c : Forest) → InList m w a b → InItem (into B.Else m w) (If t c a) (If t c b)
     while_list : (m : ℕ) (w : Way) (t : TestTree) (a b : Forest) → InList m w a b → InItem (into B.Body m w) (While t a) (While t b)
     do_list : (m : ℕ) (w : Way) (t : TestTree) (a b : Forest) → InList m w a b → InItem (into B.Body m w) (Do a t) (Do b t)
-    for_list : (m : ℕ) (w : Way) (f : Forest) (t u : Option ExpressionTree) (a b : Forest) → InList m w a b → InItem (into B.Body m w) (For f t u a) (For f t u b)
+    for_list : (m : ℕ) (w : Way) (f : Forest) (t u : Option ExpressionTree) (a b : Forest) → InList m w a b →
+        InItem (into B.Body m w) (For f t u a) (For f t u b)
     block_list : (m : ℕ) (w : Way) (a b : Forest) → InList m w a b → InItem (into B.Body m w) (Block a) (Block b)
     section_list : (k m : ℕ) (w : Way) (s : SelectorTree) (c d : Sections) → InSections k m w c d → InItem (into (B.Section k) m w) (Switch s c) (Switch s d)
 

@@ -55,7 +55,8 @@ leap_at body at l e = by_item (item_at body at.steps at.item) e where
   by_item (Some x) f = ap (λ z. Some z) (leap-is l x f)
 
 -- the rule by which the Leap stands to its Land is the one that applies
-pub rule_by : (body : List Item) → IsWellMade (trees_of body) → (at place : Path) (l : ℕ) (r : Rule) → label_at body at ≡ Some l → item_at body place.steps place.item ≡ Some (Land l)
+pub rule_by : (body : List Item) → IsWellMade (trees_of body) → (at place : Path) (l : ℕ) (r : Rule) → label_at body at ≡ Some l →
+    item_at body place.steps place.item ≡ Some (Land l)
     → r ≡ relation at.steps at.item place.steps place.item → IsRuleAt r body at
 rule_by body w at place l r e land k =
     let leap = leap_at body at l e in
@@ -83,15 +84,24 @@ module _ (body new : List Item) (at : Path) (l : ℕ) (e : label_at body at ≡ 
   pub lifted : (to : Path) → L.IsLifted at body new to → IsMove l at Lift (Some to) body new
   lifted to h =
       let s = same_label body at l h.label e h.lifts.applies.leap in
-      record { moves = subst (λ m. IsLifted m (record { body = body; at = at }) (record { body = new; at = to })) s (record { place = h.place; moves = h.lifts }) }
+      record {
+        moves = subst (λ m. IsLifted m (record { body = body; at = at }) (record { body = new; at = to })) s
+            (record { place = h.place; moves = h.lifts });
+      }
 
   pub moved_in : (to : Path) → IsMovedIn at body new to → IsMove l at Inward (Some to) body new
   moved_in to h =
       let s = same_label body at l h.label e h.moves.applies.leap in
-      record { moves = subst (λ m. GoesIn m (record { body = body; at = at }) (record { body = new; at = to })) s (record { number = h.number; place = h.place; branch = h.branch; moves = h.moves }) }
+      record {
+        moves = subst (λ m. GoesIn m (record { body = body; at = at }) (record { body = new; at = to })) s
+            (record { number = h.number; place = h.place; branch = h.branch; moves = h.moves });
+      }
 
   pub moved_out : (to : Path) → IsMovedOut at body new to → IsMove l at Out (Some to) body new
   moved_out to h =
       let leap = ap (λ (z : List Step). item_at body z at.item) h.steps ∙ h.moves.applies.leap in
       let s = same_label body at l h.label e leap in
-      record { moves = subst (λ m. GoesOut m (record { body = body; at = at }) (record { body = new; at = to })) s (record { outer = h.outer; last = h.last; steps = h.steps; moves = h.moves }) }
+      record {
+        moves = subst (λ m. GoesOut m (record { body = body; at = at }) (record { body = new; at = to })) s
+            (record { outer = h.outer; last = h.last; steps = h.steps; moves = h.moves });
+      }

@@ -53,7 +53,8 @@ put_front n xs s ss w h = by_item (slice_get xs s.item) where
   by_child x None = refl
   by_child x (Some a) = set_front n s.item xs (with_child s.branch (put_at a ss w) x) h
 
-  by_item : (o : Option Item) → take n (option_map_or (λ x. option_map_or (λ a. slice_set xs s.item (with_child s.branch (put_at a ss w) x)) (child s.branch x) xs) o xs) ≡ take n xs
+  by_item : (o : Option Item) → take n (option_map_or (λ x. option_map_or (λ a. slice_set xs s.item (with_child s.branch (put_at a ss w) x))
+      (child s.branch x) xs) o xs) ≡ take n xs
   by_item None = refl
   by_item (Some x) = by_child x (child s.branch x)
 
@@ -69,7 +70,8 @@ module _ (l : ℕ) where
       absurd (omega (arith, g, c, z, lands-first l y (take n xs)))
   behind (suc n) (suc j) (y ∷ xs) x e c z = omega (arith, behind n j xs x e c (omega (arith, z, lands-first l y (take n xs))))
 
-  free : (n m : ℕ) (xs : List Item) (x : Item) → n ≤ m → slice_get xs m ≡ Some x → 0 < counted l x → lands l (trees_of xs) ≡ 1 → lands l (trees_of (take n xs)) ≡ 0
+  free : (n m : ℕ) (xs : List Item) (x : Item) → n ≤ m → slice_get xs m ≡ Some x → 0 < counted l x → lands l (trees_of xs) ≡ 1 →
+      lands l (trees_of (take n xs)) ≡ 0
   free zero m xs x h e c one = ap (lands l) trees-none
   free (suc n) m [] x h e c one = cc
   free (suc n) zero (y ∷ xs) x h e c one = absurd (omega (arith, h))
@@ -80,14 +82,16 @@ module _ (l : ℕ) where
       omega (arith, rest, one, here, some, c, lands-first l y (take n xs))
 
   -- the item in which the Land stands, or that it is
-  place_item : (body : List Item) (ss : List Step) (i : ℕ) → item_at body ss i ≡ Some (Land l) → (x : Item) × (slice_get body (outermost_of ss i) ≡ Some x) × (0 < counted l x)
+  place_item : (body : List Item) (ss : List Step) (i : ℕ) → item_at body ss i ≡ Some (Land l) →
+      (x : Item) × (slice_get body (outermost_of ss i) ≡ Some x) × (0 < counted l x)
   place_item body [] i e = (Land l, e, counted-Land l)
   place_item body (s ∷ ss) i e =
       let h = land_inside l body s ss i e in
       (h.item, h.item_is, omega (arith, h.inside, held-is l h.item))
 
   -- where the front ends before the Land, it has none
-  pub free_front : (body : List Item) (at land : Path) (n : ℕ) → IsWellMade (trees_of body) → label_at body at ≡ Some l → item_at body land.steps land.item ≡ Some (Land l) → n ≤ outermost land → lands l (trees_of (take n body)) ≡ 0
+  pub free_front : (body : List Item) (at land : Path) (n : ℕ) → IsWellMade (trees_of body) → label_at body at ≡ Some l →
+      item_at body land.steps land.item ≡ Some (Land l) → n ≤ outermost land → lands l (trees_of (take n body)) ≡ 0
   free_front body at land n w leap there h =
       let p = place_item body land.steps land.item there in
       free n (outermost land) body p.0 h p.1 p.2 (one_land body w l at (leap_at body at l leap))
@@ -95,7 +99,8 @@ module _ (l : ℕ) where
   -- one move
 
   module _ (n : ℕ) where
-    join_front : (body : List Item) (ss : List Step) (i j : ℕ) (new : List Item) → Joins l i j ss body new → n ≤ outermost_of ss i → lands l (trees_of (take n body)) ≡ 0 → take n new ≡ take n body
+    join_front : (body : List Item) (ss : List Step) (i j : ℕ) (new : List Item) → Joins l i j ss body new → n ≤ outermost_of ss i →
+        lands l (trees_of (take n body)) ≡ 0 → take n new ≡ take n body
     join_front body [] i j new m h z =
         let k = behind n j body (Land l) m.applies.land (counted-Land l) z in
         ap (take n) m.body ∙ by_order (nat_lt i j) k where
@@ -104,18 +109,27 @@ module _ (l : ℕ) where
           by_order false k = cut_front n j body (Do (slice_range body j i) (On l) ∷ drop (i + 1) body) (Land l) k m.applies.land
     join_front body (s ∷ ss) i j new m h z = ap (take n) m.body ∙ put_front n body s ss _ h
 
-    lift_front : (body : List Item) (ss : List Step) (i j : ℕ) (new : List Item) (to : Path) → Lifts l i j ss body new to → n ≤ outermost_of ss i → lands l (trees_of (take n body)) ≡ 0
+    lift_front : (body : List Item) (ss : List Step) (i j : ℕ) (new : List Item) (to : Path) → Lifts l i j ss body new to → n ≤ outermost_of ss i →
+        lands l (trees_of (take n body)) ≡ 0
         → (take n new ≡ take n body) × (n ≤ outermost to)
     lift_front body [] i j new to m h z =
         let x = held_some (λ y. 0 < lands_inside l (tree_of y)) (item_at body [] j) m.applies.held in
-        let k = behind n j body x.0 x.1 (omega (arith, x.2, held-is l x.0)) z in
-        (ap (take n) m.body ∙ cut_front n j body (Do (Leap l ∷ slice_range body j i) (On l) ∷ drop (i + 1) body) x.0 k x.1, subst (λ p. n ≤ outermost p) (sym m.path) k)
+        let k = behind n j body x.0 x.1 (omega (arith, x.2, held-is l x.0)) z in (
+          ap (take n) m.body ∙ cut_front n j body (Do (Leap l ∷ slice_range body j i) (On l) ∷ drop (i + 1) body) x.0 k x.1,
+          subst (λ p. n ≤ outermost p) (sym m.path) k,
+        )
     lift_front body (s ∷ ss) i j new to m h z = (ap (take n) m.body ∙ put_front n body s ss _ h, subst (λ p. n ≤ outermost p) (sym m.path) h)
 
-    in_front : (number : ℤ) (body : List Item) (ss : List Step) (i j : ℕ) (b : Branch) (new : List Item) (to : Path) → MovesIn l number i j b ss body new to → n ≤ outermost_of ss i
+    in_front : (number : ℤ) (body : List Item) (ss : List Step) (i j : ℕ) (b : Branch) (new : List Item) (to : Path) →
+        MovesIn l number i j b ss body new to → n ≤ outermost_of ss i
         → (take n new ≡ take n body) × (n ≤ outermost to)
-    in_front number body [] i j b new to m h = (ap (take n) m.body ∙ by_item (slice_get body j), subst (λ p. n ≤ outermost p) (sym m.path) (omega (arith, h))) where
-      by_item : (o : Option Item) → take n (option_map_or (λ x. take i body ++ guarded l (slice_range body (i + 1) j) ++ entered l number b x ∷ drop (j + 1) body) o body) ≡ take n body
+    in_front number body [] i j b new to m h = (
+      ap (take n) m.body ∙ by_item (slice_get body j),
+      subst (λ p. n ≤ outermost p) (sym m.path)
+          (omega (arith, h)),
+    ) where
+      by_item : (o : Option Item) → take n
+          (option_map_or (λ x. take i body ++ guarded l (slice_range body (i + 1) j) ++ entered l number b x ∷ drop (j + 1) body) o body) ≡ take n body
       by_item None = refl
       by_item (Some x) = cut_front_before n i body (guarded l (slice_range body (i + 1) j)) (entered l number b x ∷ drop (j + 1) body) (Leap l) h m.applies.leap
     in_front number body (s ∷ ss) i j b new to m h = (ap (take n) m.body ∙ put_front n body s ss _ h, subst (λ p. n ≤ outermost p) (sym m.path) h)
@@ -123,12 +137,14 @@ module _ (l : ℕ) where
     out_front : (body : List Item) (outer : List Step) (last : Step) (i : ℕ) → n ≤ outermost_of (outer ++ last ∷ []) i
         → (take n (moved_out_at l outer last i body) ≡ take n body) × (n ≤ outermost (path_outside outer last))
     out_front body [] last i h = (by_item (slice_get body last.item) refl, omega (arith, h)) where
-      by_item : (o : Option Item) → slice_get body last.item ≡ o → take n (option_map_or (λ x. take last.item body ++ left l last.branch i x ∷ Leap l ∷ drop (last.item + 1) body) o body) ≡ take n body
+      by_item : (o : Option Item) → slice_get body last.item ≡ o → take n
+          (option_map_or (λ x. take last.item body ++ left l last.branch i x ∷ Leap l ∷ drop (last.item + 1) body) o body) ≡ take n body
       by_item None e = refl
       by_item (Some x) e = cut_front n last.item body (left l last.branch i x ∷ Leap l ∷ drop (last.item + 1) body) x h e
     out_front body (s ∷ outer) last i h = (put_front n body s outer _ h, h)
 
-    move_front : (k : MoveKind) (p q : Point) → MovesBy k l p q → n ≤ outermost p.at → lands l (trees_of (take n p.body)) ≡ 0 → (take n q.body ≡ take n p.body) × (n ≤ outermost q.at)
+    move_front : (k : MoveKind) (p q : Point) → MovesBy k l p q → n ≤ outermost p.at → lands l (trees_of (take n p.body)) ≡ 0 →
+        (take n q.body ≡ take n p.body) × (n ≤ outermost q.at)
     move_front Out p q m h z =
         let f = out_front p.body m.outer m.last p.at.item (subst (λ ss. n ≤ outermost_of ss p.at.item) m.steps h) in
         (ap (take n) m.moves.body ∙ f.0, subst (λ a. n ≤ outermost a) (sym m.moves.path) f.1)
@@ -137,11 +153,13 @@ module _ (l : ℕ) where
     move_front _ p q m h z = absurd m
 
     -- all moves of the Leap
-    eliminated_front : {p : Point} {ms : List Kept} {new : List Item} → Eliminates l p ms new → n ≤ outermost p.at → lands l (trees_of (take n p.body)) ≡ 0 → take n new ≡ take n p.body
+    eliminated_front : {p : Point} {ms : List Kept} {new : List Item} → Eliminates l p ms new → n ≤ outermost p.at →
+        lands l (trees_of (take n p.body)) ≡ 0 → take n new ≡ take n p.body
     eliminated_front (joins p new j) h z = join_front p.body p.at.steps p.at.item j.place new j.moves h z
     eliminated_front (moves k p q ms new m e) h z =
         let f = move_front k p q m h z in
         eliminated_front e f.1 (ap (λ xs. lands l (trees_of xs)) f.0 ∙ z) ∙ f.0
 
-    pub same_front : (at : Path) (old new : List Item) (before after : List Kept) → IsUnderway l at None old new before after → n ≤ outermost at → lands l (trees_of (take n old)) ≡ 0 → take n new ≡ take n old
+    pub same_front : (at : Path) (old new : List Item) (before after : List Kept) → IsUnderway l at None old new before after → n ≤ outermost at →
+        lands l (trees_of (take n old)) ≡ 0 → take n new ≡ take n old
     same_front at old new before after u h z = eliminated_front u.continues h z

@@ -56,7 +56,8 @@ put_lands l xs front rest a w e c =
     ∙ changed_lands l (changed_at Moved f.0 rest a w inner c)
     ∙ sym (ap (λ z. lands l (trees_of z)) (there_is xs front f.0 f.1))
 
-pub starts : (body : List Item) (at : Path) (l : ℕ) (before : List Kept) → IsWellMade (trees_of body) → label_at body at ≡ Some l → IsLeaving l at at body body before before
+pub starts : (body : List Item) (at : Path) (l : ℕ) (before : List Kept) → IsWellMade (trees_of body) → label_at body at ≡ Some l →
+    IsLeaving l at at body body before before
 starts body at l before w e =
     let s = stands body at.steps at.item (Leap l) (leap_at body at l e) in
     record { underway = started body at l before w e; list = s.list; there = s.list_is; same = λ front rest f. refl }
@@ -77,28 +78,34 @@ outward_is SiblingAfter e = absurd (true≢false (sym e))
 outward_is LiftOf e = absurd (true≢false (sym e))
 outward_is InwardOf e = absurd (true≢false (sym e))
 
-module _ (l : ℕ) (start : Path) (old : List Item) (land : Path) (before : List Kept) (w : IsWellMade (trees_of old)) (leap : item_at old start.steps start.item ≡ Some (Leap l)) (there : item_at old land.steps land.item ≡ Some (Land l)) where
-  same_here : (at : Path) (mid : List Item) (after : List Kept) (h : IsLeaving l start at old mid before after) → lands l (trees_of (list_there mid at.steps)) ≡ lands l (trees_of h.list)
+module _ (l : ℕ) (start : Path) (old : List Item) (land : Path) (before : List Kept) (w : IsWellMade (trees_of old))
+    (leap : item_at old start.steps start.item ≡ Some (Leap l)) (there : item_at old land.steps land.item ≡ Some (Land l)) where
+  same_here : (at : Path) (mid : List Item) (after : List Kept) (h : IsLeaving l start at old mid before after) →
+      lands l (trees_of (list_there mid at.steps)) ≡ lands l (trees_of h.list)
   same_here at mid after h = h.same at.steps [] (sym (append-nil at.steps)) ∙ ap (λ z. lands l (trees_of z)) (there_is old at.steps h.list h.there)
 
-  pub held_elsewhere : (at : Path) (mid : List Item) (after : List Kept) → IsLeaving l start at old mid before after → is_outward (relation at.steps at.item land.steps land.item) ≡ true → IsHeldElsewhere mid at
+  pub held_elsewhere : (at : Path) (mid : List Item) (after : List Kept) → IsLeaving l start at old mid before after →
+      is_outward (relation at.steps at.item land.steps land.item) ≡ true → IsHeldElsewhere mid at
   held_elsewhere at mid after h e =
       let a = apart l old at.steps at.item land.steps land.item h.list (outward_is (relation at.steps at.item land.steps land.item) e) h.there there in
       let one = one_land old w l start leap in
       let s = same_here at mid after h in
       held_elsewhere_here mid at l h.underway.well_made h.underway.continues.0 (omega (arith, a, one, s))
 
-  pub leads_on : (at : Path) (mid : List Item) (after : List Kept) → IsLeaving l start at old mid before after → is_outward (relation at.steps at.item land.steps land.item) ≡ false → LeadsOn l mid at
+  pub leads_on : (at : Path) (mid : List Item) (after : List Kept) → IsLeaving l start at old mid before after →
+      is_outward (relation at.steps at.item land.steps land.item) ≡ false → LeadsOn l mid at
   leads_on at mid after h e =
       let m = means at.steps at.item land.steps land.item in
       let n = not_outward (relation at.steps at.item land.steps land.item) at.steps land.steps at.item land.item e m in
       let inner : item_at h.list n.0 land.item ≡ Some (Land l) =
-      ap (option_and_then (λ a. slice_get a land.item)) (sym (list-append old at.steps n.0 h.list h.there)) ∙ ap (λ z. item_at old z land.item) (sym n.1) ∙ there in
+      ap (option_and_then (λ a. slice_get a land.item)) (sym (list-append old at.steps n.0 h.list h.there)) ∙
+      ap (λ z. item_at old z land.item) (sym n.1) ∙ there in
       let s = same_here at mid after h in
       let k = land_some l h.list n.0 land.item inner in
       omega (arith, s, k)
 
-pub out_more : (l : ℕ) (start at to : Path) (old mid new : List Item) (before after now : List Kept) → IsLeaving l start at old mid before after → IsMovedOut at mid new to → IsWellMade (trees_of new)
+pub out_more : (l : ℕ) (start at to : Path) (old mid new : List Item) (before after now : List Kept) → IsLeaving l start at old mid before after →
+    IsMovedOut at mid new to → IsWellMade (trees_of new)
     → now ≡ after ++ record { kind = Out; label = l; path = at } ∷ [] → IsLeaving l start to old new before now
 out_more l start at to old mid new before after now h m w e =
     let label = label_there mid at l h.underway.continues.0 in

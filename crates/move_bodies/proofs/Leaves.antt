@@ -98,7 +98,8 @@ present p xs k d h t e = elim (cases_lt k (position_or_len p xs)) [
   | inl b ↦ true≢false (sym t ∙ fails_before_first p xs k d b)
   | inr b ↦
       let within : position_or_len p xs < length xs = omega arith in
-      let some : Some (position_or_len p xs) ≡ None = sym (ap (λ b. cond b (Some (position_or_len p xs)) None) (lt-ltb (position_or_len p xs) (length xs) within)) ∙ e in
+      let some : Some (position_or_len p xs) ≡ None = sym (ap (λ b. cond b (Some (position_or_len p xs)) None)
+      (lt-ltb (position_or_len p xs) (length xs) within)) ∙ e in
       cc
 ]
 
@@ -108,7 +109,8 @@ no_land l xs k x e f t =
     let g = get_or_from_slice_get xs k x x f in
     present (is_land l) xs k x n (ap (is_land l) g ∙ t) e
 
-module _ (body : List Item) (at : Path) (l : ℕ) (w : IsWellMade (trees_of body)) (leap : item_at body at.steps at.item ≡ Some (Leap l)) (ahead : IsAhead l body at) where
+module _ (body : List Item) (at : Path) (l : ℕ) (w : IsWellMade (trees_of body)) (leap : item_at body at.steps at.item ≡ Some (Leap l))
+    (ahead : IsAhead l body at) where
   holds_inside : (x : Item) → 0 < lands_of l (tree_of x) → (is_land l x ≡ true → ⊥) → 0 < lands_inside l (tree_of x)
   holds_inside x s n = elim (none_or_some (lands_inside l (tree_of x))) [
     | inr i ↦ i
@@ -122,12 +124,15 @@ module _ (body : List Item) (at : Path) (l : ℕ) (w : IsWellMade (trees_of body
         let c : cond {A = ℕ} (is_land l x) 1 0 ≡ 0 = ap (λ z. cond {A = ℕ} z 1 0) e in
         absurd (omega (arith, a, b, c, s, z))
 
-  in_element : (list : List Item) → list_at body at.steps ≡ Some list → ((x : Item) (k : ℕ) → slice_get list k ≡ Some x → is_land l x ≡ true → ⊥) → ElementWith l list → IsHeldAfter body at
+  in_element : (list : List Item) → list_at body at.steps ≡ Some list → ((x : Item) (k : ℕ) → slice_get list k ≡ Some x → is_land l x ≡ true → ⊥) →
+      ElementWith l list → IsHeldAfter body at
   in_element list e none v =
       let first : slice_get list 0 ≡ Some (Leap l) = sym (ap (option_and_then (λ a. slice_get a 0)) e) ∙ ap (item_at body at.steps) (sym ahead.first) ∙ leap in
       let i = holds_inside v.item v.some (none v.item v.place v.item_is) in
-      let each = λ (P : Tree → Type 0) (a : Everywhere P (trees_of body)). subst P (tree-out v.item) (holds_at P body at.steps list v.place v.item e v.item_is a) in
-      let y = layer_way l (out-Item v.item) (subst (λ z. 0 < lands_inside l z) (tree-out v.item) i) (each IsConverted w.converted) (each IsPlainFor w.loops) (each HasSelectorKind w.selectors) (each HasCases w.cases) in
+      let each = λ (P : Tree → Type 0) (a : Everywhere P (trees_of body)). subst P (tree-out v.item)
+      (holds_at P body at.steps list v.place v.item e v.item_is a) in
+      let y = layer_way l (out-Item v.item) (subst (λ z. 0 < lands_inside l z) (tree-out v.item) i) (each IsConverted w.converted)
+      (each IsPlainFor w.loops) (each HasSelectorKind w.selectors) (each HasCases w.cases) in
       let there = ap (option_and_then (λ a. slice_get a v.place)) e ∙ v.item_is in
       record {
         label = l;
@@ -136,7 +141,8 @@ module _ (body : List Item) (at : Path) (l : ℕ) (w : IsWellMade (trees_of body
         well_made = w;
         leap = leap;
         later = later (λ z. not_first first v z) ahead.first;
-        leads = subst (Holds (LeadsTo l y.branch)) (sym there) (record { construct = y.has; held = subst (Holds (λ a. 0 < lands l (trees_of a))) (sym y.child_is) y.held });
+        leads = subst (Holds (LeadsTo l y.branch)) (sym there)
+            (record { construct = y.has; held = subst (Holds (λ a. 0 < lands l (trees_of a))) (sym y.child_is) y.held });
       } where
         later : {k i : ℕ} → (k ≡ 0 → ⊥) → i ≡ 0 → i < k
         later {k} {i} n e = positive k n e where
@@ -180,10 +186,12 @@ ahead_by Lift l p q h leads =
 ahead_by Inward l p q h leads =
     let t = in_parts l p q h in
     let i = t.held in
-    let n = ap (λ z. lands l (trees_of z)) (there_is q.body q.at.steps (Leap l ∷ t.inner) (entered_list l p q h.number h.place h.branch t)) ∙ lands-leap l t.inner in
+    let n = ap (λ z. lands l (trees_of z)) (there_is q.body q.at.steps (Leap l ∷ t.inner) (entered_list l p q h.number h.place h.branch t)) ∙
+    lands-leap l t.inner in
     record { first = t.first; leads = omega (arith, n, i) }
 ahead_by _ l p q h leads = absurd h
 
-pub ahead_after : (l : ℕ) (at : Path) (kind : MoveKind) (to : Option Path) (old new : List Item) → IsMove l at kind to old new → LeadsOn l old at → AheadIf l new to
+pub ahead_after : (l : ℕ) (at : Path) (kind : MoveKind) (to : Option Path) (old new : List Item) → IsMove l at kind to old new → LeadsOn l old at →
+    AheadIf l new to
 ahead_after l at kind None old new m leads = tt
 ahead_after l at kind (Some to) old new m leads = ahead_by kind l (record { body = old; at = at }) (record { body = new; at = to }) m.moves leads

@@ -16,7 +16,8 @@ use Rattle.guard_simplify.specs.Application.{applied_as, IsEdited, IsApplied, Re
 use Rattle.guard_simplify.proofs.Members.{in_first}
 use Rattle.guard_simplify.proofs.Applied.{chosen_simplified}
 
-pub applied_simpler : (c : Choice) (old new : List Item) → Among c (choices (trees_of old)) → IsApplied c old new → nesting (trees_of new) ≤ nesting (trees_of old)
+pub applied_simpler : (c : Choice) (old new : List Item) → Among c (choices (trees_of old)) → IsApplied c old new →
+    nesting (trees_of new) ≤ nesting (trees_of old)
 applied_simpler c old new i a = elim (chosen_simplified c old new i a).either [
   | inl r ↦ depth_laws.simplified (trees_of old) (trees_of new) r
   | inr g ↦ subst (λ a. nesting a ≤ nesting (trees_of old)) (sym g.1) (depth_laws.dropped (eqb g.0) (trees_of old))
@@ -32,7 +33,8 @@ module _ {A E : Type 0} (c : Choice) (old new : List Item) (other : c.kind ≢ Z
   edited_applied (Ok x) e = as_applied c old new c.kind other e
   edited_applied (Err x) e = tt
 
-  pub edited_simpler : (r : Result A E) → Among c (choices (trees_of old)) → OnOk r (IsEdited c old new) → OnErr r (new ≡ old) → nesting (trees_of new) ≤ nesting (trees_of old)
+  pub edited_simpler : (r : Result A E) → Among c (choices (trees_of old)) → OnOk r (IsEdited c old new) → OnErr r (new ≡ old) →
+      nesting (trees_of new) ≤ nesting (trees_of old)
   edited_simpler (Ok x) i e s = applied_simpler c old new i (as_applied c old new c.kind other e)
   edited_simpler (Err x) i e s = subst (λ z. nesting (trees_of z) ≤ nesting (trees_of old)) (sym s) (omega arith)
 
@@ -44,5 +46,6 @@ reached_simpler (then {body = body} {new = new} c r n) =
     omega (arith, i, j)
 
 -- the same of a function with such a body
-pub body_simpler : (f : Function) (body new : List Item) → f.body ≡ Some body → nesting (trees_of new) ≤ nesting (trees_of body) → nesting (body_of (with_body f new)) ≤ nesting (body_of f)
+pub body_simpler : (f : Function) (body new : List Item) → f.body ≡ Some body → nesting (trees_of new) ≤ nesting (trees_of body) →
+    nesting (body_of (with_body f new)) ≤ nesting (body_of f)
 body_simpler f body new e h = subst (λ (o : Option (List Item)). nesting (trees_of new) ≤ nesting (option_map_or trees_of o Nil)) (sym e) h

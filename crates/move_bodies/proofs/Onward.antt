@@ -55,10 +55,11 @@ under_head c i b cs h = let u = in_under c i b cs h in ap head u.is
 
 sections_head : (bar : ℕ → Bool) (i k : ℕ) (d : Sections) (c : Choice) → Among c (choices_of_sections bar i k d) → head c ≡ i
 sections_head bar i k NoSection c h = absurd h
-sections_head bar i k (Section cases default a ends d) c h = elim (in_append c (under i (B.Section k) (choices_from bar 0 a)) (choices_of_sections bar i (k + 1) d) h) [
-  | inl u ↦ under_head c i (B.Section k) (choices_from bar 0 a) u
-  | inr u ↦ sections_head bar i (k + 1) d c u
-]
+sections_head bar i k (Section cases default a ends d) c h = elim
+    (in_append c (under i (B.Section k) (choices_from bar 0 a)) (choices_of_sections bar i (k + 1) d) h) [
+      | inl u ↦ under_head c i (B.Section k) (choices_from bar 0 a) u
+      | inr u ↦ sections_head bar i (k + 1) d c u
+    ]
 
 inside_head : (bar : ℕ → Bool) (i : ℕ) (x : Tree) (c : Choice) → Among c (choices_in bar i x) → head c ≡ i
 inside_head bar i (If t a b) c h = elim (in_append c (under i B.Then (choices_from bar 0 a)) (under i B.Else (choices_from bar 0 b)) h) [
@@ -112,11 +113,16 @@ record Alike (bar : ℕ → Bool) (x y : Tree) : Type 0 where
 
 alike_own : (bar : ℕ → Bool) (i : ℕ) (x y : Tree) (rest : Forest) → Alike bar x y → own bar i y rest ≡ own bar i x rest
 alike_own bar i x y rest a =
-    ap (λ b. if_true i Z1 b ++ (if_some i Z2 (repeat_label (repeat_of y)) ++ (if_some i Z3 (neighbours y rest) ++ (if_true i Z4 (is_nested y) ++ if_some i Z5 (unread_guard bar y))))) a.empty
-    ∙ ap (λ o. if_true i Z1 (is_empty_if x) ++ (if_some i Z2 (repeat_label o) ++ (if_some i Z3 (neighbours y rest) ++ (if_true i Z4 (is_nested y) ++ if_some i Z5 (unread_guard bar y))))) a.repeats
-    ∙ ap (λ o. if_true i Z1 (is_empty_if x) ++ (if_some i Z2 (repeat_label (repeat_of x)) ++ (if_some i Z3 o ++ (if_true i Z4 (is_nested y) ++ if_some i Z5 (unread_guard bar y))))) (a.next rest)
-    ∙ ap (λ b. if_true i Z1 (is_empty_if x) ++ (if_some i Z2 (repeat_label (repeat_of x)) ++ (if_some i Z3 (neighbours x rest) ++ (if_true i Z4 b ++ if_some i Z5 (unread_guard bar y))))) a.nested
-    ∙ ap (λ o. if_true i Z1 (is_empty_if x) ++ (if_some i Z2 (repeat_label (repeat_of x)) ++ (if_some i Z3 (neighbours x rest) ++ (if_true i Z4 (is_nested x) ++ if_some i Z5 o)))) a.unread
+    ap (λ b. if_true i Z1 b ++ (if_some i Z2 (repeat_label (repeat_of y)) ++
+    (if_some i Z3 (neighbours y rest) ++ (if_true i Z4 (is_nested y) ++ if_some i Z5 (unread_guard bar y))))) a.empty
+    ∙ ap (λ o. if_true i Z1 (is_empty_if x) ++
+    (if_some i Z2 (repeat_label o) ++ (if_some i Z3 (neighbours y rest) ++ (if_true i Z4 (is_nested y) ++ if_some i Z5 (unread_guard bar y))))) a.repeats
+    ∙ ap (λ o. if_true i Z1 (is_empty_if x) ++ (if_some i Z2 (repeat_label (repeat_of x)) ++
+    (if_some i Z3 o ++ (if_true i Z4 (is_nested y) ++ if_some i Z5 (unread_guard bar y))))) (a.next rest)
+    ∙ ap (λ b. if_true i Z1 (is_empty_if x) ++ (if_some i Z2 (repeat_label (repeat_of x)) ++
+    (if_some i Z3 (neighbours x rest) ++ (if_true i Z4 b ++ if_some i Z5 (unread_guard bar y))))) a.nested
+    ∙ ap (λ o. if_true i Z1 (is_empty_if x) ++ (if_some i Z2 (repeat_label (repeat_of x)) ++
+    (if_some i Z3 (neighbours x rest) ++ (if_true i Z4 (is_nested x) ++ if_some i Z5 o)))) a.unread
 
 -- the list of an `if` is changed, and has the same Arms
 next_then : (t : TestTree) (a b c : Forest) (rest : Forest) → ((l : ℕ) → arms l b ≡ arms l a) → neighbours (If t b c) rest ≡ neighbours (If t a c) rest
@@ -159,10 +165,11 @@ record FromSection (n : ℕ) (c : Choice) : Type 0 where
 
 sections_branch : (bar : ℕ → Bool) (i k : ℕ) (d : Sections) (c : Choice) → Among c (choices_of_sections bar i k d) → FromSection k c
 sections_branch bar i k NoSection c h = absurd h
-sections_branch bar i k (Section cases default a ends d) c h = elim (in_append c (under i (B.Section k) (choices_from bar 0 a)) (choices_of_sections bar i (k + 1) d) h) [
-  | inl u ↦ record { number = k; least = omega arith; branch = under_branch c i (B.Section k) (choices_from bar 0 a) u }
-  | inr u ↦ let r = sections_branch bar i (k + 1) d c u in let m = r.least in record { number = r.number; least = omega (arith, m); branch = r.branch }
-]
+sections_branch bar i k (Section cases default a ends d) c h = elim
+    (in_append c (under i (B.Section k) (choices_from bar 0 a)) (choices_of_sections bar i (k + 1) d) h) [
+      | inl u ↦ record { number = k; least = omega arith; branch = under_branch c i (B.Section k) (choices_from bar 0 a) u }
+      | inr u ↦ let r = sections_branch bar i (k + 1) d c u in let m = r.least in record { number = r.number; least = omega (arith, m); branch = r.branch }
+    ]
 
 same_section : (m n : ℕ) → B.Section m ≡ B.Section n → m ≡ n
 same_section m n e = cc
@@ -201,11 +208,13 @@ abbrev mutual
 abbrev pub Follows : List Choice → List Choice → List Choice → Path → Type 0
 Follows xs ys zs p = (c : Choice) → c.path ≡ p → first xs ≡ Some c → ys ≡ zs
 
-under_follows : (i : ℕ) (b : Branch) (m : ℕ) (w : Way) (xs ys zs : List Choice) → Follows xs ys zs (path_from m w) → Follows (under i b xs) (under i b ys) (under i b zs) (path_from i (into b m w))
+under_follows : (i : ℕ) (b : Branch) (m : ℕ) (w : Way) (xs ys zs : List Choice) → Follows xs ys zs (path_from m w) →
+    Follows (under i b xs) (under i b ys) (under i b zs) (path_from i (into b m w))
 under_follows i b m w [] ys zs h c p e = cc
 under_follows i b m w (x ∷ xs) ys zs h c p e =
     let f : under_one i b x ≡ c = cc in
-    let whole : record { steps = record { item = i; branch = b } ∷ x.path.steps; item = x.path.item } ≡ path_from i (into b m w) = ap (λ (z : Choice). z.path) f ∙ p in
+    let whole : record { steps = record { item = i; branch = b } ∷ x.path.steps; item = x.path.item } ≡ path_from i (into b m w) =
+    ap (λ (z : Choice). z.path) f ∙ p in
     let path : x.path ≡ path_from m w = path_parts x.path (path_from m w) (ap (λ (z : Path). more_steps z.steps) whole) (ap (λ (z : Path). z.item) whole) in
     ap (under i b) (h x path refl)
 
@@ -255,7 +264,13 @@ own_before bar k z xs ys q e =
 -- ---- items on the way
 
 alike : (bar : ℕ → Bool) {b : Branch} {m : ℕ} {w : Way} {x y : Tree} → InItem (into b m w) x y → Alike bar x y
-alike bar (then_list m w t a b c i) = record { empty = empty_then t a b c (list_nil i); repeats = refl; next = λ rest. next_then t a b c rest (λ l. list_arms l i); nested = nested_then t a b c (list_one_if i); unread = refl }
+alike bar (then_list m w t a b c i) = record {
+  empty = empty_then t a b c (list_nil i);
+  repeats = refl;
+  next = λ rest. next_then t a b c rest (λ l. list_arms l i);
+  nested = nested_then t a b c (list_one_if i);
+  unread = refl;
+}
 alike bar (else_list m w t a b c i) = record {
   empty = empty_else t a b c (list_nil i);
   repeats = refl;
@@ -269,8 +284,10 @@ alike bar (for_list m w f t u a b i) = record { empty = refl; repeats = refl; ne
 alike bar (block_list m w a b i) = record { empty = refl; repeats = refl; next = λ rest. refl; nested = refl; unread = refl }
 alike bar (section_list k m w s c d i) = record { empty = refl; repeats = refl; next = λ rest. refl; nested = refl; unread = refl }
 
-deeper : (bar : ℕ → Bool) (k : ℕ) (b : Branch) (m : ℕ) (w : Way) (x y : Tree) (rest : Forest) (zs : List Choice) → InItem (into b m w) x y → Follows (choices_in bar k x) (choices_in bar k y) zs (path_from k (into b m w))
-    → Follows (own bar k x rest ++ (choices_in bar k x ++ choices_from bar (k + 1) rest)) (own bar k y rest ++ (choices_in bar k y ++ choices_from bar (k + 1) rest)) (zs ++ choices_from bar (k + 1) rest) (path_from k (into b m w))
+deeper : (bar : ℕ → Bool) (k : ℕ) (b : Branch) (m : ℕ) (w : Way) (x y : Tree) (rest : Forest) (zs : List Choice) → InItem (into b m w) x y →
+    Follows (choices_in bar k x) (choices_in bar k y) zs (path_from k (into b m w))
+    → Follows (own bar k x rest ++ (choices_in bar k x ++ choices_from bar (k + 1) rest))
+    (own bar k y rest ++ (choices_in bar k y ++ choices_from bar (k + 1) rest)) (zs ++ choices_from bar (k + 1) rest) (path_from k (into b m w))
 deeper bar k b m w x y rest zs i h c p e =
     let more = choices_from bar (k + 1) rest in
     elim (either_first c (own bar k x rest) (choices_in bar k x ++ more) e) [
@@ -289,28 +306,36 @@ deeper bar k b m w x y rest zs i h c p e =
       true_false : true ≡ false → ⊥
       true_false e = cc
 
-inside_then : (bar : ℕ → Bool) (k m : ℕ) (w : Way) (t : TestTree) (a b c : Forest) (zs : List Choice) → Follows (choices_from bar 0 a) (choices_from bar 0 b) zs (path_from m w)
-    → Follows (choices_in bar k (If t a c)) (choices_in bar k (If t b c)) (under k B.Then zs ++ under k B.Else (choices_from bar 0 c)) (path_from k (into B.Then m w))
+inside_then : (bar : ℕ → Bool) (k m : ℕ) (w : Way) (t : TestTree) (a b c : Forest) (zs : List Choice) →
+    Follows (choices_from bar 0 a) (choices_from bar 0 b) zs (path_from m w)
+    → Follows (choices_in bar k (If t a c)) (choices_in bar k (If t b c)) (under k B.Then zs ++ under k B.Else (choices_from bar 0 c))
+    (path_from k (into B.Then m w))
 inside_then bar k m w t a b c zs h d p e =
     elim (either_first d (under k B.Then (choices_from bar 0 a)) (under k B.Else (choices_from bar 0 c)) e) [
       | inl u ↦ ap (λ z. z ++ under k B.Else (choices_from bar 0 c)) (under_follows k B.Then m w (choices_from bar 0 a) (choices_from bar 0 b) zs h d p u)
       | inr u ↦
-          let f : B.Then ≡ B.Else = sym (ap (λ (z : Path). branch_of z.steps) p) ∙ under_branch d k B.Else (choices_from bar 0 c) (in_first (under k B.Else (choices_from bar 0 c)) d u.1) in
+          let f : B.Then ≡ B.Else = sym (ap (λ (z : Path). branch_of z.steps) p) ∙
+          under_branch d k B.Else (choices_from bar 0 c) (in_first (under k B.Else (choices_from bar 0 c)) d u.1) in
           cc
     ]
 
-inside_else : (bar : ℕ → Bool) (k m : ℕ) (w : Way) (t : TestTree) (a b c : Forest) (zs : List Choice) → Follows (choices_from bar 0 a) (choices_from bar 0 b) zs (path_from m w)
+inside_else : (bar : ℕ → Bool) (k m : ℕ) (w : Way) (t : TestTree) (a b c : Forest) (zs : List Choice) →
+    Follows (choices_from bar 0 a) (choices_from bar 0 b) zs (path_from m w)
     → Follows (choices_in bar k (If t c a)) (choices_in bar k (If t c b)) (under k B.Else zs) (path_from k (into B.Else m w))
 inside_else bar k m w t a b c zs h d p e =
     elim (either_first d (under k B.Then (choices_from bar 0 c)) (under k B.Else (choices_from bar 0 a)) e) [
       | inl u ↦
-          let f : B.Else ≡ B.Then = sym (ap (λ (z : Path). branch_of z.steps) p) ∙ under_branch d k B.Then (choices_from bar 0 c) (in_first (under k B.Then (choices_from bar 0 c)) d u) in
+          let f : B.Else ≡ B.Then = sym (ap (λ (z : Path). branch_of z.steps) p) ∙
+          under_branch d k B.Then (choices_from bar 0 c) (in_first (under k B.Then (choices_from bar 0 c)) d u) in
           cc
       | inr u ↦ ap (λ z. z ++ under k B.Else (choices_from bar 0 b)) u.0 ∙ under_follows k B.Else m w (choices_from bar 0 a) (choices_from bar 0 b) zs h d p u.1
     ]
 
-first_section : (bar : ℕ → Bool) (i j m : ℕ) (w : Way) (a b : Forest) (rest : Sections) (zs : List Choice) → Follows (choices_from bar 0 a) (choices_from bar 0 b) zs (path_from m w)
-    → Follows (under i (B.Section j) (choices_from bar 0 a) ++ choices_of_sections bar i (j + 1) rest) (under i (B.Section j) (choices_from bar 0 b) ++ choices_of_sections bar i (j + 1) rest) (under i (B.Section j) zs ++ choices_of_sections bar i (j + 1) rest) (path_from i (into (B.Section j) m w))
+first_section : (bar : ℕ → Bool) (i j m : ℕ) (w : Way) (a b : Forest) (rest : Sections) (zs : List Choice) →
+    Follows (choices_from bar 0 a) (choices_from bar 0 b) zs (path_from m w)
+    → Follows (under i (B.Section j) (choices_from bar 0 a) ++ choices_of_sections bar i (j + 1) rest)
+    (under i (B.Section j) (choices_from bar 0 b) ++ choices_of_sections bar i (j + 1) rest)
+    (under i (B.Section j) zs ++ choices_of_sections bar i (j + 1) rest) (path_from i (into (B.Section j) m w))
 first_section bar i j m w a b rest zs h d p e =
     let more = choices_of_sections bar i (j + 1) rest in
     elim (either_first d (under i (B.Section j) (choices_from bar 0 a)) more e) [
@@ -322,8 +347,10 @@ first_section bar i j m w a b rest zs h d p e =
           absurd (omega (arith, g, n))
     ]
 
-later_section : (bar : ℕ → Bool) (i j n m : ℕ) (w : Way) (a : Forest) (c d : Sections) (zs : List Choice) → j < n → Follows (choices_of_sections bar i (j + 1) c) (choices_of_sections bar i (j + 1) d) zs (path_from i (into (B.Section n) m w))
-    → Follows (under i (B.Section j) (choices_from bar 0 a) ++ choices_of_sections bar i (j + 1) c) (under i (B.Section j) (choices_from bar 0 a) ++ choices_of_sections bar i (j + 1) d) zs (path_from i (into (B.Section n) m w))
+later_section : (bar : ℕ → Bool) (i j n m : ℕ) (w : Way) (a : Forest) (c d : Sections) (zs : List Choice) → j < n →
+    Follows (choices_of_sections bar i (j + 1) c) (choices_of_sections bar i (j + 1) d) zs (path_from i (into (B.Section n) m w))
+    → Follows (under i (B.Section j) (choices_from bar 0 a) ++ choices_of_sections bar i (j + 1) c)
+    (under i (B.Section j) (choices_from bar 0 a) ++ choices_of_sections bar i (j + 1) d) zs (path_from i (into (B.Section n) m w))
 later_section bar i j n m w a c d zs less h x p e =
     let here = under i (B.Section j) (choices_from bar 0 a) in
     elim (either_first x here (choices_of_sections bar i (j + 1) c) e) [
@@ -333,7 +360,8 @@ later_section bar i j n m w a c d zs less h x p e =
       | inr u ↦ ap (λ z. z ++ choices_of_sections bar i (j + 1) d) u.0 ∙ h x p u.1
     ]
 
-later_item : (bar : ℕ → Bool) (k n : ℕ) (w : Way) (z : Tree) (xs ys : Forest) (zs : List Choice) → k < n → Quiet z xs ys → Follows (choices_from bar (k + 1) xs) (choices_from bar (k + 1) ys) zs (path_from n w)
+later_item : (bar : ℕ → Bool) (k n : ℕ) (w : Way) (z : Tree) (xs ys : Forest) (zs : List Choice) → k < n → Quiet z xs ys →
+    Follows (choices_from bar (k + 1) xs) (choices_from bar (k + 1) ys) zs (path_from n w)
     → Follows (choices_from bar k (Then z xs)) (choices_from bar k (Then z ys)) zs (path_from n w)
 later_item bar k n w z xs ys zs less q h c p e =
     let f = head_is c n w p in
@@ -341,57 +369,74 @@ later_item bar k n w z xs ys zs less q h c p e =
       | inl u ↦ let g = own_head bar k z xs c (in_first (own bar k z xs) c u) in absurd (omega (arith, f, g, less))
       | inr u ↦ elim (either_first c (choices_in bar k z) (choices_from bar (k + 1) xs) u.1) [
         | inl v ↦ let g = inside_head bar k z c (in_first (choices_in bar k z) c v) in absurd (omega (arith, f, g, less))
-        | inr v ↦ ap (λ o. o ++ (choices_in bar k z ++ choices_from bar (k + 1) ys)) (own_before bar k z xs ys q u.0) ∙ ap (λ o. o ++ choices_from bar (k + 1) ys) v.0 ∙ h c p v.1
+        | inr v ↦ ap (λ o. o ++ (choices_in bar k z ++ choices_from bar (k + 1) ys)) (own_before bar k z xs ys q u.0) ∙
+            ap (λ o. o ++ choices_from bar (k + 1) ys) v.0 ∙ h c p v.1
       ]
     ]
 
-from_zero : (bar : ℕ → Bool) (m : ℕ) (w : Way) (a b : Forest) (zs : List Choice) → Follows (choices_from bar 0 a) (choices_from bar 0 b) zs (path_from (0 + m) w) → Follows (choices_from bar 0 a) (choices_from bar 0 b) zs (path_from m w)
+from_zero : (bar : ℕ → Bool) (m : ℕ) (w : Way) (a b : Forest) (zs : List Choice) →
+    Follows (choices_from bar 0 a) (choices_from bar 0 b) zs (path_from (0 + m) w) → Follows (choices_from bar 0 a) (choices_from bar 0 b) zs (path_from m w)
 from_zero bar m w a b zs h = let z : 0 + m ≡ m = omega arith in subst (λ j. Follows (choices_from bar 0 a) (choices_from bar 0 b) zs (path_from j w)) z h
 
 mutual
-  pub list_follows : (bar : ℕ → Bool) (k : ℕ) {n : ℕ} {w : Way} {xs ys : Forest} → InList n w xs ys → Follows (choices_from bar k xs) (choices_from bar k ys) (tail_list bar k ys n w) (path_from (k + n) w)
+  pub list_follows : (bar : ℕ → Bool) (k : ℕ) {n : ℕ} {w : Way} {xs ys : Forest} → InList n w xs ys →
+      Follows (choices_from bar k xs) (choices_from bar k ys) (tail_list bar k ys n w) (path_from (k + n) w)
   list_follows bar k (at_here w x y rest i) =
       let m : k ≡ k + 0 = omega arith in
-      subst (λ j. Follows (choices_from bar k (Then x rest)) (choices_from bar k (Then y rest)) (tail_list bar k (Then y rest) zero w) (path_from j w)) m (item_follows bar k rest i)
+      subst (λ j. Follows (choices_from bar k (Then x rest)) (choices_from bar k (Then y rest)) (tail_list bar k (Then y rest) zero w)
+      (path_from j w)) m (item_follows bar k rest i)
   list_follows bar k (at_later n w z xs ys q i) =
       let m : k + 1 + n ≡ k + suc n = omega arith in
       let zs = tail_list bar (k + 1) ys n w in
-      later_item bar k (k + suc n) w z xs ys zs (omega arith) q (subst (λ j. Follows (choices_from bar (k + 1) xs) (choices_from bar (k + 1) ys) zs (path_from j w)) m (list_follows bar (k + 1) i))
+      later_item bar k (k + suc n) w z xs ys zs (omega arith) q
+      (subst (λ j. Follows (choices_from bar (k + 1) xs) (choices_from bar (k + 1) ys) zs (path_from j w)) m (list_follows bar (k + 1) i))
 
-  item_follows : (bar : ℕ → Bool) (k : ℕ) {w : Way} {x y : Tree} (rest : Forest) → InItem w x y → Follows (choices_from bar k (Then x rest)) (choices_from bar k (Then y rest)) (tail_list bar k (Then y rest) zero w) (path_from k w)
+  item_follows : (bar : ℕ → Bool) (k : ℕ) {w : Way} {x y : Tree} (rest : Forest) → InItem w x y →
+      Follows (choices_from bar k (Then x rest)) (choices_from bar k (Then y rest)) (tail_list bar k (Then y rest) zero w) (path_from k w)
   item_follows bar k rest (this x y s) = λ c p e. refl
   item_follows bar k rest (then_list m w t a b c i) =
       let zs = tail_list bar 0 b m w in
-      deeper bar k B.Then m w (If t a c) (If t b c) rest (under k B.Then zs ++ under k B.Else (choices_from bar 0 c)) (then_list m w t a b c i) (inside_then bar k m w t a b c zs (from_zero bar m w a b zs (list_follows bar 0 i)))
+      deeper bar k B.Then m w (If t a c) (If t b c) rest (under k B.Then zs ++ under k B.Else (choices_from bar 0 c)) (then_list m w t a b c i)
+      (inside_then bar k m w t a b c zs (from_zero bar m w a b zs (list_follows bar 0 i)))
   item_follows bar k rest (else_list m w t a b c i) =
       let zs = tail_list bar 0 b m w in
-      deeper bar k B.Else m w (If t c a) (If t c b) rest (under k B.Else zs) (else_list m w t a b c i) (inside_else bar k m w t a b c zs (from_zero bar m w a b zs (list_follows bar 0 i)))
+      deeper bar k B.Else m w (If t c a) (If t c b) rest (under k B.Else zs) (else_list m w t a b c i)
+      (inside_else bar k m w t a b c zs (from_zero bar m w a b zs (list_follows bar 0 i)))
   item_follows bar k rest (while_list m w t a b i) =
       let zs = tail_list bar 0 b m w in
-      deeper bar k B.Body m w (While t a) (While t b) rest (under k B.Body zs) (while_list m w t a b i) (under_follows k B.Body m w (choices_from bar 0 a) (choices_from bar 0 b) zs (from_zero bar m w a b zs (list_follows bar 0 i)))
+      deeper bar k B.Body m w (While t a) (While t b) rest (under k B.Body zs) (while_list m w t a b i)
+      (under_follows k B.Body m w (choices_from bar 0 a) (choices_from bar 0 b) zs (from_zero bar m w a b zs (list_follows bar 0 i)))
   item_follows bar k rest (do_list m w t a b i) =
       let zs = tail_list bar 0 b m w in
-      deeper bar k B.Body m w (Do a t) (Do b t) rest (under k B.Body zs) (do_list m w t a b i) (under_follows k B.Body m w (choices_from bar 0 a) (choices_from bar 0 b) zs (from_zero bar m w a b zs (list_follows bar 0 i)))
+      deeper bar k B.Body m w (Do a t) (Do b t) rest (under k B.Body zs) (do_list m w t a b i)
+      (under_follows k B.Body m w (choices_from bar 0 a) (choices_from bar 0 b) zs (from_zero bar m w a b zs (list_follows bar 0 i)))
   item_follows bar k rest (for_list m w f t u a b i) =
       let zs = tail_list bar 0 b m w in
-      deeper bar k B.Body m w (For f t u a) (For f t u b) rest (under k B.Body zs) (for_list m w f t u a b i) (under_follows k B.Body m w (choices_from bar 0 a) (choices_from bar 0 b) zs (from_zero bar m w a b zs (list_follows bar 0 i)))
+      deeper bar k B.Body m w (For f t u a) (For f t u b) rest (under k B.Body zs) (for_list m w f t u a b i)
+      (under_follows k B.Body m w (choices_from bar 0 a) (choices_from bar 0 b) zs (from_zero bar m w a b zs (list_follows bar 0 i)))
   item_follows bar k rest (block_list m w a b i) =
       let zs = tail_list bar 0 b m w in
-      deeper bar k B.Body m w (Block a) (Block b) rest (under k B.Body zs) (block_list m w a b i) (under_follows k B.Body m w (choices_from bar 0 a) (choices_from bar 0 b) zs (from_zero bar m w a b zs (list_follows bar 0 i)))
+      deeper bar k B.Body m w (Block a) (Block b) rest (under k B.Body zs) (block_list m w a b i)
+      (under_follows k B.Body m w (choices_from bar 0 a) (choices_from bar 0 b) zs (from_zero bar m w a b zs (list_follows bar 0 i)))
   item_follows bar k rest (section_list n m w s c d i) =
       let z : 0 + n ≡ n = omega arith in
       let zs = tail_sections bar k 0 d n m w in
       deeper bar k (B.Section n) m w (Switch s c) (Switch s d) rest zs (section_list n m w s c d i)
-      (subst (λ j. Follows (choices_of_sections bar k 0 c) (choices_of_sections bar k 0 d) zs (path_from k (into (B.Section j) m w))) z (sections_follow bar k 0 i))
+      (subst (λ j. Follows (choices_of_sections bar k 0 c) (choices_of_sections bar k 0 d) zs (path_from k (into (B.Section j) m w))) z
+      (sections_follow bar k 0 i))
 
-  sections_follow : (bar : ℕ → Bool) (i j : ℕ) {n m : ℕ} {w : Way} {c d : Sections} → InSections n m w c d → Follows (choices_of_sections bar i j c) (choices_of_sections bar i j d) (tail_sections bar i j d n m w) (path_from i (into (B.Section (j + n)) m w))
+  sections_follow : (bar : ℕ → Bool) (i j : ℕ) {n m : ℕ} {w : Way} {c d : Sections} → InSections n m w c d →
+      Follows (choices_of_sections bar i j c) (choices_of_sections bar i j d) (tail_sections bar i j d n m w) (path_from i (into (B.Section (j + n)) m w))
   sections_follow bar i j (section_here m w cases default ends a b rest l) =
       let z : j ≡ j + 0 = omega arith in
       let zs = tail_list bar 0 b m w in
-      subst (λ n. Follows (choices_of_sections bar i j (Section cases default a ends rest)) (choices_of_sections bar i j (Section cases default b ends rest)) (under i (B.Section j) zs ++ choices_of_sections bar i (j + 1) rest) (path_from i (into (B.Section n) m w))) z
+      subst (λ n. Follows (choices_of_sections bar i j (Section cases default a ends rest))
+      (choices_of_sections bar i j (Section cases default b ends rest)) (under i (B.Section j) zs ++ choices_of_sections bar i (j + 1) rest)
+      (path_from i (into (B.Section n) m w))) z
       (first_section bar i j m w a b rest zs (from_zero bar m w a b zs (list_follows bar 0 l)))
   sections_follow bar i j (section_later n m w cases default ends a c d l) =
       let z : j + 1 + n ≡ j + suc n = omega arith in
       let zs = tail_sections bar i (j + 1) d n m w in
       later_section bar i j (j + suc n) m w a c d zs (omega arith)
-      (subst (λ v. Follows (choices_of_sections bar i (j + 1) c) (choices_of_sections bar i (j + 1) d) zs (path_from i (into (B.Section v) m w))) z (sections_follow bar i (j + 1) l))
+      (subst (λ v. Follows (choices_of_sections bar i (j + 1) c) (choices_of_sections bar i (j + 1) d) zs (path_from i (into (B.Section v) m w))) z
+      (sections_follow bar i (j + 1) l))

@@ -33,19 +33,24 @@ path_is : (ss : List Step) (i : ℕ) → path_from (index ss i) (way ss i) ≡ r
 path_is [] i = refl
 path_is (s ∷ ss) i = ap (λ (p : Path). record { steps = s ∷ p.steps; item = p.item }) (path_is ss i)
 
-quiet_set : (b : Branch) (m : ℕ) (w : Way) (z : Tree) (xs : List Item) (i : ℕ) (x y : Item) → slice_get xs i ≡ Some x → InItem (into b m w) (tree_of x) (tree_of y) → Quiet z (trees_of xs) (trees_of (slice_set xs i y))
+quiet_set : (b : Branch) (m : ℕ) (w : Way) (z : Tree) (xs : List Item) (i : ℕ) (x y : Item) → slice_get xs i ≡ Some x →
+    InItem (into b m w) (tree_of x) (tree_of y) → Quiet z (trees_of xs) (trees_of (slice_set xs i y))
 unfolding trees_of
 quiet_set b m w z [] i x y e h = cc
 quiet_set b m w z (v ∷ vs) zero x y e h = let f : x ≡ v = cc in quiet_here z (trees_of vs) (subst (λ u. InItem (into b m w) (tree_of u) (tree_of y)) f h)
 quiet_set b m w z (v ∷ vs) (suc i) x y e h = quiet_later z (tree_of v) (trees_of vs) (trees_of (slice_set vs i y))
 
-set_in : (b : Branch) (m : ℕ) (w : Way) (xs : List Item) (i : ℕ) (x y : Item) → slice_get xs i ≡ Some x → InItem (into b m w) (tree_of x) (tree_of y) → InList i (into b m w) (trees_of xs) (trees_of (slice_set xs i y))
+set_in : (b : Branch) (m : ℕ) (w : Way) (xs : List Item) (i : ℕ) (x y : Item) → slice_get xs i ≡ Some x →
+    InItem (into b m w) (tree_of x) (tree_of y) → InList i (into b m w) (trees_of xs) (trees_of (slice_set xs i y))
 unfolding trees_of
 set_in b m w [] i x y e h = cc
-set_in b m w (z ∷ zs) zero x y e h = let f : x ≡ z = cc in at_here (into b m w) (tree_of z) (tree_of y) (trees_of zs) (subst (λ v. InItem (into b m w) (tree_of v) (tree_of y)) f h)
-set_in b m w (z ∷ zs) (suc i) x y e h = at_later i (into b m w) (tree_of z) (trees_of zs) (trees_of (slice_set zs i y)) (quiet_set b m w (tree_of z) zs i x y e h) (set_in b m w zs i x y e h)
+set_in b m w (z ∷ zs) zero x y e h = let f : x ≡ z = cc in at_here (into b m w) (tree_of z) (tree_of y) (trees_of zs)
+    (subst (λ v. InItem (into b m w) (tree_of v) (tree_of y)) f h)
+set_in b m w (z ∷ zs) (suc i) x y e h = at_later i (into b m w) (tree_of z) (trees_of zs) (trees_of (slice_set zs i y))
+    (quiet_set b m w (tree_of z) zs i x y e h) (set_in b m w zs i x y e h)
 
-sections_in : (m : ℕ) (w : Way) (cs : List Real.Section) (k : ℕ) (c : Real.Section) (v : List Item) → slice_get cs k ≡ Some c → InList m w (trees_of (list_of c)) (trees_of v)
+sections_in : (m : ℕ) (w : Way) (cs : List Real.Section) (k : ℕ) (c : Real.Section) (v : List Item) → slice_get cs k ≡ Some c →
+    InList m w (trees_of (list_of c)) (trees_of v)
     → InSections k m w (sections_of cs) (sections_of (slice_set cs k (with_list v c)))
 unfolding sections_of
 sections_in m w [] k c v e h = cc
@@ -55,32 +60,43 @@ sections_in m w (d ∷ cs) zero c v e h =
     let rest = sections_of cs in
     let g = subst (λ z. InList m w z (trees_of v)) (sym (ap (λ (z : SectionTree). z.list) (section-parts c))) h in
     subst (λ z. InSections zero m w (first_section (section_tree z) rest) (first_section (section_tree (with_list v c)) rest)) (sym f)
-    (subst (λ z. InSections zero m w (first_section s rest) (first_section z rest)) (sym (section-with v c)) (section_here m w s.cases s.default s.ends s.list (trees_of v) rest g))
+    (subst (λ z. InSections zero m w (first_section s rest) (first_section z rest)) (sym (section-with v c))
+    (section_here m w s.cases s.default s.ends s.list (trees_of v) rest g))
 sections_in m w (d ∷ cs) (suc k) c v e h =
     let s = section_tree d in
     section_later k m w s.cases s.default s.ends s.list (sections_of cs) (sections_of (slice_set cs k (with_list v c))) (sections_in m w cs k c v e h)
 
-layer_in : (b : Branch) (m : ℕ) (w : Way) (y : Item-F Item Real.Section) (a v : List Item) → child_F b y ≡ Some a → InList m w (trees_of a) (trees_of v) → InItem (into b m w) (layer_tree y) (layer_tree (with_child_F b v y))
+layer_in : (b : Branch) (m : ℕ) (w : Way) (y : Item-F Item Real.Section) (a v : List Item) → child_F b y ≡ Some a →
+    InList m w (trees_of a) (trees_of v) → InItem (into b m w) (layer_tree y) (layer_tree (with_child_F b v y))
 unfolding trees_of sections_of
-layer_in B.Then m w (O.If t x z) a v e h = let f : x ≡ a = cc in then_list m w (test_tree t) (trees_of x) (trees_of v) (trees_of z) (subst (λ u. InList m w (trees_of u) (trees_of v)) (sym f) h)
-layer_in B.Else m w (O.If t z x) a v e h = let f : x ≡ a = cc in else_list m w (test_tree t) (trees_of x) (trees_of v) (trees_of z) (subst (λ u. InList m w (trees_of u) (trees_of v)) (sym f) h)
-layer_in B.Body m w (O.While t x) a v e h = let f : x ≡ a = cc in while_list m w (test_tree t) (trees_of x) (trees_of v) (subst (λ u. InList m w (trees_of u) (trees_of v)) (sym f) h)
-layer_in B.Body m w (O.Do x t) a v e h = let f : x ≡ a = cc in do_list m w (test_tree t) (trees_of x) (trees_of v) (subst (λ u. InList m w (trees_of u) (trees_of v)) (sym f) h)
+layer_in B.Then m w (O.If t x z) a v e h = let f : x ≡ a = cc in then_list m w (test_tree t) (trees_of x) (trees_of v) (trees_of z)
+    (subst (λ u. InList m w (trees_of u) (trees_of v)) (sym f) h)
+layer_in B.Else m w (O.If t z x) a v e h = let f : x ≡ a = cc in else_list m w (test_tree t) (trees_of x) (trees_of v) (trees_of z)
+    (subst (λ u. InList m w (trees_of u) (trees_of v)) (sym f) h)
+layer_in B.Body m w (O.While t x) a v e h = let f : x ≡ a = cc in while_list m w (test_tree t) (trees_of x) (trees_of v)
+    (subst (λ u. InList m w (trees_of u) (trees_of v)) (sym f) h)
+layer_in B.Body m w (O.Do x t) a v e h = let f : x ≡ a = cc in do_list m w (test_tree t) (trees_of x) (trees_of v)
+    (subst (λ u. InList m w (trees_of u) (trees_of v)) (sym f) h)
 layer_in B.Body m w (O.For g t u x) a v e h =
-    let f : x ≡ a = cc in for_list m w (trees_of g) (option_map expression_tree t) (option_map expression_tree u) (trees_of x) (trees_of v) (subst (λ z. InList m w (trees_of z) (trees_of v)) (sym f) h)
-layer_in B.Body m w (O.Block x) a v e h = let f : x ≡ a = cc in block_list m w (trees_of x) (trees_of v) (subst (λ u. InList m w (trees_of u) (trees_of v)) (sym f) h)
+    let f : x ≡ a = cc in for_list m w (trees_of g) (option_map expression_tree t) (option_map expression_tree u) (trees_of x) (trees_of v)
+    (subst (λ z. InList m w (trees_of z) (trees_of v)) (sym f) h)
+layer_in B.Body m w (O.Block x) a v e h = let f : x ≡ a = cc in block_list m w (trees_of x) (trees_of v)
+    (subst (λ u. InList m w (trees_of u) (trees_of v)) (sym f) h)
 layer_in (B.Section k) m w (O.Switch s cs) a v e h =
     let p = map_some list_of (slice_get cs k) a e in
     subst (λ d. InItem (into (B.Section k) m w) (layer_tree (O.Switch s cs)) (layer_tree (O.Switch s d))) (sym (with_there k v cs p.0 p.1))
-    (section_list k m w (selector_tree s) (sections_of cs) (sections_of (slice_set cs k (with_list v p.0))) (sections_in m w cs k p.0 v p.1 (subst (λ z. InList m w (trees_of z) (trees_of v)) (sym p.2) h)))
+    (section_list k m w (selector_tree s) (sections_of cs) (sections_of (slice_set cs k (with_list v p.0)))
+    (sections_in m w cs k p.0 v p.1 (subst (λ z. InList m w (trees_of z) (trees_of v)) (sym p.2) h)))
 layer_in _ m w _ a v e h = cc
 
-item_in : (b : Branch) (m : ℕ) (w : Way) (x : Item) (a v : List Item) → child b x ≡ Some a → InList m w (trees_of a) (trees_of v) → InItem (into b m w) (tree_of x) (tree_of (with_child b v x))
+item_in : (b : Branch) (m : ℕ) (w : Way) (x : Item) (a v : List Item) → child b x ≡ Some a → InList m w (trees_of a) (trees_of v) →
+    InItem (into b m w) (tree_of x) (tree_of (with_child b v x))
 item_in b m w x a v e h =
     subst (λ t. InItem (into b m w) t (tree_of (with_child b v x))) (sym (tree-out x))
     (subst (λ t. InItem (into b m w) (layer_tree (out-Item x)) t) (sym (tree-roll (with_child_F b v (out-Item x)))) (layer_in b m w (out-Item x) a v e h))
 
-placed_in : (ss : List Step) (i : ℕ) (xs a v : List Item) → list_at xs ss ≡ Some a → InList i last (trees_of a) (trees_of v) → InList (index ss i) (way ss i) (trees_of xs) (trees_of (put_at xs ss v))
+placed_in : (ss : List Step) (i : ℕ) (xs a v : List Item) → list_at xs ss ≡ Some a → InList i last (trees_of a) (trees_of v) →
+    InList (index ss i) (way ss i) (trees_of xs) (trees_of (put_at xs ss v))
 placed_in [] i xs a v e h = let f : xs ≡ a = cc in subst (λ z. InList i last (trees_of z) (trees_of v)) (sym f) h
 placed_in (s ∷ ss) i xs a v e h =
     let t = stepped xs s ss a e in
@@ -97,7 +113,8 @@ Unjoined k (z ∷ zs) (suc zero) = neighbours (tree_of z) (edited k zero (trees_
 Unjoined k (z ∷ zs) (suc (suc i)) = Unjoined k zs (suc i)
 Unjoined k _ _ = Unit {0}
 
-quiet_edit : (k : MoveKind) (z : Item) (zs : List Item) (i : ℕ) (x : Item) → slice_get zs i ≡ Some x → Unjoined k (z ∷ zs) (suc i) → Quiet (tree_of z) (trees_of zs) (edited k i (trees_of zs))
+quiet_edit : (k : MoveKind) (z : Item) (zs : List Item) (i : ℕ) (x : Item) → slice_get zs i ≡ Some x → Unjoined k (z ∷ zs) (suc i) →
+    Quiet (tree_of z) (trees_of zs) (edited k i (trees_of zs))
 unfolding trees_of
 quiet_edit k z zs zero x e h = λ n. h
 quiet_edit k z [] (suc i) x e h = cc
@@ -108,14 +125,17 @@ unjoined_later k z [] i h = tt
 unjoined_later k z (v ∷ vs) zero h = tt
 unjoined_later k z (v ∷ vs) (suc i) h = h
 
-tip_in : (k : MoveKind) (xs : List Item) (i : ℕ) (x : Item) (y : Tree) → slice_get xs i ≡ Some x → Settled (tree_of x) y → ((rest : Forest) → edit_here k (Then (tree_of x) rest) ≡ Then y rest) → Unjoined k xs i
+tip_in : (k : MoveKind) (xs : List Item) (i : ℕ) (x : Item) (y : Tree) → slice_get xs i ≡ Some x → Settled (tree_of x) y →
+    ((rest : Forest) → edit_here k (Then (tree_of x) rest) ≡ Then y rest) → Unjoined k xs i
     → InList i last (trees_of xs) (edited k i (trees_of xs))
 unfolding trees_of
 tip_in k [] i x y e s h u = cc
 tip_in k (z ∷ zs) zero x y e s h u =
     let f : x ≡ z = cc in
-    let g : edit_here k (Then (tree_of z) (trees_of zs)) ≡ Then y (trees_of zs) = ap (λ v. edit_here k (Then (tree_of v) (trees_of zs))) (sym f) ∙ h (trees_of zs) in
-    subst (InList zero last (Then (tree_of z) (trees_of zs))) (sym g) (at_here last (tree_of z) y (trees_of zs) (this (tree_of z) y (subst (λ v. Settled (tree_of v) y) f s)))
+    let g : edit_here k (Then (tree_of z) (trees_of zs)) ≡ Then y (trees_of zs) =
+    ap (λ v. edit_here k (Then (tree_of v) (trees_of zs))) (sym f) ∙ h (trees_of zs) in
+    subst (InList zero last (Then (tree_of z) (trees_of zs))) (sym g)
+    (at_here last (tree_of z) y (trees_of zs) (this (tree_of z) y (subst (λ v. Settled (tree_of v) y) f s)))
 tip_in k (z ∷ zs) (suc i) x y e s h u =
     at_later i last (tree_of z) (trees_of zs) (edited k i (trees_of zs)) (quiet_edit k z zs i x e u) (tip_in k zs i x y e s h (unjoined_later k z zs i u))
 
@@ -138,14 +158,16 @@ apart_unjoined k (z ∷ zs) [] (suc (suc i)) e h = cc
 apart_unjoined k (z ∷ zs) (v ∷ vs) (suc (suc i)) e h =
     apart_unjoined k zs vs (suc i) (rest_same (tree_of v) (tree_of z) (trees_of vs) (edited k (suc i) (trees_of zs)) e) (λ n x f g. h (suc n) x (ap suc f) g)
 
-nest_unjoined : (xs : List Item) (i : ℕ) (x : Item) (n : IsNest (tree_of x)) → slice_get xs i ≡ Some x → ((rest : Forest) → edit_here Z4 (Then (tree_of x) rest) ≡ Then (unnest n) rest) → Unjoined Z4 xs i
+nest_unjoined : (xs : List Item) (i : ℕ) (x : Item) (n : IsNest (tree_of x)) → slice_get xs i ≡ Some x →
+    ((rest : Forest) → edit_here Z4 (Then (tree_of x) rest) ≡ Then (unnest n) rest) → Unjoined Z4 xs i
 unfolding trees_of
 nest_unjoined [] i x n e h = tt
 nest_unjoined (z ∷ zs) zero x n e h = tt
 nest_unjoined (z ∷ []) (suc zero) x n e h = cc
 nest_unjoined (z ∷ v ∷ vs) (suc zero) x n e h =
     let f : x ≡ v = cc in
-    ap (λ u. neighbours (tree_of z) (edit_here Z4 (Then (tree_of u) (trees_of vs)))) (sym f) ∙ ap (neighbours (tree_of z)) (h (trees_of vs)) ∙ nest_apart n (tree_of z) (trees_of vs)
+    ap (λ u. neighbours (tree_of z) (edit_here Z4 (Then (tree_of u) (trees_of vs)))) (sym f) ∙ ap (neighbours (tree_of z)) (h (trees_of vs)) ∙
+    nest_apart n (tree_of z) (trees_of vs)
 nest_unjoined (z ∷ zs) (suc (suc i)) x n e h = nest_unjoined zs (suc i) x n e h
 
 unnested_is : {x : Tree} (n : IsNest x) (rest : Forest) → edit_here Z4 (Then x rest) ≡ Then (unnest n) rest
@@ -218,7 +240,8 @@ module _ (c : Choice) (old new : List Item) (n : IsNext c old new) where
       let q = found_repeat bar i (tree_of x) (trees_of (drop (suc i) found.list)) c k found.shape in
       let put : list_at new c.path.steps ≡ Some a.other = ap (λ z. list_at z c.path.steps) a.put ∙ list_put old c.path.steps a.other a.list a.list_is in
       let edit : trees_of a.other ≡ edited Z2 i (trees_of a.list) = a.trees ∙ ap (λ z. edited z i (trees_of a.list)) k in
-      let one = tip_in Z2 a.list i x (shortened (tree_of x)) (item_found a) (short_settled q.0 (tree_of x) q.1) (λ rest. refl) (apart_unjoined Z2 a.list a.other i edit (h a.other put)) in
+      let one = tip_in Z2 a.list i x (shortened (tree_of x)) (item_found a) (short_settled q.0 (tree_of x) q.1) (λ rest. refl)
+      (apart_unjoined Z2 a.list a.other i edit (h a.other put)) in
       placed c old new a (subst (InList i last (trees_of a.list)) (sym edit) one)
 
   after_nest : c.kind ≡ Z4 → IsChanged c old new
@@ -248,8 +271,10 @@ module _ (c : Choice) (old new : List Item) (n : IsNext c old new) where
 
   list_new : GoesOn c new → (xs : List Item) × (list_at new c.path.steps ≡ Some xs)
   list_new g = elim g [
-    | inl p ↦ let a : IsEdited c old new = subst (λ z. applied_as z c old new) p.0 n.applied in (a.other, ap (λ z. list_at z c.path.steps) a.put ∙ list_put old c.path.steps a.other a.list a.list_is)
-    | inr k ↦ let a : IsEdited c old new = subst (λ z. applied_as z c old new) k n.applied in (a.other, ap (λ z. list_at z c.path.steps) a.put ∙ list_put old c.path.steps a.other a.list a.list_is)
+    | inl p ↦ let a : IsEdited c old new = subst (λ z. applied_as z c old new) p.0 n.applied in
+        (a.other, ap (λ z. list_at z c.path.steps) a.put ∙ list_put old c.path.steps a.other a.list a.list_is)
+    | inr k ↦ let a : IsEdited c old new = subst (λ z. applied_as z c old new) k n.applied in
+        (a.other, ap (λ z. list_at z c.path.steps) a.put ∙ list_put old c.path.steps a.other a.list a.list_is)
   ]
 
   -- the search goes on at the place

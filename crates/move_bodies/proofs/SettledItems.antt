@@ -82,9 +82,11 @@ switch_settled s u c e = record { made = refl; bars = λ l. ap (λ z. z || barre
 -- the item without the wrapper that was found
 pub short_settled : (q : Repeat) (x : Tree) → repeat_of x ≡ Some q → Settled x (shortened x)
 short_settled q (If t a b) e = subst (λ o. Settled (If t a b) (If (without_repeat o t) a b)) (sym e) (if_settled t (without q.at t) a b (repeat_shorter t q e))
-short_settled q (While t a) e = subst (λ o. Settled (While t a) (While (without_repeat o t) a)) (sym e) (while_settled t (without q.at t) a (repeat_shorter t q e))
+short_settled q (While t a) e = subst (λ o. Settled (While t a) (While (without_repeat o t) a)) (sym e)
+    (while_settled t (without q.at t) a (repeat_shorter t q e))
 short_settled q (Do a t) e = subst (λ o. Settled (Do a t) (Do a (without_repeat o t))) (sym e) (do_settled t (without q.at t) a (repeat_shorter t q e))
-short_settled q (Switch s c) e = subst (λ o. Settled (Switch s c) (Switch (without_repeat_pick o s) c)) (sym e) (switch_settled s (without_pick q.at s) c (repeat_pick_shorter s q e))
+short_settled q (Switch s c) e = subst (λ o. Settled (Switch s c) (Switch (without_repeat_pick o s) c)) (sym e)
+    (switch_settled s (without_pick q.at s) c (repeat_pick_shorter s q e))
 short_settled q _ e = cc
 
 -- ---- an `if` and the one in it, as one

@@ -24,7 +24,8 @@ use Rattle.move_order_laws.proofs.SomeDerivation.{leap_after, eliminated_leaps}
 use Rattle.move_bodies.specs.Moving.{MovesTo, IsMove, Continues, IsUnderway, IsEliminated, moves_ahead, IsDerivedTo}
 use Rattle.move_bodies.proofs.Applied.{leap_at, label_there}
 
-pub started : (body : List Item) (at : Path) (l : ℕ) (before : List Kept) → IsWellMade (trees_of body) → label_at body at ≡ Some l → IsUnderway l at (Some at) body body before before
+pub started : (body : List Item) (at : Path) (l : ℕ) (before : List Kept) → IsWellMade (trees_of body) → label_at body at ≡ Some l →
+    IsUnderway l at (Some at) body body before before
 started body at l before w e = record {
   done = [];
   kept = sym (append-nil before);
@@ -36,7 +37,8 @@ module _ (l : ℕ) (start : Path) (old mid new : List Item) (path : Path) (kind 
   abbrev one : Kept
   one = record { kind = kind; label = l; path = path }
 
-  continued : (to : Option Path) (done : List Kept) → Continues (Some path) l start old done mid → MovesTo to kind l (record { body = mid; at = path }) new → Continues to l start old (done ++ one ∷ []) new
+  continued : (to : Option Path) (done : List Kept) → Continues (Some path) l start old done mid →
+      MovesTo to kind l (record { body = mid; at = path }) new → Continues to l start old (done ++ one ∷ []) new
   continued None done h m =
       let e = joins (record { body = mid; at = path }) new m.1 in
       h.1 (one ∷ []) new (subst (λ k. Eliminates l (record { body = mid; at = path }) (record { kind = k; label = l; path = path } ∷ []) new) (sym m.0) e)
@@ -47,7 +49,8 @@ module _ (l : ℕ) (start : Path) (old mid new : List Item) (path : Path) (kind 
         (h.1 (one ∷ ns) end (moves kind (record { body = mid; at = path }) (record { body = new; at = to }) ns end m e)),
   )
 
-  pub one_more : (to : Option Path) (before after now : List Kept) → IsUnderway l start (Some path) old mid before after → IsMove l path kind to mid new → IsWellMade (trees_of new) → now ≡ after ++ one ∷ []
+  pub one_more : (to : Option Path) (before after now : List Kept) → IsUnderway l start (Some path) old mid before after →
+      IsMove l path kind to mid new → IsWellMade (trees_of new) → now ≡ after ++ one ∷ []
       → IsUnderway l start to old new before now
   one_more to before after now u m w e = record {
     done = u.done ++ one ∷ [];
@@ -66,7 +69,8 @@ module _ (l : ℕ) (start : Path) (old mid new : List Item) (path : Path) (kind 
 
 -- the body
 
-pub one_leap_more : (old mid new : List Item) (at : Path) (before after : List Kept) → IsDerivedTo old mid before → first (leaps_from 0 mid) ≡ Some at → IsEliminated at mid new before after → IsWellMade (trees_of new) → IsDerivedTo old new after
+pub one_leap_more : (old mid new : List Item) (at : Path) (before after : List Kept) → IsDerivedTo old mid before →
+    first (leaps_from 0 mid) ≡ Some at → IsEliminated at mid new before after → IsWellMade (trees_of new) → IsDerivedTo old new after
 one_leap_more old mid new at before after h f e w = record {
   continues = λ ns end d.
       subst (λ ms. Derives old ms end) (sym (ap (λ z. z ++ ns) e.kept ∙ append_assoc before e.moves ns))
@@ -74,7 +78,8 @@ one_leap_more old mid new at before after h f e w = record {
   well_made = w;
 }
 
-pub less_leaps : (mid new : List Item) (at : Path) (before after : List Kept) → IsEliminated at mid new before after → leaps (trees_of new) < leaps (trees_of mid)
+pub less_leaps : (mid new : List Item) (at : Path) (before after : List Kept) → IsEliminated at mid new before after →
+    leaps (trees_of new) < leaps (trees_of mid)
 less_leaps mid new at before after e = eliminated_leaps e.label e.eliminates
 
 pub all_done : (old new : List Item) (ms : List Kept) → IsDerivedTo old new ms → first (leaps_from 0 new) ≡ None → Derives old ms new
@@ -85,5 +90,6 @@ pub first_label : (body : List Item) (at : Path) → first (leaps_from 0 body) �
 first_label body at e =
     let f = first_found body at e in
     let x : f.item ≡ Leap f.label = sym (roll-out-Item f.item) ∙ ap roll-Item f.label_is ∙ rolls-Leap f.label in
-    let there : item_at body at.steps at.item ≡ Some (Leap f.label) = ap (option_and_then (λ a. slice_get a at.item)) f.list_is ∙ f.item_is ∙ ap (λ z. Some z) x in
+    let there : item_at body at.steps at.item ≡ Some (Leap f.label) = ap (option_and_then (λ a. slice_get a at.item)) f.list_is ∙ f.item_is ∙
+    ap (λ z. Some z) x in
     subst IsSome (sym (label_there body at f.label there)) refl

@@ -18,7 +18,8 @@ use Rattle.move_bodies.specs.Places.{places_from}
 
 -- the labels tell which simplifications of the kind apply, as those whose guards can't go do
 abbrev pub AreBarredFor : MoveKind → List ℕ → List Item → Type 0
-AreBarredFor kind labels body = (i : ℕ) (x : Item) (next : Option Item) → own_of kind (λ l. has l labels) i x next ≡ own_of kind (λ l. barred l (trees_of body)) i x next
+AreBarredFor kind labels body = (i : ℕ) (x : Item) (next : Option Item) →
+    own_of kind (λ l. has l labels) i x next ≡ own_of kind (λ l. barred l (trees_of body)) i x next
 
 -- the one of a kind at a place of a body
 pub record IsAt (kind : MoveKind) (at : Path) (body : List Item) (c : Choice) : Type 0 where

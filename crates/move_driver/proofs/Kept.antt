@@ -37,13 +37,16 @@ named : (p q : Program) → All (IsTopNamed (given p)) q.tops
 named p q = All-from_recursion (IsTopNamed (given p)) q.tops (tops_named p q.tops)
 
 pub skeletons : (p q : Program) (ms : List Move) → IsResolved p → KeepsSkeletons p q ms
-skeletons p q ms r = λ counts w. subst (λ (z : Program). AtEachPlace IsKept p.tops w.moved.tops z.tops) (sym w.result) (skeletons_are_kept flat_counts (given p) p w.moved ms r (rewritten p q ms counts r w))
+skeletons p q ms r = λ counts w. subst (λ (z : Program). AtEachPlace IsKept p.tops w.moved.tops z.tops) (sym w.result)
+    (skeletons_are_kept flat_counts (given p) p w.moved ms r (rewritten p q ms counts r w))
 
 pub guards : (p q : Program) (ms : List Move) → IsResolved p → DeclaresFewGuards p q ms
-guards p q ms r = λ counts w. subst (λ (z : Program). AtEachPlace HasFewGuards p.tops w.moved.tops z.tops) (sym w.result) (guards_are_few flat_counts (given p) p w.moved ms r (rewritten p q ms counts r w) (named p w.moved))
+guards p q ms r = λ counts w. subst (λ (z : Program). AtEachPlace HasFewGuards p.tops w.moved.tops z.tops) (sym w.result)
+    (guards_are_few flat_counts (given p) p w.moved ms r (rewritten p q ms counts r w) (named p w.moved))
 
 pub levels : (p q : Program) (ms : List Move) → IsResolved p → IsMovedWithinLevels p q ms
 levels p q ms r = λ counts w. jumps_are_within_levels flat_counts p w.moved ms r (rewritten p q ms counts r w)
 
 pub sizes : (p q : Program) (ms : List Move) (counts : Counts) → IsResolved p → IsRestructured p q ms counts → StaysWithinSizes p q
-sizes p q ms counts r w = subst (λ (z : Program). AtEachPair IsWithinSizes p.tops z.tops) (sym w.result) (sizes_are_bounded (given p) p w.moved ms r (rewritten p q ms counts r w) (named p w.moved))
+sizes p q ms counts r w = subst (λ (z : Program). AtEachPair IsWithinSizes p.tops z.tops) (sym w.result)
+    (sizes_are_bounded (given p) p w.moved ms r (rewritten p q ms counts r w) (named p w.moved))

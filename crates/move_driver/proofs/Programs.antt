@@ -37,7 +37,8 @@ pub record AreFlatTo (names file : List (List ℕ)) (i : ℕ) (old now : List To
 pub starts : (names file : List (List ℕ)) (tops : List Top) → AreFlatTo names file 0 tops tops
 starts names file tops = record { continues = λ us r. r }
 
-pub one_more : (names file : List (List ℕ)) (i : ℕ) (old now : List Top) (t u : Top) → slice_get now i ≡ Some t → FlattenedTop names file t u → AreFlatTo names file i old now
+pub one_more : (names file : List (List ℕ)) (i : ℕ) (old now : List Top) (t u : Top) → slice_get now i ≡ Some t → FlattenedTop names file t u →
+    AreFlatTo names file i old now
     → AreFlatTo names file (suc i) old (slice_set now i u)
 one_more names file i old now t u e f h = record {
   continues = λ us r.
@@ -47,7 +48,8 @@ one_more names file i old now t u e f h = record {
 }
 
 pub all_flat : (names file : List (List ℕ)) (i : ℕ) (old now : List Top) → length now ≤ i → AreFlatTo names file i old now → FlattenedTops names file old now
-all_flat names file i old now h f = subst (FlattenedTops names file old) (taken_all now i h) (f.continues [] (subst (λ z. FlattenedTops names file z []) (sym (drop_all i now h)) fd_none))
+all_flat names file i old now h f = subst (FlattenedTops names file old) (taken_all now i h)
+    (f.continues [] (subst (λ z. FlattenedTops names file z []) (sym (drop_all i now h)) fd_none))
 
 pub stays : (names file : List (List ℕ)) (t : Top) → ((f : Function) → t ≡ T.Function f → ⊥) → FlattenedTop names file t t
 stays names file (T.Function f) n = absurd (n f refl)
@@ -93,7 +95,8 @@ movable p names file us r w = flat_movable p us r (named_program_laws.flat names
 
 -- ---- the whole
 
-pub restructured : (p : Program) (us : List Top) (q made : Program) (ms : List Move) (counts : Counts) → IsResolved p → length (names p) ≤ most_held → FlattenedTops (names p) (file_names p) p.tops us → MovedTops us q.tops ms
+pub restructured : (p : Program) (us : List Top) (q made : Program) (ms : List Move) (counts : Counts) → IsResolved p → length (names p) ≤ most_held →
+    FlattenedTops (names p) (file_names p) p.tops us → MovedTops us q.tops ms
     → made ≡ plain (names p) q → counts ≡ counts_of ms q made → IsRestructured p made ms counts
 restructured p us q made ms counts resolved held flattened moved form counted = record {
   moved = q;

@@ -29,7 +29,8 @@ use Rattle.move_driver.specs.Text.{Output, CanBeReplayed, IsOnlyOutput}
 -- ---- Notes
 
 pub notes_kept : (p q : Program) (ms : List Move) (counts : Counts) → IsResolved p → IsRestructured p q ms counts → notes_of q ≡ notes_of p
-notes_kept p q ms counts r w = ap notes_of w.result ∙ notes_laws.program flat_counts (guard_names (names p)) p w.moved ms r (named_program_laws.rewritten flat_counts p w.moved ms r w.rewritten)
+notes_kept p q ms counts r w = ap notes_of w.result ∙ notes_laws.program flat_counts (guard_names (names p)) p w.moved ms r
+    (named_program_laws.rewritten flat_counts p w.moved ms r w.rewritten)
 
 -- ---- the only one
 

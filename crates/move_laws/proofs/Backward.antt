@@ -46,7 +46,8 @@ module _ (m : ℕ) (a b : Forest) (h : Turned m a b) where
       way : (l : ℕ) (c : Bool) → eqb l m ≡ c → LeWay (walks l (join a (one (Leap m)))) ((walks l b ▷ do_end_way l b (On m)) ▷ Past)
       way l true e = subst (λ y. LeWay (walks l (join a (one (Leap m)))) ((y ▷ do_end_way l b (On m)) ▷ Past)) (sym (h.at l e)) (way_lands _)
       way l false e = way_same
-          (walks-join l a (one (Leap m)) ∙ ap (λ y. walks l a ▷ y) (leap_off l m e) ∙ ap (λ y. y ▷ Past) (h.other l e) ∙ ap (λ y. walks l b ▷ y) (sym (end_other l e)) ∙ sym (way_past _))
+          (walks-join l a (one (Leap m)) ∙ ap (λ y. walks l a ▷ y) (leap_off l m e) ∙ ap (λ y. y ▷ Past) (h.other l e) ∙
+          ap (λ y. walks l b ▷ y) (sym (end_other l e)) ∙ sym (way_past _))
 
       after : (l : ℕ) (w w' : Follow) → LeWay (w l) (w' l) → (c : Bool) → eqb l m ≡ c → LeWay (leap_way l m ▷ w l) (do_end_way l b (On m) ▷ w' l)
       after l w w' k true e = subst (λ y. LeWay (leap_way l m ▷ w l) (y ▷ w' l)) (sym (end_at l e)) (way_lands _)
@@ -62,7 +63,8 @@ join_before m t z = turned m (Then (Land m) t) (Then (Land m) t)
     (record { none = omega arith; none_then = omega arith; at = λ l e. there_first l m (walks l t) e; other = λ l e. refl; cores = core_le (Then (Land m) t) })
 
 -- rule L
-pub lifted : (m : ℕ) (x : Tree) (t : Forest) → breaks (Then x t) + continues (Then x t) ≡ 0 → Better (Then x (join t (one (Leap m)))) (one (Do (Then (Leap m) (Then x t)) (On m)))
+pub lifted : (m : ℕ) (x : Tree) (t : Forest) → breaks (Then x t) + continues (Then x t) ≡ 0 →
+    Better (Then x (join t (one (Leap m)))) (one (Do (Then (Leap m) (Then x t)) (On m)))
 lifted m x t z = turned m (Then x t) (Then (Leap m) (Then x t))
     (record {
       none = z;

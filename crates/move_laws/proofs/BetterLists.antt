@@ -105,14 +105,16 @@ pub record BetterSections (c d : Sections) : Type 0 where
   pub entries : (l : ℕ) (goal : Goal) → LeMaybe (section_way l goal c) (section_way l goal d)
   pub cores : (w w' : Follow) → LeFollow w w' → LeSections (core_sections c w) (core_sections d w')
 
-pub better_section : (cases : List ExpressionTree) (default ends : Bool) {a a' : Forest} {c c' : Sections} → Better a a' → BetterSections c c' → BetterSections (Section cases default a ends c) (Section cases default a' ends c')
+pub better_section : (cases : List ExpressionTree) (default ends : Bool) {a a' : Forest} {c c' : Sections} → Better a a' → BetterSections c c' →
+    BetterSections (Section cases default a ends c) (Section cases default a' ends c')
 better_section cases default ends {c = c} {c' = c'} p q =
     let way = λ (l : ℕ). way_then _ _ _ _ (p.ways l) (way_end ends _ _ (q.tails l)) in
     record {
       goes = let x = p.goes in let y = q.goes in omega arith;
       tails = way;
       entries = λ l goal. maybe_here (is_section_goal goal cases default) _ _ _ _ (way l) (q.entries l goal);
-      cores = λ w w' h. le_section cases default ends (p.cores (after_section ends c w) (after_section ends c' w') (λ l. way_then _ _ _ _ (way_end ends _ _ (q.tails l)) (h l))) (q.cores w w' h);
+      cores = λ w w' h. le_section cases default ends (p.cores (after_section ends c w) (after_section ends c' w')
+          (λ l. way_then _ _ _ _ (way_end ends _ _ (q.tails l)) (h l))) (q.cores w w' h);
     }
 
 pub sections_better : (c : Sections) → BetterSections c c

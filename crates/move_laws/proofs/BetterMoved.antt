@@ -45,4 +45,5 @@ better_moved _ _ (M.in_switch l t s k n {c = c} r p) o h =
 -- a whole body
 pub moved_better : (xs ys : Forest) → Changed Moved xs ys → IsWellMade xs → Better xs ys
 moved_better xs ys c w =
-    better_changed (λ xs ys m. better_moved xs ys m.moved m.bound m.facts) (changed_where HasLabels c w.bound w.exits (everywhere_both HasEntries HasCases xs w.entries w.cases))
+    better_changed (λ xs ys m. better_moved xs ys m.moved m.bound m.facts)
+    (changed_where HasLabels c w.bound w.exits (everywhere_both HasEntries HasCases xs w.entries w.cases))

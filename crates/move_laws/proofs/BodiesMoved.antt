@@ -24,7 +24,8 @@ le_function_refl f = record { result = refl; params = refl; slots = refl; body =
 abbrev pub CoresAreLe : List Item → List Item → Type 0
 CoresAreLe a b = LeAll (body_core (trees_of a)) (body_core (trees_of b))
 
-le_with : (f : Function) (a b : List Item) → f.body ≡ Some a → CoresAreLe a b → LeFunction (core_function (function_tree f)) (core_function (function_tree (with_body f b)))
+le_with : (f : Function) (a b : List Item) → f.body ≡ Some a → CoresAreLe a b →
+    LeFunction (core_function (function_tree f)) (core_function (function_tree (with_body f b)))
 le_with f a b e h = record {
   result = refl;
   params = refl;

@@ -115,14 +115,16 @@ in_all kind n k NoSection h = h
 in_all kind n zero (Section cases default a ends c) h = in_front (case_number kind) (Some n) cases (all_cases c) h
 in_all kind n (suc k) (Section cases default a ends c) h = in_back (case_number kind) (Some n) cases (all_cases c) (in_all kind n k c h)
 
-first_case : (kind : IntKind) (n : ℤ) (k : ℕ) (c : Sections) (e : ExpressionTree) (es : List ExpressionTree) → Apart (case_numbers kind c) → cases_at k c ≡ e ∷ es → case_number kind e ≡ Some n
+first_case : (kind : IntKind) (n : ℤ) (k : ℕ) (c : Sections) (e : ExpressionTree) (es : List ExpressionTree) → Apart (case_numbers kind c) →
+    cases_at k c ≡ e ∷ es → case_number kind e ≡ Some n
     → IsFirst (ToCase kind n) k c
 first_case kind n k NoSection e es p q h = absurd (let z : [] ≡ e ∷ es = q in cc)
 first_case kind n zero (Section cases default a ends c) e es p q h =
     ap (list_any (is_case kind n)) q ∙ ap (λ b. b || list_any (is_case kind n) es) (eq_some n (case_number kind e) h)
 first_case kind n (suc k) (Section cases default a ends c) e es p q h = (
   never (list_any (is_case kind n) cases)
-      (λ t. apart_both (case_number kind) (Some n) cases (all_cases c) p (case_in kind n cases t) (in_all kind n k c (subst (λ l. In (Some n) (map (case_number kind) l)) (sym q) (inl h)))),
+      (λ t. apart_both (case_number kind) (Some n) cases (all_cases c) p (case_in kind n cases t)
+      (in_all kind n k c (subst (λ l. In (Some n) (map (case_number kind) l)) (sym q) (inl h)))),
   first_case kind n k c e es (apart_back (case_number kind) cases (all_cases c) p) q h,
 )
 
@@ -151,12 +153,14 @@ chosen_among kind n l k {c = c} r h m a [] e f =
     inr (none_free kind n c (λ i. f.free (contained (Some n) (case_numbers kind c) i)), first_default l k r h m e)
 chosen_among kind n l k {c = c} r h m a (x ∷ xs) e f = inl (first_case kind n k c x xs (apart (case_numbers kind c) a.distinct) e f)
 
-choice : (o : Option IntKind) (n : ℤ) (l k : ℕ) {c d : Sections} → SectionsEntered l k c d → AllEntered c → defaults c ≤ 1 → IfSome (option_map promoted o) (λ kind. AreCases kind c)
+choice : (o : Option IntKind) (n : ℤ) (l k : ℕ) {c d : Sections} → SectionsEntered l k c d → AllEntered c → defaults c ≤ 1 →
+    IfSome (option_map promoted o) (λ kind. AreCases kind c)
     → IsSomeAnd (option_map promoted o) (λ kind. IsNumberFor kind c (cases_at k c) n) → IsChosen (promoted (operand_kind o)) n k c
 choice None n l k r h m a f = absurd f
 choice (Some j) n l k {c = c} r h m a f = chosen_among (promoted j) n l k r h m a (cases_at k c) refl f
 
 -- the number by which a guard selects a section leads to it
-pub selects_chosen : (s : SelectorTree) (n : ℤ) (l k : ℕ) {c d : Sections} → SectionsEntered l k c d → HasEntries (Switch s c) → HasCases (Switch s c) → SelectsBranch (B.Section k) n (Switch s c)
+pub selects_chosen : (s : SelectorTree) (n : ℤ) (l k : ℕ) {c d : Sections} → SectionsEntered l k c d → HasEntries (Switch s c) →
+    HasCases (Switch s c) → SelectsBranch (B.Section k) n (Switch s c)
     → IsChosen (switch_kind s) n k c
 selects_chosen s n l k r e a f = choice (kind_of (selector_source s)) n l k r e.0 e.1 a f

@@ -67,9 +67,11 @@ module _ (D : ℕ → Type 0) where
 
     core_of_among : (x : Tree) → EverywhereOf (ArmsAmong D) x → (w w' : Follow) → LeAmong w w' → LeAll (core_of x w) (core_of x w')
     core_of_among (If t a b) m w w' h = core_if_le (peel no_guards t) (core_among a m.1 w w' h) (core_among b m.2 w w' h)
-    core_of_among (While t a) m w w' h = one_le (le_while _ (core_among a m.1 (after_while t a w) (after_while t a w') (on_among (λ l. walk l (While t a)) w w' h)))
+    core_of_among (While t a) m w w' h = one_le
+        (le_while _ (core_among a m.1 (after_while t a w) (after_while t a w') (on_among (λ l. walk l (While t a)) w w' h)))
     core_of_among (Do a t) m w w' h =
-        core_do_le (peel no_guards t) (breaks a + continues a) (breaks a + continues a) refl (core_among a m.1 (after_do a t w) (after_do a t w') (on_among (λ l. do_end_way l a t) w w' h))
+        core_do_le (peel no_guards t) (breaks a + continues a) (breaks a + continues a) refl
+        (core_among a m.1 (after_do a t w) (after_do a t w') (on_among (λ l. do_end_way l a t) w w' h))
     core_of_among (For first t u a) m w w' h = all_refl _
     core_of_among (Switch s c) m w w' h = one_le (le_switch _ (sections_among c m.1 w w' h))
     core_of_among (Block a) m w w' h = one_le (le_block (core_among a m.1 w w' h))
@@ -90,7 +92,8 @@ module _ (D : ℕ → Type 0) where
     sections_among : (c : Sections) → EverywhereIn (ArmsAmong D) c → (w w' : Follow) → LeAmong w w' → LeSections (core_sections c w) (core_sections c w')
     sections_among NoSection m w w' h = le_no_section
     sections_among (Section cases default a ends c) m w w' h =
-        le_section cases default ends (core_among a m.0 (after_section ends c w) (after_section ends c w') (on_among (λ l. end_way ends (tail_way l c)) w w' h)) (sections_among c m.1 w w' h)
+        le_section cases default ends (core_among a m.0 (after_section ends c w) (after_section ends c w')
+        (on_among (λ l. end_way ends (tail_way l c)) w w' h)) (sections_among c m.1 w w' h)
 
 -- ---- the core, where all ways go on better
 

@@ -126,7 +126,8 @@ module _ (d : ℕ → Bool) where
   mutual
     pub drop_continues : (a : Forest) → continues (dropped d a) ≡ continues a
     drop_continues Nil = refl
-    drop_continues (Then x a) = let i = continues-join (dropped_item d x) (dropped d a) in let p = drop_continues_of x in let q = drop_continues a in omega (arith, i, p, q)
+    drop_continues (Then x a) = let i = continues-join (dropped_item d x) (dropped d a) in let p = drop_continues_of x in let q = drop_continues a in
+        omega (arith, i, p, q)
 
     drop_continues_of : (x : Tree) → continues (dropped_item d x) ≡ continues_of x
     drop_continues_of (If t a b) = let p = drop_continues a in let q = drop_continues b in omega (arith, p, q)
@@ -178,7 +179,8 @@ module _ (d : ℕ → Bool) where
       drop_less_of (If t a b) = let h = k.ifs t (dropped d a) (dropped d b) in let p = drop_less a in let q = drop_less b in omega (arith, h, p, q)
       drop_less_of (While t a) = let h = k.whiles t (dropped d a) in let p = drop_less a in omega (arith, h, p)
       drop_less_of (Do a t) = let h = k.dos t (dropped d a) in let p = drop_less a in omega (arith, h, p)
-      drop_less_of (For first t u a) = let h = k.fors (dropped d first) t u (dropped d a) in let p = drop_less first in let q = drop_less a in omega (arith, h, p, q)
+      drop_less_of (For first t u a) = let h = k.fors (dropped d first) t u (dropped d a) in let p = drop_less first in let q = drop_less a in
+          omega (arith, h, p, q)
       drop_less_of (Switch s c) = let h = k.switches s (dropped_sections d c) in let p = drop_less_in c in omega (arith, h, p)
       drop_less_of (Block a) = let h = k.blocks (dropped d a) in let p = drop_less a in omega (arith, h, p)
       drop_less_of (Arm l None) = let h = arm_total l (d l) in omega (arith, h)

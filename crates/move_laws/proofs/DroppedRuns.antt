@@ -46,7 +46,8 @@ some_dropped : (d : ℕ → Bool) (a b : Option Forest) → b ≡ option_map (dr
 some_dropped d (Some a) b e = ((λ h. subst IsSome (sym e) refl), (λ h. refl))
 some_dropped d None b e = ((λ h. subst IsSome (sym e) h), (λ h. subst IsSome e h))
 
-module _ (D : List ℕ → ℕ → Bool) (p q : Code) (without : (m : List ℕ) → IsDropped (D m) (p.functions m) (q.functions m)) (unread : (m : List ℕ) → Everywhere (IsUnread (D m)) (body_in p m))
+module _ (D : List ℕ → ℕ → Bool) (p q : Code) (without : (m : List ℕ) → IsDropped (D m) (p.functions m) (q.functions m))
+    (unread : (m : List ℕ) → Everywhere (IsUnread (D m)) (body_in p m))
     (globals : (m : List ℕ) → p.globals m ≡ q.globals m) (cells : p.cells ≡ q.cells) where
   abbrev AreLike : State → State → Type 0
   AreLike c e = Like D p q without unread c e
@@ -93,11 +94,13 @@ module _ (D : List ℕ → ℕ → Bool) (p q : Code) (without : (m : List ℕ) 
   like_shows (like_ended n es) = refl
   like_shows (like_trapped t es) = refl
 
-  like_start : (m : List ℕ) (arguments : List ℤ) (input : List ℕ) (answers : List ℤ) → AreLike (start p m arguments input answers) (start q m arguments input answers)
+  like_start : (m : List ℕ) (arguments : List ℤ) (input : List ℕ) (answers : List ℤ) →
+      AreLike (start p m arguments input answers) (start q m arguments input answers)
   like_start m arguments input answers =
       let vs = map Integer arguments in
       let w = world_at_start p input answers in
-      subst (λ u. AreLike (start p m arguments input answers) (begin_call m (items_of (q.functions m)) (push (q.functions m) vs u) [] u)) (same_world p q globals cells input answers)
+      subst (λ u. AreLike (start p m arguments input answers) (begin_call m (items_of (q.functions m)) (push (q.functions m) vs u) [] u))
+      (same_world p q globals cells input answers)
       (subst (λ r. AreLike (start p m arguments input answers) (begin_call m (items_of (q.functions m)) r [] w)) (push_alike (without m).face vs w)
       (subst (λ a. AreLike (start p m arguments input answers) (begin_call m a (push (p.functions m) vs w) [] w)) (sym (same_body D p q without unread m))
       (like_begin D p q without unread m (body_in p m) (push (p.functions m) vs w) w (unread m) no_frame)))
@@ -122,7 +125,11 @@ module _ (D : List ℕ → ℕ → Bool) (p q : Code) (without : (m : List ℕ) 
     forth n = let r = met n in (n, subst (λ z. Covers (jump_run p m arguments input answers n) z) (like_shows r.like) (run_grows p n r.steps from r.far))
 
     back : (n : ℕ) → (i : ℕ) × Covers (jump_run q m arguments input answers n) (jump_run p m arguments input answers i)
-    back n = let r = met n in (r.steps, subst (λ z. Covers (jump_run q m arguments input answers n) z) (sym (like_shows r.like)) (covers_refl (jump_run q m arguments input answers n)))
+    back n = let r = met n in (
+      r.steps,
+      subst (λ z. Covers (jump_run q m arguments input answers n) z) (sym (like_shows r.like))
+          (covers_refl (jump_run q m arguments input answers n)),
+    )
 
     -- the ways of the Arms that stay still land
     still_sure : RealSure p from → RealSure q from'
@@ -139,6 +146,7 @@ module _ (D : List ℕ → ℕ → Bool) (p q : Code) (without : (m : List ℕ) 
 
   pub dropped_steady : Placed p → Placed q → IsSteadyCode p → IsSteadyCode q × SameBehaviour p q
   dropped_steady b d st = (
-    sure_steady q d (λ m arguments e input answers. still_sure m arguments input answers (real_sures p b st m arguments ((entries m arguments).1 e) input answers)),
+    sure_steady q d (λ m arguments e input answers. still_sure m arguments input answers
+        (real_sures p b st m arguments ((entries m arguments).1 e) input answers)),
     dropped_same,
   )

@@ -104,22 +104,29 @@ module _ (d : ℕ → Bool) where
   IsLiveGoal (ToCase kind n) = Unit {0}
   IsLiveGoal ToDefault = Unit {0}
 
-  inner_drop : (l : Goal) (x y : Tree) (k : List Task) → is_goal l x ≡ false → is_goal l y ≡ false → seek_in l y (task_drop d k) ≡ through (seek_in l x k) → seek l (one y) (task_drop d k) ≡ through (seek_of l x k)
+  inner_drop : (l : Goal) (x y : Tree) (k : List Task) → is_goal l x ≡ false → is_goal l y ≡ false →
+      seek_in l y (task_drop d k) ≡ through (seek_in l x k) → seek l (one y) (task_drop d k) ≡ through (seek_of l x k)
   inner_drop l x y k e f h = or_none (seek_of l y (task_drop d k)) ∙ seek_of_inner l y (task_drop d k) f ∙ h ∙ ap through (sym (seek_of_inner l x k e))
 
-  leaf_drop : (b : Bool) (x : Tree) (k : List Task) → task_drop d (Runs x ∷ k) ≡ Runs x ∷ task_drop d k → or_else (cond b (Some (Runs x ∷ task_drop d k)) None) None ≡ through (cond b (Some (Runs x ∷ k)) None)
-  leaf_drop b x k e = or_none (cond b (Some (Runs x ∷ task_drop d k)) None) ∙ cond_mapped (task_drop d) b (Some (Runs x ∷ k)) None (Some (Runs x ∷ task_drop d k)) None (ap Some (sym e)) refl
+  leaf_drop : (b : Bool) (x : Tree) (k : List Task) → task_drop d (Runs x ∷ k) ≡ Runs x ∷ task_drop d k →
+      or_else (cond b (Some (Runs x ∷ task_drop d k)) None) None ≡ through (cond b (Some (Runs x ∷ k)) None)
+  leaf_drop b x k e = or_none (cond b (Some (Runs x ∷ task_drop d k)) None) ∙
+      cond_mapped (task_drop d) b (Some (Runs x ∷ k)) None (Some (Runs x ∷ task_drop d k)) None (ap Some (sym e)) refl
 
   nothing_there : (l : Goal) (x : Tree) (k : List Task) → is_goal l x ≡ false → None ≡ through (seek_in l x k) → None ≡ through (seek_of l x k)
   nothing_there l x k e h = h ∙ ap through (sym (seek_of_inner l x k e))
 
   arm_drop : (l : Goal) (m : ℕ) (b : Bool) (k : List Task) → seek l (cond b Nil (one (Arm m None))) (task_drop d k) ≡ through (seek_of l (Arm m None) k)
   arm_drop l m true k = nothing_there l (Arm m None) k (no_goal (Arm m None) (λ n. refl) (λ kind n. refl) refl l) refl
-  arm_drop l m false k = inner_drop l (Arm m None) (Arm m None) k (no_goal (Arm m None) (λ n. refl) (λ kind n. refl) refl l) (no_goal (Arm m None) (λ n. refl) (λ kind n. refl) refl l) refl
+  arm_drop l m false k = inner_drop l (Arm m None) (Arm m None) k (no_goal (Arm m None) (λ n. refl) (λ kind n. refl) refl l)
+      (no_goal (Arm m None) (λ n. refl) (λ kind n. refl) refl l) refl
 
-  arm_if_drop : (l : Goal) (m : ℕ) (e : ExpressionTree) (b : Bool) (k : List Task) → seek l (cond b (one (Evaluate e)) (one (Arm m (Some e)))) (task_drop d k) ≡ through (seek_of l (Arm m (Some e)) k)
-  arm_if_drop l m e true k = inner_drop l (Arm m (Some e)) (Evaluate e) k (no_goal (Arm m (Some e)) (λ n. refl) (λ kind n. refl) refl l) (no_goal (Evaluate e) (λ n. refl) (λ kind n. refl) refl l) refl
-  arm_if_drop l m e false k = inner_drop l (Arm m (Some e)) (Arm m (Some e)) k (no_goal (Arm m (Some e)) (λ n. refl) (λ kind n. refl) refl l) (no_goal (Arm m (Some e)) (λ n. refl) (λ kind n. refl) refl l) refl
+  arm_if_drop : (l : Goal) (m : ℕ) (e : ExpressionTree) (b : Bool) (k : List Task) →
+      seek l (cond b (one (Evaluate e)) (one (Arm m (Some e)))) (task_drop d k) ≡ through (seek_of l (Arm m (Some e)) k)
+  arm_if_drop l m e true k = inner_drop l (Arm m (Some e)) (Evaluate e) k (no_goal (Arm m (Some e)) (λ n. refl) (λ kind n. refl) refl l)
+      (no_goal (Evaluate e) (λ n. refl) (λ kind n. refl) refl l) refl
+  arm_if_drop l m e false k = inner_drop l (Arm m (Some e)) (Arm m (Some e)) k (no_goal (Arm m (Some e)) (λ n. refl) (λ kind n. refl) refl l)
+      (no_goal (Arm m (Some e)) (λ n. refl) (λ kind n. refl) refl l) refl
 
   not_sought : (l m : ℕ) (y : Bool) → d l ≡ false → d m ≡ true → eqb l m ≡ y → y ≡ false
   not_sought l m true e h q = absurd (true≢false (sym h ∙ ap d (sym (eqb-true l m q)) ∙ e))
@@ -130,7 +137,8 @@ module _ (d : ℕ → Bool) where
   other_land (ToCase kind n) m e h = refl
   other_land ToDefault m e h = refl
 
-  land_drop : (l : Goal) (m : ℕ) (b : Bool) (k : List Task) → IsLiveGoal l → d m ≡ b → seek l (cond b Nil (one (Land m))) (task_drop d k) ≡ through (seek_of l (Land m) k)
+  land_drop : (l : Goal) (m : ℕ) (b : Bool) (k : List Task) → IsLiveGoal l → d m ≡ b →
+      seek l (cond b Nil (one (Land m))) (task_drop d k) ≡ through (seek_of l (Land m) k)
   land_drop l m true k live e = nothing_there l (Land m) k (other_land l m live e) refl
   land_drop l m false k live e = leaf_drop (is_goal l (Land m)) (Land m) k (ap (λ b. items (cond b Nil (one (Land m))) (task_drop d k)) e)
 
@@ -141,20 +149,29 @@ module _ (d : ℕ → Bool) where
       drop_seek (Then x a) k =
           seek_join l (dropped_item d x) (dropped d a) (task_drop d k)
           ∙ ap (λ r. or_else (seek l (dropped_item d x) r) (seek l (dropped d a) (task_drop d k))) (sym (drop_items a k))
-          ∙ or_mapped (task_drop d) (seek_of l x (items a k)) (seek l a k) (seek l (dropped_item d x) (task_drop d (items a k))) (seek l (dropped d a) (task_drop d k)) (drop_seek_of x (items a k)) (drop_seek a k)
+          ∙ or_mapped (task_drop d) (seek_of l x (items a k)) (seek l a k) (seek l (dropped_item d x) (task_drop d (items a k)))
+          (seek l (dropped d a) (task_drop d k)) (drop_seek_of x (items a k)) (drop_seek a k)
 
       drop_seek_of : (x : Tree) (k : List Task) → seek l (dropped_item d x) (task_drop d k) ≡ through (seek_of l x k)
       drop_seek_of (If t a b) k =
-          inner_drop l (If t a b) (If t (dropped d a) (dropped d b)) k (no_goal (If t a b) (λ n. refl) (λ kind n. refl) refl l) (no_goal (If t (dropped d a) (dropped d b)) (λ n. refl) (λ kind n. refl) refl l)
-          (or_mapped (task_drop d) (seek l a k) (seek l b k) (seek l (dropped d a) (task_drop d k)) (seek l (dropped d b) (task_drop d k)) (drop_seek a k) (drop_seek b k))
-      drop_seek_of (While t a) k = inner_drop l (While t a) (While t (dropped d a)) k (no_goal (While t a) (λ n. refl) (λ kind n. refl) refl l) (no_goal (While t (dropped d a)) (λ n. refl) (λ kind n. refl) refl l) (drop_seek a (Loops (WhileLoop t a) ∷ k))
-      drop_seek_of (Do a t) k = inner_drop l (Do a t) (Do (dropped d a) t) k (no_goal (Do a t) (λ n. refl) (λ kind n. refl) refl l) (no_goal (Do (dropped d a) t) (λ n. refl) (λ kind n. refl) refl l) (drop_seek a (Loops (DoLoop a t) ∷ k))
+          inner_drop l (If t a b) (If t (dropped d a) (dropped d b)) k (no_goal (If t a b) (λ n. refl) (λ kind n. refl) refl l)
+          (no_goal (If t (dropped d a) (dropped d b)) (λ n. refl) (λ kind n. refl) refl l)
+          (or_mapped (task_drop d) (seek l a k) (seek l b k) (seek l (dropped d a) (task_drop d k)) (seek l (dropped d b) (task_drop d k))
+          (drop_seek a k) (drop_seek b k))
+      drop_seek_of (While t a) k = inner_drop l (While t a) (While t (dropped d a)) k (no_goal (While t a) (λ n. refl) (λ kind n. refl) refl l)
+          (no_goal (While t (dropped d a)) (λ n. refl) (λ kind n. refl) refl l) (drop_seek a (Loops (WhileLoop t a) ∷ k))
+      drop_seek_of (Do a t) k = inner_drop l (Do a t) (Do (dropped d a) t) k (no_goal (Do a t) (λ n. refl) (λ kind n. refl) refl l)
+          (no_goal (Do (dropped d a) t) (λ n. refl) (λ kind n. refl) refl l) (drop_seek a (Loops (DoLoop a t) ∷ k))
       drop_seek_of (For i t u a) k =
-          inner_drop l (For i t u a) (For (dropped d i) t u (dropped d a)) k (no_goal (For i t u a) (λ n. refl) (λ kind n. refl) refl l) (no_goal (For (dropped d i) t u (dropped d a)) (λ n. refl) (λ kind n. refl) refl l) (drop_seek a (Loops (ForLoop t u a) ∷ k))
+          inner_drop l (For i t u a) (For (dropped d i) t u (dropped d a)) k (no_goal (For i t u a) (λ n. refl) (λ kind n. refl) refl l)
+          (no_goal (For (dropped d i) t u (dropped d a)) (λ n. refl) (λ kind n. refl) refl l) (drop_seek a (Loops (ForLoop t u a) ∷ k))
       drop_seek_of (Switch s c) k =
-          inner_drop l (Switch s c) (Switch s (dropped_sections d c)) k (no_goal (Switch s c) (λ n. refl) (λ kind n. refl) refl l) (no_goal (Switch s (dropped_sections d c)) (λ n. refl) (λ kind n. refl) refl l)
-          (cond_mapped (task_drop d) (enters_switches l) (seek_sections l c k) None (seek_sections l (dropped_sections d c) (task_drop d k)) None (drop_seek_sections c k) refl)
-      drop_seek_of (Block a) k = inner_drop l (Block a) (Block (dropped d a)) k (no_goal (Block a) (λ n. refl) (λ kind n. refl) refl l) (no_goal (Block (dropped d a)) (λ n. refl) (λ kind n. refl) refl l) (drop_seek a k)
+          inner_drop l (Switch s c) (Switch s (dropped_sections d c)) k (no_goal (Switch s c) (λ n. refl) (λ kind n. refl) refl l)
+          (no_goal (Switch s (dropped_sections d c)) (λ n. refl) (λ kind n. refl) refl l)
+          (cond_mapped (task_drop d) (enters_switches l) (seek_sections l c k) None (seek_sections l (dropped_sections d c) (task_drop d k)) None
+          (drop_seek_sections c k) refl)
+      drop_seek_of (Block a) k = inner_drop l (Block a) (Block (dropped d a)) k (no_goal (Block a) (λ n. refl) (λ kind n. refl) refl l)
+          (no_goal (Block (dropped d a)) (λ n. refl) (λ kind n. refl) refl l) (drop_seek a k)
       drop_seek_of (Arm m None) k = arm_drop l m (d m) k
       drop_seek_of (Arm m (Some e)) k = arm_if_drop l m e (d m) k
       drop_seek_of (Land m) k = land_drop l m (d m) k live refl
@@ -176,8 +193,10 @@ module _ (d : ℕ → Bool) where
           let behind' = end_of ends (tail_tasks (dropped_sections d c) (task_drop d k)) in
           let e : behind' ≡ task_drop d behind = ap (end_of ends) (sym (drop_tail c k)) ∙ sym (drop_end ends (tail_tasks c k)) in
           or_mapped (task_drop d) (cond (is_section_goal l cases default) (Some (items a behind)) (seek l a behind)) (seek_sections l c k)
-          (cond (is_section_goal l cases default) (Some (items (dropped d a) behind')) (seek l (dropped d a) behind')) (seek_sections l (dropped_sections d c) (task_drop d k))
-          (cond_mapped (task_drop d) (is_section_goal l cases default) (Some (items a behind)) (seek l a behind) (Some (items (dropped d a) behind')) (seek l (dropped d a) behind')
+          (cond (is_section_goal l cases default) (Some (items (dropped d a) behind')) (seek l (dropped d a) behind'))
+          (seek_sections l (dropped_sections d c) (task_drop d k))
+          (cond_mapped (task_drop d) (is_section_goal l cases default) (Some (items a behind)) (seek l a behind) (Some (items (dropped d a) behind'))
+          (seek l (dropped d a) behind')
           (ap Some (sym (drop_section a ends c k (drop_tail c k))))
           (ap (seek l (dropped d a)) e ∙ drop_seek a behind))
           (drop_seek_sections c k)
@@ -185,7 +204,8 @@ module _ (d : ℕ → Bool) where
   pub drop_find : (l : ℕ) → Stays d l → (a : Forest) → find l (dropped d a) ≡ task_drop d (find l a)
   drop_find l e a = ap (λ o. first_of_three o None []) (drop_seek (ToLabel l) e a []) ∙ first_mapped (task_drop d) (seek (ToLabel l) a []) None []
 
-  pub drop_entry : (kind : IntKind) (n : ℤ) (c : Sections) (k : List Task) → entry kind n (dropped_sections d c) (task_drop d k) ≡ task_drop d (entry kind n c k)
+  pub drop_entry : (kind : IntKind) (n : ℤ) (c : Sections) (k : List Task) →
+      entry kind n (dropped_sections d c) (task_drop d k) ≡ task_drop d (entry kind n c k)
   drop_entry kind n c k =
       ap₂ (λ o p. first_of_three o p (task_drop d k)) (drop_seek_sections (ToCase kind n) tt c k) (drop_seek_sections ToDefault tt c k)
       ∙ first_mapped (task_drop d) (seek_sections (ToCase kind n) c k) (seek_sections ToDefault c k) k

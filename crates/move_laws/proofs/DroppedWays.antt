@@ -30,14 +30,19 @@ module _ (d : ℕ → Bool) (l : ℕ) (live : Stays d l) where
   mutual
     drop_ways : (a : Forest) → LeWay (walks l a) (walks l (dropped d a))
     drop_ways Nil = tt
-    drop_ways (Then x a) = subst (λ z. LeWay (walk l x ▷ walks l a) z) (sym (walks-join l (dropped_item d x) (dropped d a))) (way_then _ _ _ _ (drop_way x) (drop_ways a))
+    drop_ways (Then x a) = subst (λ z. LeWay (walk l x ▷ walks l a) z) (sym (walks-join l (dropped_item d x) (dropped d a)))
+        (way_then _ _ _ _ (drop_way x) (drop_ways a))
 
     drop_way : (x : Tree) → LeWay (walk l x) (walks l (dropped_item d x))
-    drop_way (If t a b) = one_way (walk l (If t a b)) (walk l (If t (dropped d a) (dropped d b))) (way_peeled (peel (only l) t) _ _ _ _ (drop_ways a) (drop_ways b))
-    drop_way (While t a) = one_way (walk l (While t a)) (walk l (While t (dropped d a))) (way_peeled (peel (only l) t) _ _ _ _ (way_then _ _ Lost Lost (drop_ways a) tt) tt)
-    drop_way (Do a t) = one_way (walk l (Do a t)) (walk l (Do (dropped d a) t)) (way_then _ _ _ _ (drop_ways a) (way_peeled (peel (only l) t) _ _ _ _ (way_then _ _ Lost Lost (drop_ways a) tt) tt))
+    drop_way (If t a b) = one_way (walk l (If t a b)) (walk l (If t (dropped d a) (dropped d b)))
+        (way_peeled (peel (only l) t) _ _ _ _ (drop_ways a) (drop_ways b))
+    drop_way (While t a) = one_way (walk l (While t a)) (walk l (While t (dropped d a)))
+        (way_peeled (peel (only l) t) _ _ _ _ (way_then _ _ Lost Lost (drop_ways a) tt) tt)
+    drop_way (Do a t) = one_way (walk l (Do a t)) (walk l (Do (dropped d a) t))
+        (way_then _ _ _ _ (drop_ways a) (way_peeled (peel (only l) t) _ _ _ _ (way_then _ _ Lost Lost (drop_ways a) tt) tt))
     drop_way (Switch s c) =
-        one_way (walk l (Switch s c)) (walk l (Switch s (dropped_sections d c))) (way_selector (peel_selector (only l) s) _ _ (λ n. maybe_first _ _ _ _ (drop_section (ToCase (switch_kind s) n) c) (drop_section ToDefault c)))
+        one_way (walk l (Switch s c)) (walk l (Switch s (dropped_sections d c)))
+        (way_selector (peel_selector (only l) s) _ _ (λ n. maybe_first _ _ _ _ (drop_section (ToCase (switch_kind s) n) c) (drop_section ToDefault c)))
     drop_way (Leap m) = one_way (walk l (Leap m)) (walk l (Leap m)) (way_refl (walk l (Leap m)))
     drop_way (Land m) = land_way m (d m) refl
     drop_way _ = tt
@@ -48,7 +53,8 @@ module _ (d : ℕ → Bool) (l : ℕ) (live : Stays d l) where
 
     drop_section : (goal : Goal) (c : Sections) → LeMaybe (section_way l goal c) (section_way l goal (dropped_sections d c))
     drop_section goal NoSection = tt
-    drop_section goal (Section cases default a ends c) = maybe_here (is_section_goal goal cases default) _ _ _ _ (way_then _ _ _ _ (drop_ways a) (way_end ends _ _ (drop_tail c))) (drop_section goal c)
+    drop_section goal (Section cases default a ends c) = maybe_here (is_section_goal goal cases default)
+        _ _ _ _ (way_then _ _ _ _ (drop_ways a) (way_end ends _ _ (drop_tail c))) (drop_section goal c)
 
   drop_loop : (x : Loop) → LeWay (loop_way l x) (loop_way l (loop_drop d x))
   drop_loop (WhileLoop t a) = way_peeled (peel (only l) t) _ _ _ _ (way_then _ _ Lost Lost (drop_ways a) tt) tt
@@ -62,7 +68,8 @@ module _ (d : ℕ → Bool) (l : ℕ) (live : Stays d l) where
   mutual
     drop_tasks : (k : List Task) → LeWay (task_way k l) (task_way (task_drop d k) l)
     drop_tasks [] = tt
-    drop_tasks (Runs x ∷ k) = subst (λ z. LeWay (walk l x ▷ task_way k l) z) (sym (items_way l (dropped_item d x) (task_drop d k))) (way_then _ _ _ _ (drop_way x) (drop_tasks k))
+    drop_tasks (Runs x ∷ k) = subst (λ z. LeWay (walk l x ▷ task_way k l) z) (sym (items_way l (dropped_item d x) (task_drop d k)))
+        (way_then _ _ _ _ (drop_way x) (drop_tasks k))
     drop_tasks (Loops x ∷ k) = way_then _ _ _ _ (drop_loop x) (drop_tasks k)
     drop_tasks (EndsSection ∷ k) = drop_past k
     drop_tasks (Out ∷ k) = drop_tasks k

@@ -38,14 +38,19 @@ module _ (m : ℕ) (t : Forest) (x y : Tree) (i : Entered m x y) where
   inward = record {
     stops = let p = breaks-join t (one x) in let q = breaks-join (guarded m t) (one y) in let g = breaks-guarded m t in let h = i.stops in omega arith;
     goes = let p = continues-join t (one x) in let q = continues-join (guarded m t) (one y) in let g = continues-guarded m t in let h = i.goes in omega arith;
-    ways = λ l. subst (LeWay (cond (eqb l m) Lands Past ▷ walks l (join t (one x)))) (sym (walks-join l (guarded m t) (one y) ∙ ap (λ z. z ▷ (walk l y ▷ Past)) (walks-guarded l m t)))
-        (subst (λ z. LeWay (cond (eqb l m) Lands Past ▷ z) (cond (eqb l m) Past (walks l t) ▷ (walk l y ▷ Past))) (sym (walks-join l t (one x))) (way l (eqb l m) refl));
+    ways = λ l. subst (LeWay (cond (eqb l m) Lands Past ▷ walks l (join t (one x))))
+        (sym (walks-join l (guarded m t) (one y) ∙ ap (λ z. z ▷ (walk l y ▷ Past)) (walks-guarded l m t)))
+        (subst (λ z. LeWay (cond (eqb l m) Lands Past ▷ z) (cond (eqb l m) Past (walks l t) ▷ (walk l y ▷ Past))) (sym (walks-join l t (one x)))
+        (way l (eqb l m) refl));
     cores = λ w w' h. subst (λ z. LeAll z (core (join (guarded m t) (one y)) w')) (sym (core-join t (one x) w))
-        (subst (LeAll (join (core t (before (one x) w)) (core (one x) w))) (sym (core-join (guarded m t) (one y) w' ∙ ap (λ r. join r (core (one y) w')) (core-guarded m t (before (one y) w'))))
-        (join_le (core_le t (before (one x) w) (before (one y) w') (λ l. way_then _ _ _ _ (way_then _ _ _ _ (entered_way l) tt) (h l))) (join_le (i.cores w w' h) (all_refl _))));
+        (subst (LeAll (join (core t (before (one x) w)) (core (one x) w)))
+        (sym (core-join (guarded m t) (one y) w' ∙ ap (λ r. join r (core (one y) w')) (core-guarded m t (before (one y) w'))))
+        (join_le (core_le t (before (one x) w) (before (one y) w') (λ l. way_then _ _ _ _ (way_then _ _ _ _ (entered_way l) tt) (h l)))
+        (join_le (i.cores w w' h) (all_refl _))));
   }
     where
-      way : (l : ℕ) (b : Bool) → eqb l m ≡ b → LeWay (cond (eqb l m) Lands Past ▷ (walks l t ▷ (walk l x ▷ Past))) (cond (eqb l m) Past (walks l t) ▷ (walk l y ▷ Past))
+      way : (l : ℕ) (b : Bool) → eqb l m ≡ b → LeWay (cond (eqb l m) Lands Past ▷ (walks l t ▷ (walk l x ▷ Past)))
+          (cond (eqb l m) Past (walks l t) ▷ (walk l y ▷ Past))
       way l true e =
           subst (λ z. LeWay (cond (eqb l m) Lands Past ▷ (walks l t ▷ (walk l x ▷ Past))) (cond (eqb l m) Past (walks l t) ▷ (z ▷ Past))) (sym (i.at l e))
           (subst (λ b. LeWay (cond b Lands Past ▷ (walks l t ▷ (walk l x ▷ Past))) (cond b Past (walks l t) ▷ Lands)) (sym e) tt)
@@ -80,7 +85,8 @@ entered_then m u a b =
       cores = λ w w' h. core_if_le (peel no_guards u) (core_le a w w' h) (core_le b w w' h);
     }
 
-pub in_then : (m : ℕ) (t : Forest) (u : TestTree) (a b : Forest) → Better (Then (Leap m) (join t (one (If u a b)))) (join (guarded m t) (one (If (OrOn m u) (Then (Leap m) a) b)))
+pub in_then : (m : ℕ) (t : Forest) (u : TestTree) (a b : Forest) → Better (Then (Leap m) (join t (one (If u a b))))
+    (join (guarded m t) (one (If (OrOn m u) (Then (Leap m) a) b)))
 in_then m t u a b = inward m t (If u a b) (If (OrOn m u) (Then (Leap m) a) b) (entered_then m u a b)
 
 entered_else : (m : ℕ) (u : TestTree) (a b : Forest) → Entered m (If u a b) (If (AndOff m u) a (Then (Leap m) b))
@@ -94,7 +100,8 @@ entered_else m u a b =
       cores = λ w w' h. core_if_le (peel no_guards u) (core_le a w w' h) (core_le b w w' h);
     }
 
-pub in_else : (m : ℕ) (t : Forest) (u : TestTree) (a b : Forest) → Better (Then (Leap m) (join t (one (If u a b)))) (join (guarded m t) (one (If (AndOff m u) a (Then (Leap m) b))))
+pub in_else : (m : ℕ) (t : Forest) (u : TestTree) (a b : Forest) → Better (Then (Leap m) (join t (one (If u a b))))
+    (join (guarded m t) (one (If (AndOff m u) a (Then (Leap m) b))))
 in_else m t u a b = inward m t (If u a b) (If (AndOff m u) a (Then (Leap m) b)) (entered_else m u a b)
 
 -- a loop that a Leap goes into
@@ -108,14 +115,16 @@ entered_while m u a = record {
   goes = refl;
   at = λ l e. ap (while_way l u a) e;
   other = λ l e. sym (ap (while_way l u a) e);
-  cores = λ w w' h. one_le (le_while _ (core_le a (after_while u a w) (after_while (OrOn m u) (Then (Leap m) a) w') (λ l. way_then _ _ _ _ (way l (eqb l m) refl) (h l))));
+  cores = λ w w' h. one_le (le_while _ (core_le a (after_while u a w) (after_while (OrOn m u) (Then (Leap m) a) w')
+      (λ l. way_then _ _ _ _ (way l (eqb l m) refl) (h l))));
 }
   where
     way : (l : ℕ) (c : Bool) → eqb l m ≡ c → LeWay (walk l (While u a)) (walk l (While (OrOn m u) (Then (Leap m) a)))
     way l true e = subst (LeWay (walk l (While u a))) (sym (ap (while_way l u a) e)) (way_lands _)
     way l false e = subst (LeWay (walk l (While u a))) (sym (ap (while_way l u a) e)) (way_refl _)
 
-pub in_while : (m : ℕ) (t : Forest) (u : TestTree) (a : Forest) → Better (Then (Leap m) (join t (one (While u a)))) (join (guarded m t) (one (While (OrOn m u) (Then (Leap m) a))))
+pub in_while : (m : ℕ) (t : Forest) (u : TestTree) (a : Forest) → Better (Then (Leap m) (join t (one (While u a))))
+    (join (guarded m t) (one (While (OrOn m u) (Then (Leap m) a))))
 in_while m t u a = inward m t (While u a) (While (OrOn m u) (Then (Leap m) a)) (entered_while m u a)
 
 -- a way is no worse with a Leap before it
@@ -135,8 +144,10 @@ entered_do m u a =
       at = λ l e. ap (way l) e;
       other = λ l e. sym (ap (way l) e);
       cores = λ w w' h. core_do_le (peel no_guards u) (breaks a + continues a) (breaks (Then (Leap m) a) + continues (Then (Leap m) a)) (omega arith)
-          (core_le a (after_do a u w) (after_do (Then (Leap m) a) u w') (λ l. way_then _ _ _ _ (way_peeled (peel (only l) u) _ _ _ _ (way_then _ _ Lost Lost (way_first l m (walks l a)) tt) tt) (h l)));
+          (core_le a (after_do a u w) (after_do (Then (Leap m) a) u w')
+          (λ l. way_then _ _ _ _ (way_peeled (peel (only l) u) _ _ _ _ (way_then _ _ Lost Lost (way_first l m (walks l a)) tt) tt) (h l)));
     }
 
-pub in_do : (m : ℕ) (t : Forest) (u : TestTree) (a : Forest) → Better (Then (Leap m) (join t (one (Do a u)))) (join (guarded m t) (one (Do (Then (Leap m) a) u)))
+pub in_do : (m : ℕ) (t : Forest) (u : TestTree) (a : Forest) → Better (Then (Leap m) (join t (one (Do a u))))
+    (join (guarded m t) (one (Do (Then (Leap m) a) u)))
 in_do m t u a = inward m t (Do a u) (Do (Then (Leap m) a) u) (entered_do m u a)

@@ -80,7 +80,8 @@ made_shorter (shorter_and l r) h = made_shorter r h
 made_shorter (shorter_or l r) h = made_shorter r h
 
 -- a fact of selectors that each Pick hands on
-module _ (P : SelectorTree → Type 0) (out : (l : ℕ) (n : ℤ) (s : SelectorTree) → P (Pick l n s) → P s) (inwards : (l : ℕ) (n : ℤ) (s u : SelectorTree) → P (Pick l n s) → P u → P (Pick l n u)) where
+module _ (P : SelectorTree → Type 0) (out : (l : ℕ) (n : ℤ) (s : SelectorTree) → P (Pick l n s) → P s)
+    (inwards : (l : ℕ) (n : ℤ) (s u : SelectorTree) → P (Pick l n s) → P u → P (Pick l n u)) where
   pick_dropped : (m : ℕ) {s u : SelectorTree} → DropsPick m s u → P s → P u
   pick_dropped m (pick_here n s) h = out m n s h
   pick_dropped m (pick_in l n {s = s} {u = u} r) h = inwards l n s u h (pick_dropped m r (out l n s h))
@@ -138,14 +139,20 @@ module _ (P : Tree → Type 0) (k : IsStable P) where
     simplified_kept (here r) h = rule_kept r h
     simplified_kept (within a b {xs = xs} {ys = ys} c) h =
         let e = everywhere_back P a (join xs b) h in
-        everywhere_join P a (join ys b) (everywhere_front P a (join xs b) h) (everywhere_join P ys b (simplified_kept c (everywhere_front P xs b e)) (everywhere_back P xs b e))
+        everywhere_join P a (join ys b) (everywhere_front P a (join xs b) h)
+        (everywhere_join P ys b (simplified_kept c (everywhere_front P xs b e)) (everywhere_back P xs b e))
     simplified_kept (in_then t b {xs = xs} {ys = ys} c) h = ((k.ifs t xs b ys b (λ e. e) h.0.0, simplified_kept c h.0.1, h.0.2), tt)
     simplified_kept (in_else t a {xs = xs} {ys = ys} c) h = ((k.ifs t a xs a ys (still_empty c) h.0.0, h.0.1, simplified_kept c h.0.2), tt)
     simplified_kept (in_while t {xs = xs} {ys = ys} c) h = ((k.whiles t xs ys (same_numbers c) h.0.0, simplified_kept c h.0.1), tt)
     simplified_kept (in_do t {xs = xs} {ys = ys} c) h = ((k.dos t xs ys (same_numbers c) h.0.0, simplified_kept c h.0.1), tt)
     simplified_kept (in_for f t u {xs = xs} {ys = ys} c) h = ((k.fors f t u xs ys (same_numbers c) h.0.0, h.0.1, simplified_kept c h.0.2), tt)
-    simplified_kept (in_switch s {c = c} {d = d} r) h =
-        ((k.switches s c d (record { entries = changed_same r; jumps = changed_total_in jump_of counts_jumps r; breaks = section_breaks r }) h.0.0, sections_kept r h.0.1), tt)
+    simplified_kept (in_switch s {c = c} {d = d} r) h = (
+      (
+        k.switches s c d (record { entries = changed_same r; jumps = changed_total_in jump_of counts_jumps r; breaks = section_breaks r }) h.0.0,
+        sections_kept r h.0.1,
+      ),
+      tt,
+    )
     simplified_kept (in_block {xs = xs} {ys = ys} c) h = ((k.blocks xs ys h.0.0, simplified_kept c h.0.1), tt)
 
     sections_kept : {c d : Sections} → ChangedSections Simplified c d → EverywhereIn P c → EverywhereIn P d
@@ -155,8 +162,10 @@ module _ (P : Tree → Type 0) (k : IsStable P) where
 -- ---- the facts of items
 
 -- a fact that no construct needs
-pub plain_stable : (P : Tree → Type 0) → ((t : TestTree) (a b : Forest) → P (If t a b)) → ((t : TestTree) (a : Forest) → P (While t a)) → ((t : TestTree) (a : Forest) → P (Do a t))
-    → ((first : Forest) (t u : Option ExpressionTree) (a a' : Forest) → SameNumbers a a' → P (For first t u a) → P (For first t u a')) → ((s : SelectorTree) (c : Sections) → P (Switch s c)) → ((a a' : Forest) → P (Block a) → P (Block a')) → IsStable P
+pub plain_stable : (P : Tree → Type 0) → ((t : TestTree) (a b : Forest) → P (If t a b)) → ((t : TestTree) (a : Forest) → P (While t a)) →
+    ((t : TestTree) (a : Forest) → P (Do a t))
+    → ((first : Forest) (t u : Option ExpressionTree) (a a' : Forest) → SameNumbers a a' → P (For first t u a) → P (For first t u a')) →
+    ((s : SelectorTree) (c : Sections) → P (Switch s c)) → ((a a' : Forest) → P (Block a) → P (Block a')) → IsStable P
 plain_stable P i w d f s b = record {
   ifs = λ t a c a' c' e h. i t a' c';
   whiles = λ t a a' n h. w t a';
@@ -310,7 +319,8 @@ cases_stable = record {
 
 picks_of : {s u : SelectorTree} → ShorterSelector s u → IfSome (selector_kind s) (λ k. ArePicks k s) → IfSome (selector_kind u) (λ k. ArePicks k u)
 picks_of {s = s} {u = u} r h =
-    subst (λ o. IfSome o (λ k. ArePicks k u)) (kind_kept r) (some_map (selector_kind s) (λ k. ArePicks k s) (λ k. ArePicks k u) (λ k z. selector_kept (ArePicks k) (λ l n s h. h.1) (λ l n s u h i. (h.0, i)) r z) h)
+    subst (λ o. IfSome o (λ k. ArePicks k u)) (kind_kept r) (some_map (selector_kind s) (λ k. ArePicks k s) (λ k. ArePicks k u)
+    (λ k z. selector_kept (ArePicks k) (λ l n s h. h.1) (λ l n s u h i. (h.0, i)) r z) h)
 
 pub picks_stable : IsStable HasPicks
 picks_stable = record {

@@ -243,7 +243,8 @@ module _ (d : ℕ → Bool) where
     live_seek l (Then x a) k h i =
         let after = live_items a k h.1 i in
         found_else (cond (is_goal l x) (Some (Runs x ∷ items a k)) (seek_in l x (items a k))) (seek l a k)
-        (either AreFound (is_goal l x) (Some (Runs x ∷ items a k)) (seek_in l x (items a k)) (h.0, after) (live_seek_in l x (items a k) h.0 after)) (live_seek l a k h.1 i)
+        (either AreFound (is_goal l x) (Some (Runs x ∷ items a k)) (seek_in l x (items a k)) (h.0, after) (live_seek_in l x (items a k) h.0 after))
+        (live_seek l a k h.1 i)
 
     live_seek_in : (l : Goal) (x : Tree) (k : List Task) → EverywhereOf (IsUnread d) x → AreLive k → AreFound (seek_in l x k)
     live_seek_in l (If t a b) k h i = found_else (seek l a k) (seek l b k) (live_seek l a k h.1 i) (live_seek l b k h.2 i)
@@ -260,10 +261,12 @@ module _ (d : ℕ → Bool) where
         let behind = end_of ends (tail_tasks c k) in
         let after = live_end ends (tail_tasks c k) (live_tail c k h.1 i) in
         found_else (cond (is_section_goal l cases default) (Some (items a behind)) (seek l a behind)) (seek_sections l c k)
-        (either AreFound (is_section_goal l cases default) (Some (items a behind)) (seek l a behind) (live_items a behind h.0 after) (live_seek l a behind h.0 after)) (live_sections l c k h.1 i)
+        (either AreFound (is_section_goal l cases default) (Some (items a behind)) (seek l a behind) (live_items a behind h.0 after)
+        (live_seek l a behind h.0 after)) (live_sections l c k h.1 i)
 
   pub live_find : (l : ℕ) (a : Forest) → Everywhere (IsUnread d) a → AreLive (find l a)
   live_find l a h = found_first (seek (ToLabel l) a []) None [] (live_seek (ToLabel l) a [] h tt) tt tt
 
   pub live_entry : (kind : IntKind) (n : ℤ) (c : Sections) (k : List Task) → EverywhereIn (IsUnread d) c → AreLive k → AreLive (entry kind n c k)
-  live_entry kind n c k h i = found_first (seek_sections (ToCase kind n) c k) (seek_sections ToDefault c k) k (live_sections (ToCase kind n) c k h i) (live_sections ToDefault c k h i) i
+  live_entry kind n c k h i = found_first (seek_sections (ToCase kind n) c k) (seek_sections ToDefault c k) k (live_sections (ToCase kind n) c k h i)
+      (live_sections ToDefault c k h i) i

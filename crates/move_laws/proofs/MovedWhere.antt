@@ -17,7 +17,8 @@ pub record MovedWhere (P : Tree → Type 0) (xs ys : Forest) : Type 0 where
 
 module _ (P : Tree → Type 0) where
   mutual
-    pub changed_where : {xs ys : Forest} → Changed Moved xs ys → breaks xs + continues xs ≡ 0 → Everywhere BindsNoExit xs → Everywhere P xs → Changed (MovedWhere P) xs ys
+    pub changed_where : {xs ys : Forest} → Changed Moved xs ys → breaks xs + continues xs ≡ 0 → Everywhere BindsNoExit xs → Everywhere P xs →
+        Changed (MovedWhere P) xs ys
     changed_where (here r) o h p = here (record { moved = r; bound = o; facts = p })
     changed_where (within a b {xs = xs} {ys = ys} c) o h p =
         let i = breaks-join a (join xs b) in let j = breaks-join xs b in let v = continues-join a (join xs b) in let w = continues-join xs b in
@@ -31,6 +32,7 @@ module _ (P : Tree → Type 0) where
     changed_where (in_switch s c) o h p = in_switch s (sections_where c (h.0.0 (sections_jumps c)) (omega arith) h.0.1 p.0.1)
     changed_where (in_block c) o h p = in_block (changed_where c (omega arith) h.0.1 p.0.1)
 
-    sections_where : {c d : Sections} → ChangedSections Moved c d → breaks_in c ≡ 0 → continues_in c ≡ 0 → EverywhereIn BindsNoExit c → EverywhereIn P c → ChangedSections (MovedWhere P) c d
+    sections_where : {c d : Sections} → ChangedSections Moved c d → breaks_in c ≡ 0 → continues_in c ≡ 0 → EverywhereIn BindsNoExit c →
+        EverywhereIn P c → ChangedSections (MovedWhere P) c d
     sections_where (in_section cases default ends c r) b o h p = in_section cases default ends c (changed_where r (omega arith) h.0 p.0)
     sections_where (in_later cases default ends a r) b o h p = in_later cases default ends a (sections_where r (omega arith) (omega arith) h.1 p.1)

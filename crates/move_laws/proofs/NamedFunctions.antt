@@ -38,11 +38,14 @@ module _ (E : FunctionTree → FunctionTree → Type 0) (itself : (f : FunctionT
   found_first None None None (Some h) d k l = absurd l
   found_first None None None None d k l = itself d
 
-  found : (p : Function → Bool) → ((f : Function) (a b : List Item) → f.body ≡ Some a → p f ≡ p (with_body f b)) → (m : List ℕ) {ts us : List Top} → OneBodyChanged R ts us → AreFound (function_in p m ts) (function_in p m us)
+  found : (p : Function → Bool) → ((f : Function) (a b : List Item) → f.body ≡ Some a → p f ≡ p (with_body f b)) → (m : List ℕ) {ts us : List Top} →
+      OneBodyChanged R ts us → AreFound (function_in p m ts) (function_in p m us)
   found p same m (this_function f a b ts e h) =
-      found_here (bytes_eq f.name m && p f) (bytes_eq f.name m && p (with_body f b)) _ _ (function_in p m ts) (function_in p m ts) (ap (λ c. bytes_eq f.name m && c) (same f a b e)) (changed f a b e h)
+      found_here (bytes_eq f.name m && p f) (bytes_eq f.name m && p (with_body f b)) _ _ (function_in p m ts) (function_in p m ts)
+      (ap (λ c. bytes_eq f.name m && c) (same f a b e)) (changed f a b e h)
       (found_refl (function_in p m ts))
-  found p same m (later_function (T.Function f) r) = found_here (bytes_eq f.name m && p f) (bytes_eq f.name m && p f) _ _ _ _ refl (itself (function_tree f)) (found p same m r)
+  found p same m (later_function (T.Function f) r) = found_here (bytes_eq f.name m && p f) (bytes_eq f.name m && p f) _ _ _ _ refl
+      (itself (function_tree f)) (found p same m r)
   found p same m (later_function (T.Include bs) r) = found p same m r
   found p same m (later_function (T.Enum es) r) = found p same m r
   found p same m (later_function (T.Global g) r) = found p same m r
@@ -50,7 +53,8 @@ module _ (E : FunctionTree → FunctionTree → Type 0) (itself : (f : FunctionT
 
   pub named : (m : List ℕ) {ts us : List Top} → OneBodyChanged R ts us → E (function_named m ts) (function_named m us)
   named m {ts = ts} {us = us} r =
-      found_first (function_in (λ f. is_some f.body) m ts) (function_in (λ f. true) m ts) (function_in (λ f. is_some f.body) m us) (function_in (λ f. true) m us) undeclared
+      found_first (function_in (λ f. is_some f.body) m ts) (function_in (λ f. true) m ts) (function_in (λ f. is_some f.body) m us)
+      (function_in (λ f. true) m us) undeclared
       (found (λ f. is_some f.body) some_body m r) (found (λ f. true) (λ f a b e. refl) m r)
 
 -- ---- what stands beside the functions

@@ -67,7 +67,8 @@ module _ (f : Tree → ℕ) (k : CountsNone f) where
   rule_total (shorter_do {t = t} {u = u} a r) = let h = k.dos t a in let i = k.dos u a in omega (arith, h, i)
   rule_total (shorter_switch {s = s} {u = u} c r) = let h = k.switches s c in let i = k.switches u c in omega (arith, h, i)
   rule_total (neighbours m a b n) =
-      let h = k.ifs (Off m) a Nil in let i = k.ifs (Off m) b Nil in let j = k.ifs (Off m) (join a b) Nil in let p = total-join f a b in omega (arith, h, i, j, p)
+      let h = k.ifs (Off m) a Nil in let i = k.ifs (Off m) b Nil in let j = k.ifs (Off m) (join a b) Nil in let p = total-join f a b in
+      omega (arith, h, i, j, p)
   rule_total (nested t u a o i) = let h = k.ifs t (one (If u a Nil)) Nil in let j = k.ifs u a Nil in let p = k.ifs (round t u) a Nil in omega (arith, h, j, p)
 
   mutual
@@ -75,7 +76,8 @@ module _ (f : Tree → ℕ) (k : CountsNone f) where
     changed_total (here r) = rule_total r
     changed_total (within a b {xs = xs} {ys = ys} c) =
         let h = changed_total c in
-        let p = total-join f a (join xs b) in let q = total-join f xs b in let r = total-join f a (join ys b) in let s = total-join f ys b in omega (arith, h, p, q, r, s)
+        let p = total-join f a (join xs b) in let q = total-join f xs b in let r = total-join f a (join ys b) in let s = total-join f ys b in
+        omega (arith, h, p, q, r, s)
     changed_total (in_then t b {xs = xs} {ys = ys} c) = let h = changed_total c in let p = k.ifs t xs b in let q = k.ifs t ys b in omega (arith, h, p, q)
     changed_total (in_else t a {xs = xs} {ys = ys} c) = let h = changed_total c in let p = k.ifs t a xs in let q = k.ifs t a ys in omega (arith, h, p, q)
     changed_total (in_while t {xs = xs} {ys = ys} c) = let h = changed_total c in let p = k.whiles t xs in let q = k.whiles t ys in omega (arith, h, p, q)

@@ -76,15 +76,18 @@ module _ (m : ℕ) (a b : Forest) where
   pub left_cores : (w w' : Follow) → Behind m w w' → LeAll (core old w) (core new w')
   left_cores w w' h =
       subst (λ x. LeAll x (core new w')) (sym (core-join a (Then (Leap m) b) w))
-      (subst (λ y. LeAll (join (core a (before (Then (Leap m) b) w)) (core b w)) y) (sym (core-join a (guarded m b) w' ∙ ap (λ r. join (core a (before (guarded m b) w')) r) (core-guarded m b w')))
+      (subst (λ y. LeAll (join (core a (before (Then (Leap m) b) w)) (core b w)) y)
+      (sym (core-join a (guarded m b) w' ∙ ap (λ r. join (core a (before (guarded m b) w')) r) (core-guarded m b w')))
       (join_le (core_le a (before (Then (Leap m) b) w) (before (guarded m b) w') (λ l. after l (eqb l m) refl)) (core_le b w w' h.better)))
     where
       after : (l : ℕ) (c : Bool) → eqb l m ≡ c → LeWay ((cond (eqb l m) Lands Past ▷ walks l b) ▷ w l) (walks l (guarded m b) ▷ w' l)
       after l true e =
-          subst (LeWay ((cond (eqb l m) Lands Past ▷ walks l b) ▷ w l)) (sym (ap (λ y. y ▷ w' l) (walks-guarded l m b ∙ ap (λ c. cond c Past (walks l b)) e) ∙ h.at l e)) (way_lands _)
+          subst (LeWay ((cond (eqb l m) Lands Past ▷ walks l b) ▷ w l))
+          (sym (ap (λ y. y ▷ w' l) (walks-guarded l m b ∙ ap (λ c. cond c Past (walks l b)) e) ∙ h.at l e)) (way_lands _)
       after l false e =
           subst (λ c. LeWay ((cond c Lands Past ▷ walks l b) ▷ w l) (walks l (guarded m b) ▷ w' l)) (sym e)
-          (subst (λ y. LeWay (walks l b ▷ w l) (y ▷ w' l)) (sym (walks-guarded l m b ∙ ap (λ c. cond c Past (walks l b)) e)) (way_on (walks l b) (w l) (w' l) (h.better l)))
+          (subst (λ y. LeWay (walks l b ▷ w l) (y ▷ w' l)) (sym (walks-guarded l m b ∙ ap (λ c. cond c Past (walks l b)) e))
+          (way_on (walks l b) (w l) (w' l) (h.better l)))
 
   there_later : (y : Way) → LeWay (y ▷ Lands) ((y ▷ Past) ▷ Lands)
   there_later Lands = tt
@@ -114,7 +117,8 @@ module _ (m : ℕ) (a b : Forest) where
     stops = let e = breaks-left m a b in omega arith;
     goes = let e = continues-left m a b in omega arith;
     ways = λ l. subst (λ x. LeWay x (on_peeled (peel (only l) t) Lost (walks l new) (walks l c) ▷ leap_way l m)) (sym (way_past _))
-        (subst (LeWay (on_peeled (peel (only l) t) Lost (walks l old) (walks l c))) (sym (peeled_then (peel (only l) t) (walks l new) (walks l c) (leap_way l m)))
+        (subst (LeWay (on_peeled (peel (only l) t) Lost (walks l old) (walks l c)))
+        (sym (peeled_then (peel (only l) t) (walks l new) (walks l c) (leap_way l m)))
         (way_peeled (peel (only l) t) _ _ _ _ (left_way l) (way_more l m (walks l c))));
     cores = λ w w' h. let i = behind_leap m w w' h in
         join_le (core_if_le (peel no_guards t) (left_cores w (before (one (Leap m)) w') i) (core_le c w (before (one (Leap m)) w') i.better)) le_nil;
@@ -125,7 +129,8 @@ module _ (m : ℕ) (a b : Forest) where
     stops = let e = breaks-left m a b in omega arith;
     goes = let e = continues-left m a b in omega arith;
     ways = λ l. subst (λ x. LeWay x (on_peeled (peel (only l) t) Lost (walks l c) (walks l new) ▷ leap_way l m)) (sym (way_past _))
-        (subst (LeWay (on_peeled (peel (only l) t) Lost (walks l c) (walks l old))) (sym (peeled_then (peel (only l) t) (walks l c) (walks l new) (leap_way l m)))
+        (subst (LeWay (on_peeled (peel (only l) t) Lost (walks l c) (walks l old)))
+        (sym (peeled_then (peel (only l) t) (walks l c) (walks l new) (leap_way l m)))
         (way_peeled (peel (only l) t) _ _ _ _ (way_more l m (walks l c)) (left_way l)));
     cores = λ w w' h. let i = behind_leap m w w' h in
         join_le (core_if_le (peel no_guards t) (core_le c w (before (one (Leap m)) w') i.better) (left_cores w (before (one (Leap m)) w') i)) le_nil;
@@ -145,7 +150,8 @@ module _ (m : ℕ) (a b : Forest) where
 
   test_other : (t : TestTree) (l : ℕ) → eqb l m ≡ false → test_new t l ≡ test_old t l
   test_other t l e =
-      ap (λ c. on_peeled (cond c (Known false) (peel (only l) t)) Lost (walks l new ▷ Lost) Past) e ∙ ap (λ y. on_peeled (peel (only l) t) Lost (y ▷ Lost) Past) (new-other l e)
+      ap (λ c. on_peeled (cond c (Known false) (peel (only l) t)) Lost (walks l new ▷ Lost) Past) e ∙
+      ap (λ y. on_peeled (peel (only l) t) Lost (y ▷ Lost) Past) (new-other l e)
 
   test_way : (t : TestTree) (l : ℕ) → LeWay (test_old t l) (test_new t l ▷ leap_way l m)
   test_way t l = way (eqb l m) refl
@@ -181,7 +187,8 @@ module _ (m : ℕ) (a b : Forest) where
       way true e =
           subst (λ x. LeWay (x ▷ test_old t l) ((walks l new ▷ test_new t l) ▷ leap_way l m)) (sym (old-at l e))
           (subst (LeWay ((walks l a ▷ Lands) ▷ test_old t l))
-          (sym (ap (λ y. (walks l new ▷ y) ▷ leap_way l m) (test_at t l e) ∙ ap (λ y. (walks l new ▷ Past) ▷ y) (leap_at l m e) ∙ ap (λ y. y ▷ Lands) (way_past (walks l new)) ∙ ap (λ y. y ▷ Lands) (new-at l e)))
+          (sym (ap (λ y. (walks l new ▷ y) ▷ leap_way l m) (test_at t l e) ∙ ap (λ y. (walks l new ▷ Past) ▷ y) (leap_at l m e) ∙
+          ap (λ y. y ▷ Lands) (way_past (walks l new)) ∙ ap (λ y. y ▷ Lands) (new-at l e)))
           (there_do (walks l a) (test_old t l)))
       way false e =
           subst (LeWay (walks l old ▷ test_old t l)) (sym (way_assoc (walks l new) (test_new t l) (leap_way l m)))
@@ -193,7 +200,8 @@ module _ (m : ℕ) (a b : Forest) where
     goes = refl;
     ways = λ l. subst (λ x. LeWay x ((walks l new ▷ test_new t l) ▷ leap_way l m)) (sym (way_past (walks l old ▷ test_old t l))) (do_way t l);
     cores = λ w w' h. join_le
-        (core_do_le (peel no_guards t) (breaks old + continues old) (breaks new + continues new) (let x = breaks-left m a b in let y = continues-left m a b in omega arith)
+        (core_do_le (peel no_guards t) (breaks old + continues old) (breaks new + continues new)
+        (let x = breaks-left m a b in let y = continues-left m a b in omega arith)
         (left_cores (after_do old t w) (after_do new (AndOff m t) (before (one (Leap m)) w')) (loop_behind t w w' h)))
         le_nil;
   }

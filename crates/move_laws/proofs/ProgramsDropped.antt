@@ -40,7 +40,8 @@ mutual
   dropped_none_of (If t a b) = ap (λ z. Then (If t z (dropped none b)) Nil) (dropped_none a) ∙ ap (λ z. Then (If t a z) Nil) (dropped_none b)
   dropped_none_of (While t a) = ap (λ z. Then (While t z) Nil) (dropped_none a)
   dropped_none_of (Do a t) = ap (λ z. Then (Do z t) Nil) (dropped_none a)
-  dropped_none_of (For first t u a) = ap (λ z. Then (For z t u (dropped none a)) Nil) (dropped_none first) ∙ ap (λ z. Then (For first t u z) Nil) (dropped_none a)
+  dropped_none_of (For first t u a) = ap (λ z. Then (For z t u (dropped none a)) Nil) (dropped_none first) ∙
+      ap (λ z. Then (For first t u z) Nil) (dropped_none a)
   dropped_none_of (Switch s c) = ap (λ z. Then (Switch s z) Nil) (dropped_none_in c)
   dropped_none_of (Block a) = ap (λ z. Then (Block z) Nil) (dropped_none a)
   dropped_none_of (Arm l None) = refl
@@ -50,7 +51,8 @@ mutual
 
   dropped_none_in : (c : Sections) → dropped_sections none c ≡ c
   dropped_none_in NoSection = refl
-  dropped_none_in (Section cases default a ends c) = ap (λ z. Section cases default z ends (dropped_sections none c)) (dropped_none a) ∙ ap (λ z. Section cases default a ends z) (dropped_none_in c)
+  dropped_none_in (Section cases default a ends c) = ap (λ z. Section cases default z ends (dropped_sections none c)) (dropped_none a) ∙
+      ap (λ z. Section cases default a ends z) (dropped_none_in c)
 
 test_unread : (t : TestTree) → TestLabels (Stays none) t
 test_unread (Source e) = tt
@@ -196,7 +198,8 @@ module _ (d : ℕ → Bool) where
 
 module _ (f : Function) (a b : List Item) (e : f.body ≡ Some a) (g : DropsGuard a b) where
   body_kept : (P : Tree → Type 0) → Becomes (eqb g.label) P P → Everywhere P (body_of f) → Everywhere P (trees_of b)
-  body_kept P k h = subst (Everywhere P) (sym g.removed) (becomes (eqb g.label) P P k (trees_of a) (subst (λ o. Everywhere P (option_map_or trees_of o Nil)) e h))
+  body_kept P k h = subst (Everywhere P) (sym g.removed) (becomes (eqb g.label) P P k (trees_of a)
+      (subst (λ o. Everywhere P (option_map_or trees_of o Nil)) e h))
 
   range_kept : IsInRange f → IsInRange (with_body f b)
   range_kept h = record {
@@ -209,7 +212,8 @@ module _ (f : Function) (a b : List Item) (e : f.body ≡ Some a) (g : DropsGuar
   made_kept : IsMadeWell f → IsMadeWell (with_body f b)
   made_kept h = record {
     converted = λ c. subst IsWellMade (sym g.removed) (well_dropped (eqb g.label) (trees_of a) g.made g.unread);
-    other = λ n. body_kept IsUnarmed (unarmed_become (eqb g.label)) (h.other (λ c. n (record { flat = c.flat; unjumping = body_kept IsUnjumping (unjumping_become (eqb g.label)) c.unjumping })));
+    other = λ n. body_kept IsUnarmed (unarmed_become (eqb g.label))
+        (h.other (λ c. n (record { flat = c.flat; unjumping = body_kept IsUnjumping (unjumping_become (eqb g.label)) c.unjumping })));
   }
 
 -- ---- the program
@@ -218,7 +222,8 @@ pub guard_dropped : (p q : Program) → OneBodyChanged DropsGuard p.tops q.tops 
 guard_dropped p q r s =
     let loses = λ (m : List ℕ). named Loses loses_nothing loses_guard m r in
     let made = all_kept IsTopMadeWell made_kept p.tops q.tops r s.made in
-    let t = dropped_steady (λ m. (loses m).labels) (code_of p) (code_of q) (λ m. (loses m).dropped_so) (λ m. (loses m).unread) (λ m. globals_same m r) (cells_same r) (placed (code_of p) (made_bodies p s.made)) (placed (code_of q) (made_bodies q made)) s.states in
+    let t = dropped_steady (λ m. (loses m).labels) (code_of p) (code_of q) (λ m. (loses m).dropped_so) (λ m. (loses m).unread) (λ m. globals_same m r)
+    (cells_same r) (placed (code_of p) (made_bodies p s.made)) (placed (code_of q) (made_bodies q made)) s.states in
     (record { ranged = all_kept IsTopInRange range_kept p.tops q.tops r s.ranged; made = made; states = t.0 }, record { codes = t.1 })
 
 pub unread_laws : UnreadLaws

@@ -111,12 +111,14 @@ module _ (f : Function) (a b : List Item) (e : f.body ≡ Some a) (m : MovesWell
 
 -- ---- the program
 
-pub tops_kept : {R : List Item → List Item → Type 0} (P : Top → Type 0) → ((f : Function) (a b : List Item) → f.body ≡ Some a → R a b → P (T.Function f) → P (T.Function (with_body f b)))
+pub tops_kept : {R : List Item → List Item → Type 0} (P : Top → Type 0) →
+    ((f : Function) (a b : List Item) → f.body ≡ Some a → R a b → P (T.Function f) → P (T.Function (with_body f b)))
     → {ts us : List Top} → OneBodyChanged R ts us → AllByRecursion P ts → AllByRecursion P us
 tops_kept P k (this_function f a b ts e r) h = (k f a b e r h.0, h.1)
 tops_kept P k (later_function t r) h = (h.0, tops_kept P k r h.1)
 
-pub all_kept : {R : List Item → List Item → Type 0} (P : Top → Type 0) → ((f : Function) (a b : List Item) → f.body ≡ Some a → R a b → P (T.Function f) → P (T.Function (with_body f b)))
+pub all_kept : {R : List Item → List Item → Type 0} (P : Top → Type 0) →
+    ((f : Function) (a b : List Item) → f.body ≡ Some a → R a b → P (T.Function f) → P (T.Function (with_body f b)))
     → (ts us : List Top) → OneBodyChanged R ts us → All P ts → All P us
 all_kept P k ts us r h = All-from_recursion P us (tops_kept P k r (recursion_from_All P ts h))
 
@@ -127,7 +129,8 @@ pub program_made : (p q : Program) → OneBodyChanged MovesWell p.tops q.tops �
 program_made p q r h = all_kept IsTopMadeWell made_kept p.tops q.tops r h
 
 -- one relation of two bodies for another
-pub change_map : {R S : List Item → List Item → Type 0} → ((a b : List Item) → R a b → S a b) → {ts us : List Top} → OneBodyChanged R ts us → OneBodyChanged S ts us
+pub change_map : {R S : List Item → List Item → Type 0} → ((a b : List Item) → R a b → S a b) → {ts us : List Top} → OneBodyChanged R ts us →
+    OneBodyChanged S ts us
 change_map k (this_function f a b ts e r) = this_function f a b ts e (k a b r)
 change_map k (later_function t r) = later_function t (change_map k r)
 

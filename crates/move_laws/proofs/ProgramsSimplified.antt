@@ -30,7 +30,8 @@ well_simplified : (xs ys : Forest) → Changed Simplified xs ys → IsWellMade x
 well_simplified xs ys c w = record {
   converted = simplified_kept IsConverted converted_stable c w.converted;
   landed =
-      everywhere_map (GuardLabels (λ l. lands l xs ≡ 1)) (GuardLabels (λ l. lands l ys ≡ 1)) (item_labels (λ l. lands l xs ≡ 1) (λ l. lands l ys ≡ 1) (λ l h. sym (changed_total (land_of l) (counts_lands l) c) ∙ h)) ys
+      everywhere_map (GuardLabels (λ l. lands l xs ≡ 1)) (GuardLabels (λ l. lands l ys ≡ 1))
+      (item_labels (λ l. lands l xs ≡ 1) (λ l. lands l ys ≡ 1) (λ l h. sym (changed_total (land_of l) (counts_lands l) c) ∙ h)) ys
       (simplified_kept (GuardLabels (λ l. lands l xs ≡ 1)) (labels_stable (λ l. lands l xs ≡ 1)) c w.landed);
   selectors = simplified_kept HasSelectorKind kinds_stable c w.selectors;
   entries = simplified_kept HasEntries entries_stable c w.entries;
@@ -59,7 +60,8 @@ module _ (f : Function) (a b : List Item) (e : f.body ≡ Some a) (m : Simplifie
   made_kept : IsMadeWell f → IsMadeWell (with_body f b)
   made_kept h = record {
     converted = λ c. well_simplified (trees_of a) (trees_of b) m.simplified m.made;
-    other = λ n. body_kept IsUnarmed unarmed_stable (h.other (λ c. n (record { flat = c.flat; unjumping = body_kept IsUnjumping unjumping_stable c.unjumping })));
+    other = λ n. body_kept IsUnarmed unarmed_stable
+        (h.other (λ c. n (record { flat = c.flat; unjumping = body_kept IsUnjumping unjumping_stable c.unjumping })));
   }
 
 -- ---- the program
@@ -69,7 +71,8 @@ cores_simplified a b m = (changed_better (trees_of a) (trees_of b) m.simplified)
 
 pub steady_simplified : (p q : Program) → OneBodyChanged SimplifiesWell p.tops q.tops → IsSteady p → IsSteady q × BehaveTheSame p q
 steady_simplified p q r s =
-    same_cores p q (all_kept IsTopInRange range_kept p.tops q.tops r s.ranged) (all_kept IsTopMadeWell made_kept p.tops q.tops r s.made) (code_le p q (change_map cores_simplified r)) s
+    same_cores p q (all_kept IsTopInRange range_kept p.tops q.tops r s.ranged) (all_kept IsTopMadeWell made_kept p.tops q.tops r s.made)
+    (code_le p q (change_map cores_simplified r)) s
 
 pub simplification_laws : SimplificationLaws
 simplification_laws = record { better = changed_better; made = well_simplified; steady = steady_simplified }

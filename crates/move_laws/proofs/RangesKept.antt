@@ -47,12 +47,15 @@ module _ (P : ExpressionTree → Type 0) where
 
 slots_all : (P : ℕ → Type 0) (c : Sections) → CaseSlots P c → AllByRecursion (ExpressionSlots P) (all_cases c)
 slots_all P NoSection h = tt
-slots_all P (Section cases default a ends c) h = every_join (ExpressionSlots P) cases (all_cases c) (recursion_from_All (ExpressionSlots P) cases h.0) (slots_all P c h.1)
+slots_all P (Section cases default a ends c) h = every_join (ExpressionSlots P) cases (all_cases c) (recursion_from_All (ExpressionSlots P) cases h.0)
+    (slots_all P c h.1)
 
 all_slots : (P : ℕ → Type 0) (c : Sections) → AllByRecursion (ExpressionSlots P) (all_cases c) → CaseSlots P c
 all_slots P NoSection h = tt
-all_slots P (Section cases default a ends c) h =
-    (All-from_recursion (ExpressionSlots P) cases (every_front (ExpressionSlots P) cases (all_cases c) h), all_slots P c (every_back (ExpressionSlots P) cases (all_cases c) h))
+all_slots P (Section cases default a ends c) h = (
+  All-from_recursion (ExpressionSlots P) cases (every_front (ExpressionSlots P) cases (all_cases c) h),
+  all_slots P c (every_back (ExpressionSlots P) cases (all_cases c) h),
+)
 
 pub item_slots_kept : (P : ℕ → Type 0) → IsKept (ItemSlots P)
 item_slots_kept P = record {

@@ -64,7 +64,8 @@ AreAlike t u = (g : Guards) → peel g t ≡ peel g u
 pub other_if : (t u : TestTree) (a b : Forest) → AreAlike t u → Better (one (If t a b)) (one (If u a b))
 other_if t u a b e =
     better_one (If t a b) (If u a b) refl refl (λ l. way_same (ap (λ p. on_peeled p Lost (walks l a) (walks l b)) (e (only l))))
-    (λ w w' h. subst (λ p. LeAll (core_of (If t a b) w) (core_if p (core a w') (core b w'))) (e no_guards) (core_if_le (peel no_guards t) (core_le a w w' h) (core_le b w w' h)))
+    (λ w w' h. subst (λ p. LeAll (core_of (If t a b) w) (core_if p (core a w') (core b w'))) (e no_guards)
+    (core_if_le (peel no_guards t) (core_le a w w' h) (core_le b w w' h)))
 
 pub other_while : (t u : TestTree) (a : Forest) → AreAlike t u → Better (one (While t a)) (one (While u a))
 other_while t u a e =
@@ -78,7 +79,8 @@ other_do t u a e =
     let way = λ (l : ℕ). ap (λ p. on_peeled p Lost (walks l a ▷ Lost) Past) (e (only l)) in
     better_one (Do a t) (Do a u) refl refl (λ l. way_on (walks l a) _ _ (way_same (way l)))
     (λ w w' h. subst (λ p. LeAll (core_of (Do a t) w) (core_do p (breaks a + continues a) (core a (after_do a u w')))) (e no_guards)
-    (core_do_le (peel no_guards t) (breaks a + continues a) (breaks a + continues a) refl (core_le a (after_do a t w) (after_do a u w') (λ l. way_then _ _ _ _ (way_same (way l)) (h l)))))
+    (core_do_le (peel no_guards t) (breaks a + continues a) (breaks a + continues a) refl
+    (core_le a (after_do a t w) (after_do a u w') (λ l. way_then _ _ _ _ (way_same (way l)) (h l)))))
 
 -- selectors with one source, that all guards decide alike
 pub record AreAlikeSelectors (s u : SelectorTree) : Type 0 where
@@ -88,12 +90,16 @@ pub record AreAlikeSelectors (s u : SelectorTree) : Type 0 where
 pub other_switch : (s u : SelectorTree) (c : Sections) → AreAlikeSelectors s u → Better (one (Switch s c)) (one (Switch u c))
 other_switch s u c e =
     better_one (Switch s c) (Switch u c) refl refl
-    (λ l. way_same (ap (λ p. on_selector p Lost (λ n. first_of_three (section_way l (ToCase (switch_kind s) n) c) (section_way l ToDefault c) Past)) (e.peeled (only l)) ∙ kind l))
-    (λ w w' h. subst (λ x. LeAll (core_of (Switch s c) w) (one (Switch (Selects x) (core_sections c w')))) e.source (one_le (le_switch _ (sections_le c w w' h))))
+    (λ l. way_same (ap (λ p. on_selector p Lost (λ n. first_of_three (section_way l (ToCase (switch_kind s) n) c) (section_way l ToDefault c) Past))
+    (e.peeled (only l)) ∙ kind l))
+    (λ w w' h. subst (λ x. LeAll (core_of (Switch s c) w) (one (Switch (Selects x) (core_sections c w')))) e.source
+    (one_le (le_switch _ (sections_le c w w' h))))
   where
-    kind : (l : ℕ) → on_selector (peel_selector (only l) u) Lost (λ n. first_of_three (section_way l (ToCase (switch_kind s) n) c) (section_way l ToDefault c) Past) ≡ walk l (Switch u c)
+    kind : (l : ℕ) → on_selector (peel_selector (only l) u) Lost
+        (λ n. first_of_three (section_way l (ToCase (switch_kind s) n) c) (section_way l ToDefault c) Past) ≡ walk l (Switch u c)
     kind l =
-        ap (λ x. on_selector (peel_selector (only l) u) Lost (λ n. first_of_three (section_way l (ToCase (promoted (operand_kind (kind_of x))) n) c) (section_way l ToDefault c) Past)) e.source
+        ap (λ x. on_selector (peel_selector (only l) u) Lost
+        (λ n. first_of_three (section_way l (ToCase (promoted (operand_kind (kind_of x))) n) c) (section_way l ToDefault c) Past)) e.source
 
 -- ---- wrappers of tests and of selectors
 
@@ -132,7 +138,8 @@ unless_picked : (b : Bool) (p q r : PeeledSelector) → (b ≡ false → q ≡ r
 unless_picked true p q r e = refl
 unless_picked false p q r e = e refl
 
-pub alike_inside_pick : (m : ℕ) (n : ℤ) (s u : SelectorTree) → selector_source s ≡ selector_source u → ((g : Guards) → g m ≡ false → peel_selector g s ≡ peel_selector g u) → AreAlikeSelectors (Pick m n s) (Pick m n u)
+pub alike_inside_pick : (m : ℕ) (n : ℤ) (s u : SelectorTree) → selector_source s ≡ selector_source u →
+    ((g : Guards) → g m ≡ false → peel_selector g s ≡ peel_selector g u) → AreAlikeSelectors (Pick m n s) (Pick m n u)
 alike_inside_pick m n s u e f = record { source = e; peeled = λ g. unless_picked (g m) (KnownSelector n) (peel_selector g s) (peel_selector g u) (f g) }
 
 pub pick_inside : (m : ℕ) (n : ℤ) (s : SelectorTree) (g : Guards) → g m ≡ false → peel_selector g (Pick m n s) ≡ peel_selector g s
@@ -140,21 +147,26 @@ pick_inside m n s g e = ap (λ b. cond b (KnownSelector n) (peel_selector g s)) 
 
 -- ---- two made `if`s of one guard, where the first has no Arm of it
 
-pub neighbours : (m : ℕ) (a b : Forest) → Everywhere (ArmsAmong (λ l. eqb l m ≡ false)) a → Better (Then (If (Off m) a Nil) (one (If (Off m) b Nil))) (one (If (Off m) (join a b) Nil))
+pub neighbours : (m : ℕ) (a b : Forest) → Everywhere (ArmsAmong (λ l. eqb l m ≡ false)) a →
+    Better (Then (If (Off m) a Nil) (one (If (Off m) b Nil))) (one (If (Off m) (join a b) Nil))
 neighbours m a b z = record {
   stops = let i = breaks-join a b in omega arith;
   goes = let i = continues-join a b in omega arith;
   ways = λ l. way_same (way l (eqb l m) refl);
-  cores = λ w w' h. subst (LeAll (join (core a (before (one (If (Off m) b Nil)) w)) (join (core b w) Nil))) (sym (join-nil (core (join a b) w') ∙ core-join a b w'))
+  cores = λ w w' h. subst (LeAll (join (core a (before (one (If (Off m) b Nil)) w)) (join (core b w) Nil)))
+      (sym (join-nil (core (join a b) w') ∙ core-join a b w'))
       (join_le (core_among (λ l. eqb l m ≡ false) a z (before (one (If (Off m) b Nil)) w) (before b w') (λ l n. after l w w' (h l) n))
       (subst (λ x. LeAll x (core b w')) (sym (join-nil (core b w))) (core_le b w w' h)));
 }
   where
-    after : (l : ℕ) (w w' : Follow) → LeWay (w l) (w' l) → eqb l m ≡ false → LeWay ((on_peeled (Known (not (eqb l m))) Lost (walks l b) Past ▷ Past) ▷ w l) (walks l b ▷ w' l)
-    after l w w' h e = subst (λ y. LeWay (y ▷ w l) (walks l b ▷ w' l)) (sym (ap (λ c. on_peeled (Known (not c)) Lost (walks l b) Past ▷ Past) e ∙ way_past (walks l b))) (way_on (walks l b) _ _ h)
+    after : (l : ℕ) (w w' : Follow) → LeWay (w l) (w' l) → eqb l m ≡ false →
+        LeWay ((on_peeled (Known (not (eqb l m))) Lost (walks l b) Past ▷ Past) ▷ w l) (walks l b ▷ w' l)
+    after l w w' h e = subst (λ y. LeWay (y ▷ w l) (walks l b ▷ w' l))
+        (sym (ap (λ c. on_peeled (Known (not c)) Lost (walks l b) Past ▷ Past) e ∙ way_past (walks l b))) (way_on (walks l b) _ _ h)
 
     way : (l : ℕ) (c : Bool) → eqb l m ≡ c
-        → on_peeled (Known (not (eqb l m))) Lost (walks l a) Past ▷ (on_peeled (Known (not (eqb l m))) Lost (walks l b) Past ▷ Past) ≡ on_peeled (Known (not (eqb l m))) Lost (walks l (join a b)) Past ▷ Past
+        → on_peeled (Known (not (eqb l m))) Lost (walks l a) Past ▷ (on_peeled (Known (not (eqb l m))) Lost (walks l b) Past ▷ Past) ≡ on_peeled
+        (Known (not (eqb l m))) Lost (walks l (join a b)) Past ▷ Past
     way l true e =
         ap (λ c. on_peeled (Known (not c)) Lost (walks l a) Past ▷ (on_peeled (Known (not c)) Lost (walks l b) Past ▷ Past)) e
         ∙ sym (ap (λ c. on_peeled (Known (not c)) Lost (walks l (join a b)) Past ▷ Past) e)
@@ -203,6 +215,8 @@ nested_core (Known false) q r a z h = absurd (true≢false (sym (known_same fals
 
 pub one_if : (t u r : TestTree) (a : Forest) → peel no_guards t ≡ Known true → AreNested t u r → Better (one (If t (one (If u a Nil)) Nil)) (one (If r a Nil))
 one_if t u r a z h =
-    better_one (If t (one (If u a Nil)) Nil) (If r a Nil) (omega arith) (omega arith) (λ l. nested_way (peel (only l) t) (peel (only l) u) (peel (only l) r) (walks l a) (h (only l)))
-    (λ w w' k. subst (λ x. LeAll x (core_of (If r a Nil) w')) (sym (nested_core (peel no_guards t) (peel no_guards u) (peel no_guards r) (core a w) z (h no_guards)))
+    better_one (If t (one (If u a Nil)) Nil) (If r a Nil) (omega arith) (omega arith)
+    (λ l. nested_way (peel (only l) t) (peel (only l) u) (peel (only l) r) (walks l a) (h (only l)))
+    (λ w w' k. subst (λ x. LeAll x (core_of (If r a Nil) w'))
+    (sym (nested_core (peel no_guards t) (peel no_guards u) (peel no_guards r) (core a w) z (h no_guards)))
     (core_if_le (peel no_guards r) (core_le a w w' k) le_nil))

@@ -13,7 +13,8 @@ pub moved_steady : (p q : Program) → OneBodyChanged MovesWell p.tops q.tops �
 moved_steady p q r s = core_laws.of_programs p q (program_in_range p q r s.ranged) (program_made p q r s.made) (program_core p q r) s
 
 exchanged : {old new : List Item} {ts us : List Top} → MovesWell old new → OneBodyChanged (IsExchange old new) ts us → OneBodyChanged MovesWell ts us
-exchanged {old} {new} w (this_function f a b ts e h) = this_function f a b ts e (subst (λ x. MovesWell x b) (sym h.0) (subst (λ y. MovesWell old y) (sym h.1) w))
+exchanged {old} {new} w (this_function f a b ts e h) = this_function f a b ts e
+    (subst (λ x. MovesWell x b) (sym h.0) (subst (λ y. MovesWell old y) (sym h.1) w))
 exchanged w (later_function t r) = later_function t (exchanged w r)
 
 pub moved_keeps : (old new : List Item) → MovesWell old new → KeepsBehaviour old new

@@ -45,7 +45,8 @@ module _ (m : ℕ) where
 
   no_way : (l : ℕ) (goal : Goal) (c : Sections) → NoneHas goal c → section_way l goal c ≡ None
   no_way l goal NoSection h = refl
-  no_way l goal (Section cases default a ends c) h = ap (λ b. cond b (Some (walks l a ▷ end_way ends (tail_way l c))) (section_way l goal c)) h.0 ∙ no_way l goal c h.1
+  no_way l goal (Section cases default a ends c) h = ap (λ b. cond b (Some (walks l a ▷ end_way ends (tail_way l c))) (section_way l goal c)) h.0 ∙
+      no_way l goal c h.1
 
   none_entered : {k : ℕ} {c d : Sections} → SectionsEntered m k c d → (goal : Goal) → NoneHas goal c → NoneHas goal d
   none_entered (entered_here cases default ends a c z) goal h = h
@@ -66,18 +67,22 @@ module _ (m : ℕ) where
 
   cores_le : {k : ℕ} {c d : Sections} → SectionsEntered m k c d → (w w' : Follow) → LeFollow w w' → LeSections (core_sections c w) (core_sections d w')
   cores_le (entered_here cases default ends a c z) w w' h =
-      le_section cases default ends (core_le a (after_section ends c w) (after_section ends c w') (λ l. way_then _ _ _ _ (way_refl _) (h l))) (sections_le c w w' h)
+      le_section cases default ends (core_le a (after_section ends c w) (after_section ends c w') (λ l. way_then _ _ _ _ (way_refl _) (h l)))
+      (sections_le c w w' h)
   cores_le (entered_later cases default ends a {c = c} {d = d} r) w w' h =
-      le_section cases default ends (core_le a (after_section ends c w) (after_section ends d w') (λ l. way_then _ _ _ _ (way_end ends _ _ (tail_le r l)) (h l))) (cores_le r w w' h)
+      le_section cases default ends (core_le a (after_section ends c w) (after_section ends d w')
+      (λ l. way_then _ _ _ _ (way_end ends _ _ (tail_le r l)) (h l))) (cores_le r w w' h)
 
   -- ---- the switch
 
   -- its way, by whether the guard is that of m
   abbrev switch_way : SelectorTree → ℤ → Sections → ℕ → Bool → Way
   switch_way s n d l c =
-      on_selector (cond c (KnownSelector n) (peel_selector (only l) s)) Lost (λ i. first_of_three (section_way l (ToCase (switch_kind s) i) d) (section_way l ToDefault d) Past)
+      on_selector (cond c (KnownSelector n) (peel_selector (only l) s)) Lost
+      (λ i. first_of_three (section_way l (ToCase (switch_kind s) i) d) (section_way l ToDefault d) Past)
 
-  entered_switch : (s : SelectorTree) (k : ℕ) (n : ℤ) {c d : Sections} → SectionsEntered m k c d → IsChosen (switch_kind s) n k c → Entered m (Switch s c) (Switch (Pick m n s) d)
+  entered_switch : (s : SelectorTree) (k : ℕ) (n : ℤ) {c d : Sections} → SectionsEntered m k c d → IsChosen (switch_kind s) n k c →
+      Entered m (Switch s c) (Switch (Pick m n s) d)
   entered_switch s k n {c = c} {d = d} r h = record {
     stops = refl;
     goes = sym (continues-entered m k r);
@@ -86,7 +91,8 @@ module _ (m : ℕ) where
     cores = λ w w' f. one_le (le_switch _ (cores_le r w w' f));
   }
     where
-      same : (l : ℕ) (i : ℤ) → eqb l m ≡ false → first_of_three (section_way l (ToCase (switch_kind s) i) c) (section_way l ToDefault c) Past ≡ first_of_three (section_way l (ToCase (switch_kind s) i) d) (section_way l ToDefault d) Past
+      same : (l : ℕ) (i : ℤ) → eqb l m ≡ false → first_of_three (section_way l (ToCase (switch_kind s) i) c) (section_way l ToDefault c)
+          Past ≡ first_of_three (section_way l (ToCase (switch_kind s) i) d) (section_way l ToDefault d) Past
       same l i e =
           ap (λ o. first_of_three o (section_way l ToDefault c) Past) (section_other r l (ToCase (switch_kind s) i) e)
           ∙ ap (λ o. first_of_three (section_way l (ToCase (switch_kind s) i) d) o Past) (section_other r l ToDefault e)

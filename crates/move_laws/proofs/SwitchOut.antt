@@ -35,7 +35,8 @@ with_here : (z : Way) (b : Bool) (x y : Way) (o p : Option Way) → LeWay x (y �
 with_here z true x y o p h k = h
 with_here z false x y o p h k = k
 
-with_first : (z : Way) (o p o' p' : Option Way) → LeWith z o o' → LeWith z p p' → LeWay Past (Past ▷ z) → LeWay (first_of_three o p Past) (first_of_three o' p' Past ▷ z)
+with_first : (z : Way) (o p o' p' : Option Way) → LeWith z o o' → LeWith z p p' → LeWay Past (Past ▷ z) →
+    LeWay (first_of_three o p Past) (first_of_three o' p' Past ▷ z)
 with_first z (Some x) p (Some y) p' h k n = h
 with_first z (Some x) p None p' h k n = absurd h
 with_first z None p (Some y) p' h k n = absurd h
@@ -67,7 +68,8 @@ module _ (m : ℕ) where
       way false e = way_then _ _ _ _ (subst (LeWay x) (ap (λ z. y ▷ z) (leap_off l m e) ∙ way_past y) h) (b.better l)
 
   -- one way and then another, where at m the second leads past
-  with_then : (l : ℕ) (x x' y y' : Way) → LeWay x (x' ▷ leap_way l m) → LeWay y (y' ▷ leap_way l m) → (eqb l m ≡ true → y' ≡ Past) → LeWay (x ▷ y) ((x' ▷ y') ▷ leap_way l m)
+  with_then : (l : ℕ) (x x' y y' : Way) → LeWay x (x' ▷ leap_way l m) → LeWay y (y' ▷ leap_way l m) → (eqb l m ≡ true → y' ≡ Past) →
+      LeWay (x ▷ y) ((x' ▷ y') ▷ leap_way l m)
   with_then l x x' y y' h k p = way (eqb l m) refl
     where
       way : (c : Bool) → eqb l m ≡ c → LeWay (x ▷ y) ((x' ▷ y') ▷ leap_way l m)
@@ -76,7 +78,8 @@ module _ (m : ℕ) where
           (there_sooner x x' y (subst (λ z. LeWay x (x' ▷ z)) (leap_at l m e) h))
       way false e =
           subst (LeWay (x ▷ y)) (sym (ap (λ z. (x' ▷ y') ▷ z) (leap_off l m e) ∙ way_past (x' ▷ y')))
-          (way_then _ _ _ _ (subst (LeWay x) (ap (λ z. x' ▷ z) (leap_off l m e) ∙ way_past x') h) (subst (LeWay y) (ap (λ z. y' ▷ z) (leap_off l m e) ∙ way_past y') k))
+          (way_then _ _ _ _ (subst (LeWay x) (ap (λ z. x' ▷ z) (leap_off l m e) ∙ way_past x') h)
+          (subst (LeWay y) (ap (λ z. y' ▷ z) (leap_off l m e) ∙ way_past y') k))
 
   with_end : (ends : Bool) (l : ℕ) (x y : Way) → LeWay x (y ▷ leap_way l m) → LeWay (end_way ends x) (end_way ends y ▷ leap_way l m)
   with_end true l x y h = way_more l m Past
@@ -100,8 +103,10 @@ module _ (m : ℕ) where
 
   -- a section, whose list may change
   module _ (cases : List ExpressionTree) (default ends : Bool) (a a' : Forest) (c c' : Sections) (o : LeftSections c c') where
-    section_left : continues a ≡ continues a' → ((l : ℕ) → LeWay (walks l a ▷ end_way ends (tail_way l c)) ((walks l a' ▷ end_way ends (tail_way l c')) ▷ leap_way l m))
-        → ((w w' : Follow) → Behind m w w' → LeAll (core a (after_section ends c w)) (core a' (after_section ends c' w'))) → LeftSections (Section cases default a ends c) (Section cases default a' ends c')
+    section_left : continues a ≡ continues a' → ((l : ℕ) → LeWay (walks l a ▷ end_way ends (tail_way l c))
+        ((walks l a' ▷ end_way ends (tail_way l c')) ▷ leap_way l m))
+        → ((w w' : Follow) → Behind m w w' → LeAll (core a (after_section ends c w)) (core a' (after_section ends c' w'))) →
+        LeftSections (Section cases default a ends c) (Section cases default a' ends c')
     section_left g way cores = record {
       goes = let x = o.goes in omega arith;
       tails = way;
@@ -113,7 +118,8 @@ module _ (m : ℕ) where
     follow_left w w' b l = with_follow w w' b l _ _ (with_end ends l _ _ (o.tails l))
 
   -- its list is as it was
-  next_left : (cases : List ExpressionTree) (default ends : Bool) (a : Forest) (c c' : Sections) → LeftSections c c' → LeftSections (Section cases default a ends c) (Section cases default a ends c')
+  next_left : (cases : List ExpressionTree) (default ends : Bool) (a : Forest) (c c' : Sections) → LeftSections c c' →
+      LeftSections (Section cases default a ends c) (Section cases default a ends c')
   next_left cases default ends a c c' o =
       section_left cases default ends a a c c' o refl
       (λ l. subst (LeWay (walks l a ▷ end_way ends (tail_way l c))) (sym (way_assoc (walks l a) (end_way ends (tail_way l c')) (leap_way l m)))
@@ -121,7 +127,8 @@ module _ (m : ℕ) where
       (λ w w' b. core_le a (after_section ends c w) (after_section ends c' w') (follow_left cases default ends a a c c' o w w' b))
 
   -- it is under the guard now
-  guarded_left : (cases : List ExpressionTree) (default ends : Bool) (a : Forest) (c c' : Sections) → LeftSections c c' → ((l : ℕ) → eqb l m ≡ true → end_way ends (tail_way l c') ≡ Past)
+  guarded_left : (cases : List ExpressionTree) (default ends : Bool) (a : Forest) (c c' : Sections) → LeftSections c c' →
+      ((l : ℕ) → eqb l m ≡ true → end_way ends (tail_way l c') ≡ Past)
       → LeftSections (Section cases default a ends c) (Section cases default (guarded m a) ends c')
   guarded_left cases default ends a c c' o p =
       section_left cases default ends a (guarded m a) c c' o (sym (continues-guarded m a))

@@ -48,7 +48,8 @@ abbrev into : Tree → Forest
 into x = Then x (Then statement (one_of (Switch (Selects (number 5)) (selected (Then (Mark 1) (one_of statement))))))
 
 abbrev entered : ℤ → Forest
-entered n = Then (Arm 1 None) (Then (If (Off 1) (one_of statement) Nil) (one_of (Switch (Pick 1 n (Selects (number 5))) (selected (Then (Leap 1) (Then (Land 1) (one_of statement)))))))
+entered n = Then (Arm 1 None) (Then (If (Off 1) (one_of statement) Nil)
+    (one_of (Switch (Pick 1 n (Selects (number 5))) (selected (Then (Leap 1) (Then (Land 1) (one_of statement)))))))
 
 chosen : body_core (entered (pos 1)) ≡ into (Goto 1)
 unfolding converted

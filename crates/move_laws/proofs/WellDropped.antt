@@ -154,7 +154,8 @@ module _ (d : ℕ → Bool) where
     whiles = λ t a h. tt;
     dos = λ t a h. tt;
     fors = λ first t u a h. tt;
-    switches = λ s c h. some_map (selector_kind s) (λ k. AreCases k c) (λ k. AreCases k (dropped_sections d c)) (λ k z. alike_cases k c (dropped_sections d c) (sym (cases_drop d c)) z) h;
+    switches = λ s c h. some_map (selector_kind s) (λ k. AreCases k c) (λ k. AreCases k (dropped_sections d c))
+        (λ k z. alike_cases k c (dropped_sections d c) (sym (cases_drop d c)) z) h;
     blocks = λ a h. tt;
     others = λ x o h. h;
   }
@@ -195,7 +196,9 @@ module _ (d : ℕ → Bool) where
     ifs = λ t a b h. tt;
     whiles = λ t a h z. unbound a h (fewer a z);
     dos = λ t a h z. unbound a h (fewer a z);
-    fors = λ first t u a h z. let p = drop_less d jump_of (counts_jumps d) first in let q = drop_less d jump_of (counts_jumps d) a in let r = drop_breaks d a in let s = drop_continues d a in let e = h (omega (arith, z, p, q)) in omega (arith, r, s, e);
+    fors = λ first t u a h z. let p = drop_less d jump_of (counts_jumps d) first in let q = drop_less d jump_of (counts_jumps d) a in let r =
+        drop_breaks d a in
+        let s = drop_continues d a in let e = h (omega (arith, z, p, q)) in omega (arith, r, s, e);
     switches = λ s c h z. let p = drop_less_in d jump_of (counts_jumps d) c in drop_breaks_in d c ∙ h (omega (arith, z, p));
     blocks = λ a h. tt;
     others = λ x o h. h;

@@ -18,7 +18,8 @@ with_body f a = record f { body = Some a }
 
 -- R holds of the body of one function and of its body in the second program; all else is equal
 pub data OneBodyChanged (R : List Item → List Item → Type 0) : List Top → List Top → Type 0 where
-  this_function : (f : Function) (a b : List Item) (ts : List Top) → f.body ≡ Some a → R a b → OneBodyChanged R (T.Function f ∷ ts) (T.Function (with_body f b) ∷ ts)
+  this_function : (f : Function) (a b : List Item) (ts : List Top) → f.body ≡ Some a → R a b →
+      OneBodyChanged R (T.Function f ∷ ts) (T.Function (with_body f b) ∷ ts)
   later_function : (t : Top) {ts us : List Top} → OneBodyChanged R ts us → OneBodyChanged R (t ∷ ts) (t ∷ us)
 
 -- one of the four rules makes the second body of the first, which is well made

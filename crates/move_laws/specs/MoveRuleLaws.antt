@@ -41,7 +41,8 @@ pub record MoveLaws : Type 0 where
   pub joins : (l i j : ℕ) (steps : List Step) (old new : List Item) → Joins l i j steps old new → MakesBetter old new
   pub lifts : (l i j : ℕ) (steps : List Step) (old new : List Item) (to : Path) → Lifts l i j steps old new to → MakesBetter old new
   pub moves_out : (l : ℕ) (outer : List Step) (last : Step) (i : ℕ) (old new : List Item) (to : Path) → MovesOut l outer last i old new to → MakesBetter old new
-  pub moves_in : (l : ℕ) (n : ℤ) (i j : ℕ) (b : Branch) (steps : List Step) (old new : List Item) (to : Path) → MovesIn l n i j b steps old new to → MakesBetter old new
+  pub moves_in : (l : ℕ) (n : ℤ) (i j : ℕ) (b : Branch) (steps : List Step) (old new : List Item) (to : Path) → MovesIn l n i j b steps old new to →
+      MakesBetter old new
 
 -- a rule in one body of a program
 pub record ProgramLaws : Type 0 where
@@ -63,4 +64,5 @@ pub record BehaviourLaws : Type 0 where
   pub joins : (l i j : ℕ) (steps : List Step) (old new : List Item) → Joins l i j steps old new → Keeps old new
   pub lifts : (l i j : ℕ) (steps : List Step) (old new : List Item) (to : Path) → Lifts l i j steps old new to → Keeps old new
   pub moves_out : (l : ℕ) (outer : List Step) (last : Step) (i : ℕ) (old new : List Item) (to : Path) → MovesOut l outer last i old new to → Keeps old new
-  pub moves_in : (l : ℕ) (n : ℤ) (i j : ℕ) (b : Branch) (steps : List Step) (old new : List Item) (to : Path) → MovesIn l n i j b steps old new to → Keeps old new
+  pub moves_in : (l : ℕ) (n : ℤ) (i j : ℕ) (b : Branch) (steps : List Step) (old new : List Item) (to : Path) → MovesIn l n i j b steps old new to →
+      Keeps old new

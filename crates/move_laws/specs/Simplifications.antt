@@ -65,6 +65,7 @@ pub data Simplified : Forest → Forest → Type 0 where
   shorter_do : {t u : TestTree} (a : Forest) → ShorterTest t u → Simplified (one (Do a t)) (one (Do a u))
   shorter_switch : {s u : SelectorTree} (c : Sections) → ShorterSelector s u → Simplified (one (Switch s c)) (one (Switch u c))
   -- two neighbours under one guard become one, where the first has no Arm of it
-  neighbours : (m : ℕ) (a b : Forest) → Everywhere (ArmsOther m) a → Simplified (Then (If (Off m) a Nil) (one (If (Off m) b Nil))) (one (If (Off m) (join a b) Nil))
+  neighbours : (m : ℕ) (a b : Forest) → Everywhere (ArmsOther m) a → Simplified (Then (If (Off m) a Nil) (one (If (Off m) b Nil)))
+      (one (If (Off m) (join a b) Nil))
   -- a made `if` that is alone in one of `Off` and `AndOff` becomes one with it
   nested : (t u : TestTree) (a : Forest) → IsOff t → IsMade u → Simplified (one (If t (one (If u a Nil)) Nil)) (one (If (round t u) a Nil))

@@ -12,12 +12,20 @@ cut_front xs i j h = let e : i + (j - i) ≡ j = omega arith in ap (λ n. drop i
 
 -- a stretch that was turned behind what comes after it
 
-pub cut_behind : {X : Type 0} (xs ys mid : List X) (i j n : ℕ) → i ≤ j → j ≤ length xs → n ≡ length xs → ys ≡ take i xs ++ (drop (j - i) (drop i xs) ++ take (j - i) (drop i xs)) → mid ≡ drop (n - (j - i)) ys → mid ≡ slice_range xs i j
+pub cut_behind : {X : Type 0} (xs ys mid : List X) (i j n : ℕ) → i ≤ j → j ≤ length xs → n ≡ length xs →
+    ys ≡ take i xs ++ (drop (j - i) (drop i xs) ++ take (j - i) (drop i xs)) → mid ≡ drop (n - (j - i)) ys → mid ≡ slice_range xs i j
 cut_behind xs ys mid i j n h k l e f =
     let front = take i xs in
     let tail = drop (j - i) (drop i xs) in
     let part = take (j - i) (drop i xs) in
-    let m : length (front ++ tail) ≡ n - (j - i) = omega (arith, l, length-append front tail, length-take i xs, length-drop (j - i) (drop i xs), length-drop i xs) in
+    let m : length (front ++ tail) ≡ n - (j - i) = omega (
+      arith,
+      l,
+      length-append front tail,
+      length-take i xs,
+      length-drop (j - i) (drop i xs),
+      length-drop i xs,
+    ) in
     f ∙ ap (drop (n - (j - i))) (e ∙ sym (append_assoc front tail part)) ∙ drop_at (front ++ tail) part (n - (j - i)) m
 
 -- an item put into what is left of a list from which a stretch was cut
@@ -51,7 +59,8 @@ guarded-some : (l : ℕ) (xs : List Item) → 0 < length xs → guarded l xs ≡
 guarded-some l [] h = absurd (omega arith)
 guarded-some l (x ∷ xs) h = refl
 
-pub guarded-is : (l i j : ℕ) (xs ys mid nil : List Item) → i + 1 < j → j ≤ length xs → ys ≡ take (i + 1) xs ++ drop j xs → mid ≡ slice_range xs (i + 1) j → nil ≡ []
+pub guarded-is : (l i j : ℕ) (xs ys mid nil : List Item) → i + 1 < j → j ≤ length xs → ys ≡ take (i + 1) xs ++ drop j xs →
+    mid ≡ slice_range xs (i + 1) j → nil ≡ []
     → set ys i (If (Off l) mid nil) ≡ joined_after l i j xs
 guarded-is l i j xs ys mid nil h k e f g =
     let some : 0 < length (slice_range xs (i + 1) j) = omega (arith, length-take (j - (i + 1)) (drop (i + 1) xs), length-drop (i + 1) xs) in

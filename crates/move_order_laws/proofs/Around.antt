@@ -86,7 +86,8 @@ beside_more b n m c x h = layer_beside_more b n m c (out-Item x) h
 
 -- sections
 
-pub section_nesting-first : (c : Section) (cs : List Section) → nesting_in (sections_of (c ∷ cs)) ≡ max (nesting (trees_of (list_of c))) (nesting_in (sections_of cs))
+pub section_nesting-first : (c : Section) (cs : List Section) → nesting_in (sections_of (c ∷ cs)) ≡ max (nesting (trees_of (list_of c)))
+    (nesting_in (sections_of cs))
 section_nesting-first c cs = ap nesting_in (sections-more c cs) ∙ ap (λ (z : SectionTree). max (nesting z.list) (nesting_in (sections_of cs))) (section-parts c)
 
 pub later_in-more : (cs : List Section) → nesting_in (sections_of cs) ≤ later_in (sections_of cs)
@@ -104,7 +105,8 @@ nesting_in_some NoSection = omega arith
 nesting_in_some (SectionOf cases default a ends c) = let h = nesting_some a in omega (arith, h)
 
 nesting_in-cut : (cs : List Section) (k : ℕ) (c : Section) → slice_get cs k ≡ Some c
-    → nesting_in (sections_of cs) ≡ max (nesting_in (sections_of (take k cs))) (max (nesting (trees_of (list_of c))) (nesting_in (sections_of (drop (suc k) cs))))
+    → nesting_in (sections_of cs) ≡ max (nesting_in (sections_of (take k cs)))
+    (max (nesting (trees_of (list_of c))) (nesting_in (sections_of (drop (suc k) cs))))
 nesting_in-cut [] k c e = cc
 nesting_in-cut (x ∷ cs) zero c e =
     let h : x ≡ c = cc in
@@ -120,16 +122,20 @@ nesting_in-cut (x ∷ cs) (suc k) c e =
     omega (arith, h, a, b)
 
 nesting_in-split : (cs : List Section) (k : ℕ) (c : Section) → slice_get cs k ≡ Some c
-    → nesting_in (sections_of cs) ≡ max (nesting_in (sections_of (take k cs))) (max (nesting (trees_of (list_of c))) (nesting_in (sections_of (drop (k + 1) cs))))
+    → nesting_in (sections_of cs) ≡ max (nesting_in (sections_of (take k cs)))
+    (max (nesting (trees_of (list_of c))) (nesting_in (sections_of (drop (k + 1) cs))))
 nesting_in-split cs k c e =
     let s : suc k ≡ k + 1 = omega arith in
-    nesting_in-cut cs k c e ∙ ap (λ n. max (nesting_in (sections_of (take k cs))) (max (nesting (trees_of (list_of c))) (nesting_in (sections_of (drop n cs))))) s
+    nesting_in-cut cs k c e ∙ ap (λ n. max (nesting_in (sections_of (take k cs)))
+    (max (nesting (trees_of (list_of c))) (nesting_in (sections_of (drop n cs))))) s
 
 -- from the list of the Leap to the item
 
-layer_nesting_beside : (b : Branch) (y : Item-F Item Section) (a : List Item) → child_F b y ≡ Some a → nesting_of (layer_tree y) ≤ beside_F b (nesting (trees_of a)) y
+layer_nesting_beside : (b : Branch) (y : Item-F Item Section) (a : List Item) → child_F b y ≡ Some a →
+    nesting_of (layer_tree y) ≤ beside_F b (nesting (trees_of a)) y
 unfolding trees_of sections_of
-layer_nesting_beside B.Then (O.If t x z) a e = let h : x ≡ a = cc in let g = ap (λ w. nesting (trees_of w)) h in let k = later_more (trees_of z) in omega (arith, g, k)
+layer_nesting_beside B.Then (O.If t x z) a e = let h : x ≡ a = cc in let g = ap (λ w. nesting (trees_of w)) h in let k = later_more (trees_of z) in
+    omega (arith, g, k)
 layer_nesting_beside B.Else (O.If t x z) a e = let h : z ≡ a = cc in let g = ap (λ w. nesting (trees_of w)) h in omega (arith, g)
 layer_nesting_beside B.Body (O.While t x) a e = let h : x ≡ a = cc in let g = ap (λ w. nesting (trees_of w)) h in omega (arith, g)
 layer_nesting_beside B.Body (O.Do x t) a e = let h : x ≡ a = cc in let g = ap (λ w. nesting (trees_of w)) h in omega (arith, g)
@@ -146,9 +152,11 @@ layer_nesting_beside _ _ a e = cc
 nesting_beside : (b : Branch) (x : Item) (a : List Item) → child b x ≡ Some a → nesting_of (tree_of x) ≤ beside b (nesting (trees_of a)) x
 nesting_beside b x a e = subst (λ t. nesting_of t ≤ beside b (nesting (trees_of a)) x) (sym (tree-out x)) (layer_nesting_beside b (out-Item x) a e)
 
-layer_beside_nesting : (b : Branch) (y : Item-F Item Section) (a : List Item) → child_F b y ≡ Some a → beside_F b (nesting (trees_of a) + 1) y ≤ nesting_of (layer_tree y) + 1
+layer_beside_nesting : (b : Branch) (y : Item-F Item Section) (a : List Item) → child_F b y ≡ Some a →
+    beside_F b (nesting (trees_of a) + 1) y ≤ nesting_of (layer_tree y) + 1
 unfolding trees_of sections_of
-layer_beside_nesting B.Then (O.If t x z) a e = let h : x ≡ a = cc in let g = ap (λ w. nesting (trees_of w)) h in let k = later_most (trees_of z) in omega (arith, g, k)
+layer_beside_nesting B.Then (O.If t x z) a e = let h : x ≡ a = cc in let g = ap (λ w. nesting (trees_of w)) h in let k = later_most (trees_of z) in
+    omega (arith, g, k)
 layer_beside_nesting B.Else (O.If t x z) a e = let h : z ≡ a = cc in let g = ap (λ w. nesting (trees_of w)) h in omega (arith, g)
 layer_beside_nesting B.Body (O.While t x) a e = let h : x ≡ a = cc in let g = ap (λ w. nesting (trees_of w)) h in omega (arith, g)
 layer_beside_nesting B.Body (O.Do x t) a e = let h : x ≡ a = cc in let g = ap (λ w. nesting (trees_of w)) h in omega (arith, g)
@@ -185,10 +193,12 @@ around_put xs (s ∷ ss) n w a e =
     ap (λ l. around l (s ∷ ss) n) (put_step xs s ss w t.item t.inner t.item_is t.inner_is)
     ∙ around_step (slice_set xs s.item made) s ss n made inner (get_set xs s.item t.item made t.item_is) (child_with s.branch t.item inner t.inner t.inner_is)
     ∙ around_element-set xs s.item (beside s.branch (around inner ss n) made) made
-    ∙ ap (around_element xs s.item) (beside_with s.branch (around inner ss n) t.item inner t.inner t.inner_is ∙ ap (λ m. beside s.branch m t.item) (around_put t.inner ss n w a t.rest))
+    ∙ ap (around_element xs s.item) (beside_with s.branch (around inner ss n) t.item inner t.inner t.inner_is ∙
+    ap (λ m. beside s.branch m t.item) (around_put t.inner ss n w a t.rest))
     ∙ sym (around_step xs s ss n t.item t.inner t.item_is t.inner_is)
 
-pub around-append : (xs : List Item) (ss ts : List Step) (n : ℕ) (a : List Item) → list_at xs ss ≡ Some a → around xs (ss ++ ts) n ≡ around xs ss (around a ts n)
+pub around-append : (xs : List Item) (ss ts : List Step) (n : ℕ) (a : List Item) → list_at xs ss ≡ Some a →
+    around xs (ss ++ ts) n ≡ around xs ss (around a ts n)
 around-append xs [] ts n a e = let h : xs ≡ a = cc in ap (λ l. around l ts n) h
 around-append xs (s ∷ ss) ts n a e =
     let t = stepped xs s ss a e in
@@ -218,7 +228,8 @@ nesting_around xs (s ∷ ss) a e =
     let v = later_more (trees_of (drop (s.item + 1) xs)) in
     omega (arith, p, q, r, u, v)
 
-pub around_nesting : (xs : List Item) (ss : List Step) (a : List Item) → list_at xs ss ≡ Some a → around xs ss (nesting (trees_of a) + 1) ≤ nesting (trees_of xs) + 1
+pub around_nesting : (xs : List Item) (ss : List Step) (a : List Item) → list_at xs ss ≡ Some a →
+    around xs ss (nesting (trees_of a) + 1) ≤ nesting (trees_of xs) + 1
 around_nesting xs [] a e = let h : xs ≡ a = cc in let g = ap (λ w. nesting (trees_of w)) h in omega (arith, g)
 around_nesting xs (s ∷ ss) a e =
     let t = stepped xs s ss a e in
@@ -226,6 +237,7 @@ around_nesting xs (s ∷ ss) a e =
     let p = around_step xs s ss n t.item t.inner t.item_is t.inner_is in
     let q = nesting-split xs s.item t.item t.item_is in
     let r = beside_nesting s.branch t.item t.inner t.inner_is in
-    let u = beside_more s.branch (around t.inner ss n) (nesting (trees_of t.inner) + 1) 0 t.item (let h = around_nesting t.inner ss a t.rest in omega (arith, h)) in
+    let u = beside_more s.branch (around t.inner ss n) (nesting (trees_of t.inner) + 1) 0 t.item
+    (let h = around_nesting t.inner ss a t.rest in omega (arith, h)) in
     let v = later_most (trees_of (drop (s.item + 1) xs)) in
     omega (arith, p, q, r, u, v)

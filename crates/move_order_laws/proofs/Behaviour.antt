@@ -67,7 +67,8 @@ keeps_both a b c h k = record {
 eliminated : (l : ℕ) {p : Point} {ms : List Kept} {new : List Item} → Eliminates l p ms new → IsWellMade (trees_of p.body) → KeepsBehaviour p.body new
 eliminated l (joins p new j) w = moved_keeps p.body new (record { made = w; moved = joins_changed l p.at.item j.place p.at.steps p.body new j.moves })
 eliminated l (moves k p q ms new m e) w =
-    keeps_both p.body q.body new (moved_keeps p.body q.body (record { made = w; moved = moved_changed k l p q m })) (eliminated l e (well_made_moved k l p q m w))
+    keeps_both p.body q.body new (moved_keeps p.body q.body (record { made = w; moved = moved_changed k l p q m }))
+    (eliminated l e (well_made_moved k l p q m w))
 
 derived : {body : List Item} {ms : List Kept} {new : List Item} → Derives body ms new → IsWellMade (trees_of body) → KeepsBehaviour body new
 derived (ends body e) w = unchanged body

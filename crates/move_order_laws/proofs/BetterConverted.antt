@@ -30,13 +30,15 @@ conditional_better l e = record {
   stops = refl;
   goes = refl;
   ways = λ m. tt;
-  cores = λ w w' h. subst (λ y. LeAll (one (If (Source e) (one (Goto l)) Nil)) (one (If (Source e) (one (jump_if y l)) Nil))) (sym (leap_lands l w')) (all_refl (one (If (Source e) (one (Goto l)) Nil)));
+  cores = λ w w' h. subst (λ y. LeAll (one (If (Source e) (one (Goto l)) Nil)) (one (If (Source e) (one (jump_if y l)) Nil))) (sym (leap_lands l w'))
+      (all_refl (one (If (Source e) (one (Goto l)) Nil)));
 }
 
 mark_better : (l : ℕ) → Better (one (Mark l)) (one (Land l))
 mark_better l = record { stops = refl; goes = refl; ways = λ m. tt; cores = λ w w' h. all_refl (one (Mark l)) }
 
-lone_better : (e : ExpressionTree) (a : Forest) → Better a (convert a) → Better (one (If (Source e) a Nil)) (option_map_or (λ l. jump_tree l (Some e)) (lone_goto a) (one (If (Source e) (convert a) Nil)))
+lone_better : (e : ExpressionTree) (a : Forest) → Better a (convert a) →
+    Better (one (If (Source e) a Nil)) (option_map_or (λ l. jump_tree l (Some e)) (lone_goto a) (one (If (Source e) (convert a) Nil)))
 lone_better e (Then (Goto l) Nil) p = conditional_better l e
 lone_better e _ p = better_if (Source e) p (better_refl Nil)
 
@@ -46,9 +48,11 @@ if_better (Source e) a Nil p q = lone_better e a p
 if_better (Source e) a (Then y b) p q = better_if (Source e) p q
 if_better t a b p q = better_if t p q
 
-for_better : (t u : Option ExpressionTree) {first first' a a' : Forest} → Better first first' → Better a a' → Better (one (For first t u a)) (one (For first' t u a'))
+for_better : (t u : Option ExpressionTree) {first first' a a' : Forest} → Better first first' → Better a a' →
+    Better (one (For first t u a)) (one (For first' t u a'))
 for_better t u p q =
-    better_one _ _ (let x = p.stops in omega arith) (let x = p.goes in omega arith) (λ l. tt) (λ w w' h. one_le (le_for t u (p.cores lost lost (follow_refl lost)) (q.cores lost lost (follow_refl lost))))
+    better_one _ _ (let x = p.stops in omega arith) (let x = p.goes in omega arith) (λ l. tt)
+    (λ w w' h. one_le (le_for t u (p.cores lost lost (follow_refl lost)) (q.cores lost lost (follow_refl lost))))
 
 mutual
   pub convert_better : (a : Forest) → Better a (convert a)

@@ -56,12 +56,14 @@ no_jump (Source e) (Then (Goto l) (Then x a)) (Then y b) h = refl
 no_jump (Source e) (Then _ a) (Then y b) h = refl
 no_jump _ a b h = refl
 
-if_kept : (t : TestTree) (a b : Forest) → skeleton (convert a) ≡ skeleton a → skeleton (convert b) ≡ skeleton b → skeleton (convert_item (If t a b)) ≡ skeleton_of (If t a b)
+if_kept : (t : TestTree) (a b : Forest) → skeleton (convert a) ≡ skeleton a → skeleton (convert b) ≡ skeleton b →
+    skeleton (convert_item (If t a b)) ≡ skeleton_of (If t a b)
 if_kept t a b p q = by_jump (conditional_goto t a b) refl where
   made : Option ℕ → Forest
   made o = skeleton (option_map_or (λ l. jump_tree l (source_tree t)) o (one (If t (convert a) (convert b))))
 
-  by_jump : (o : Option ℕ) → conditional_goto t a b ≡ o → skeleton (option_map_or (λ l. jump_tree l (source_tree t)) (conditional_goto t a b) (one (If t (convert a) (convert b)))) ≡ skeleton_of (If t a b)
+  by_jump : (o : Option ℕ) → conditional_goto t a b ≡ o → skeleton
+      (option_map_or (λ l. jump_tree l (source_tree t)) (conditional_goto t a b) (one (If t (convert a) (convert b)))) ≡ skeleton_of (If t a b)
   by_jump None e =
       ap (λ o. skeleton (option_map_or (λ l. jump_tree l (source_tree t)) o (one (If t (convert a) (convert b))))) e
       ∙ join-nil (skeleton_of (If t (convert a) (convert b)))

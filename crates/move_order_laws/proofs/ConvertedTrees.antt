@@ -109,7 +109,8 @@ lone (e ∷ d ∷ a) =
     ∙ ap lone_goto (sym (trees-more e.0 (map item (d ∷ a)) ∙ ap (Then (tree_of e.0)) (trees-more d.0 (map item a))))
 
 -- what holds of each form of a test holds of each test
-each_test : (R : Test → Type 0) → ((c : Expression) → R (T.Source c)) → ((l : ℕ) → R (T.On l)) → ((l : ℕ) → R (T.Off l)) → ((l : ℕ) (t : Test) → R (T.AndOff l t)) → ((l : ℕ) (t : Test) → R (T.OrOn l t)) → (t : Test) → R t
+each_test : (R : Test → Type 0) → ((c : Expression) → R (T.Source c)) → ((l : ℕ) → R (T.On l)) → ((l : ℕ) → R (T.Off l)) →
+    ((l : ℕ) (t : Test) → R (T.AndOff l t)) → ((l : ℕ) (t : Test) → R (T.OrOn l t)) → (t : Test) → R t
 each_test R source on off and or = ind-Test R (λ x y e. subst (λ (z : Test-F Test). R (roll-Test z)) e (form y))
   where
     form : (y : Test-F ((t : Test) × R t)) → R (roll-Test (map-Test ((t : Test) × R t) Test (λ e. e.0) y))
@@ -119,12 +120,15 @@ each_test R source on off and or = ind-Test R (λ x y e. subst (λ (z : Test-F T
     form (OpenTest.AndOff l t) = subst R (sym (rolls-AndOff l t.0)) (and l t.0)
     form (OpenTest.OrOn l t) = subst R (sym (rolls-OrOn l t.0)) (or l t.0)
 
-by_source : (c : Expression) (a b : List I) → conditional_jump (T.Source c) (become a) (become b) ≡ conditional_goto (test_tree (T.Source c)) (trees_of (map item a)) (trees_of (map item b))
+by_source : (c : Expression) (a b : List I) → conditional_jump (T.Source c) (become a) (become b) ≡ conditional_goto (test_tree (T.Source c))
+    (trees_of (map item a)) (trees_of (map item b))
 by_source c a [] = lone a ∙ ap₂ (λ t b. conditional_goto t (trees_of (map item a)) b) (sym (test-Source c)) (sym trees-none)
 by_source c a (e ∷ b) = ap₂ (λ t b. conditional_goto t (trees_of (map item a)) b) (sym (test-Source c)) (sym (trees-more e.0 (map item b)))
 
-conditional : (t : Test) (a b : List I) → conditional_jump t (become a) (become b) ≡ conditional_goto (test_tree t) (trees_of (map item a)) (trees_of (map item b))
-conditional = each_test (λ t. (a b : List I) → conditional_jump t (become a) (become b) ≡ conditional_goto (test_tree t) (trees_of (map item a)) (trees_of (map item b)))
+conditional : (t : Test) (a b : List I) → conditional_jump t (become a) (become b) ≡ conditional_goto (test_tree t) (trees_of (map item a))
+    (trees_of (map item b))
+conditional = each_test (λ t. (a b : List I) → conditional_jump t (become a) (become b) ≡ conditional_goto (test_tree t) (trees_of (map item a))
+    (trees_of (map item b)))
     by_source
     (λ l a b. ap (λ t. conditional_goto t (trees_of (map item a)) (trees_of (map item b))) (sym (test-On l)))
     (λ l a b. ap (λ t. conditional_goto t (trees_of (map item a)) (trees_of (map item b))) (sym (test-Off l)))
@@ -139,7 +143,8 @@ source_same = each_test (λ t. option_map expression_tree (source t) ≡ source_
     (λ l u. ap source_tree (sym (test-AndOff l u)))
     (λ l u. ap source_tree (sym (test-OrOn l u)))
 
-if_trees : (o : Option ℕ) (t : Test) (x : Item) (y : Tree) → tree_of x ≡ y → trees_of (option_map_or (λ l. jump l (source t)) o (x ∷ [])) ≡ option_map_or (λ l. jump_tree l (source_tree (test_tree t))) o (one y)
+if_trees : (o : Option ℕ) (t : Test) (x : Item) (y : Tree) → tree_of x ≡ y →
+    trees_of (option_map_or (λ l. jump l (source t)) o (x ∷ [])) ≡ option_map_or (λ l. jump_tree l (source_tree (test_tree t))) o (one y)
 if_trees None t x y e = trees_one x ∙ ap one e
 if_trees (Some l) t x y e = jump_trees l (source t) ∙ ap (jump_tree l) (source_same t)
 
@@ -152,7 +157,8 @@ kept x z t t' e n f c = (subst IsNoGoto (sym e) n, trees_one x ∙ ap one f ∙ 
 abbrev plain : Item-F I C → Item-F Item Section
 plain y = map-Item I C Item Section item section y
 
-layer : (y : Item-F I C) → Matches (converted_layer (map-Item Item Section Converted Section converted_item converted_section (plain y))) (tree_of (roll-Item (plain y)))
+layer : (y : Item-F I C) → Matches (converted_layer (map-Item Item Section Converted Section converted_item converted_section (plain y)))
+    (tree_of (roll-Item (plain y)))
 layer (Goto l) = ap tree_of (rolls-Goto l) ∙ tree-Goto l
 layer (Mark l) =
     let e = ap tree_of (rolls-Mark l) ∙ tree-Mark l in
@@ -168,15 +174,18 @@ layer (If t a b) =
           ∙ ap convert_item (sym e),
     )
 layer (While t a) =
-    kept _ _ (Plain.While (test_tree t) (trees_of (map item a))) (Plain.While (test_tree t) (convert (trees_of (map item a)))) (ap tree_of (rolls-While t (map item a)) ∙ tree-While t (map item a)) tt
+    kept _ _ (Plain.While (test_tree t) (trees_of (map item a))) (Plain.While (test_tree t) (convert (trees_of (map item a))))
+    (ap tree_of (rolls-While t (map item a)) ∙ tree-While t (map item a)) tt
     (tree-While t _ ∙ ap (Plain.While (test_tree t)) (list_trees a)) refl
 layer (Do a t) =
-    kept _ _ (Plain.Do (trees_of (map item a)) (test_tree t)) (Plain.Do (convert (trees_of (map item a))) (test_tree t)) (ap tree_of (rolls-Do (map item a) t) ∙ tree-Do (map item a) t) tt
+    kept _ _ (Plain.Do (trees_of (map item a)) (test_tree t)) (Plain.Do (convert (trees_of (map item a))) (test_tree t))
+    (ap tree_of (rolls-Do (map item a) t) ∙ tree-Do (map item a) t) tt
     (tree-Do _ t ∙ ap (λ z. Plain.Do z (test_tree t)) (list_trees a)) refl
 layer (For i t u a) =
     let et = option_map expression_tree t in
     let eu = option_map expression_tree u in
-    kept _ _ (Plain.For (trees_of (map item i)) et eu (trees_of (map item a))) (Plain.For (convert (trees_of (map item i))) et eu (convert (trees_of (map item a))))
+    kept _ _ (Plain.For (trees_of (map item i)) et eu (trees_of (map item a)))
+    (Plain.For (convert (trees_of (map item i))) et eu (convert (trees_of (map item a))))
     (ap tree_of (rolls-For (map item i) t u (map item a)) ∙ tree-For (map item i) t u (map item a)) tt
     (tree-For _ t u _ ∙ ap₂ (λ z y. Plain.For z et eu y) (list_trees i) (list_trees a)) refl
 layer (Switch s cs) =
@@ -184,7 +193,8 @@ layer (Switch s cs) =
     (ap tree_of (rolls-Switch s (map section cs)) ∙ tree-Switch s (map section cs)) tt
     (tree-Switch s _ ∙ ap (Plain.Switch (selector_tree s)) (section_trees cs)) refl
 layer (Block a) =
-    kept _ _ (Plain.Block (trees_of (map item a))) (Plain.Block (convert (trees_of (map item a)))) (ap tree_of (rolls-Block (map item a)) ∙ tree-Block (map item a)) tt
+    kept _ _ (Plain.Block (trees_of (map item a))) (Plain.Block (convert (trees_of (map item a))))
+    (ap tree_of (rolls-Block (map item a)) ∙ tree-Block (map item a)) tt
     (tree-Block _ ∙ ap Plain.Block (list_trees a)) refl
 layer (Evaluate e) = kept _ _ _ _ (ap tree_of (rolls-Evaluate e) ∙ tree-Evaluate e) tt (tree-Evaluate e) refl
 layer (Return e) = kept _ _ _ _ (ap tree_of (rolls-Return e) ∙ tree-Return e) tt (tree-Return e) refl
@@ -197,7 +207,8 @@ layer (Land l) = kept _ _ _ _ (ap tree_of (rolls-Land l) ∙ tree-Land l) tt (tr
 layer (Arrival e) = kept _ _ _ _ (ap tree_of (rolls-Arrival e) ∙ tree-Arrival e) tt (tree-Arrival e) refl
 layer (Note b) = kept _ _ _ _ (ap tree_of (rolls-Note b) ∙ tree-Note b) tt (tree-Note b) refl
 
-section_rolled : (z : Section-F Item Section) → section_tree (roll-Section z) ≡ record { cases = Plain.expression_trees z.cases; default = z.default; list = trees_of z.list; ends = z.ends }
+section_rolled : (z : Section-F Item Section) → section_tree
+    (roll-Section z) ≡ record { cases = Plain.expression_trees z.cases; default = z.default; list = trees_of z.list; ends = z.ends }
 unfolding section_tree trees_of tree_of
 section_rolled z = fold-roll-Section Tree Plain.SectionTree Plain.layer Plain.section_layer z
 

@@ -55,7 +55,9 @@ mutual
   dropped_depth : (d : ℕ → Bool) (a : Forest) → nesting (dropped d a) ≤ nesting a
   dropped_depth d Nil = omega arith
   dropped_depth d (Then x a) =
-      let p = dropped_item_depth d x in let q = dropped_depth d a in let r = nesting-join (dropped_item d x) (dropped d a) in let s = nesting_some a in omega arith
+      let p = dropped_item_depth d x in let q = dropped_depth d a in let r = nesting-join (dropped_item d x) (dropped d a) in let s =
+      nesting_some a in
+      omega arith
 
   -- an item by itself
   dropped_item_depth : (d : ℕ → Bool) (x : Tree) → nesting (dropped_item d x) ≤ 1 + nesting_of x
@@ -74,7 +76,8 @@ mutual
   dropped_sections_depth d NoSection = omega arith
   dropped_sections_depth d (Section cases default a ends c) = let p = dropped_depth d a in let q = dropped_sections_depth d c in omega arith
 
-if_depth : (o : Option ℕ) (t : TestTree) (a b : Forest) (n : ℕ) → nesting (one (If t (convert a) (convert b))) ≤ n → 1 ≤ n → nesting (option_map_or (λ l. jump_tree l (source_tree t)) o (one (If t (convert a) (convert b)))) ≤ n
+if_depth : (o : Option ℕ) (t : TestTree) (a b : Forest) (n : ℕ) → nesting (one (If t (convert a) (convert b))) ≤ n → 1 ≤ n →
+    nesting (option_map_or (λ l. jump_tree l (source_tree t)) o (one (If t (convert a) (convert b)))) ≤ n
 if_depth None t a b n h k = h
 if_depth (Some l) t a b n h k = omega arith
 
@@ -109,7 +112,8 @@ goto_alone (Source e) (Then _ a) Nil l h = cc
 goto_alone (Source e) a (Then y b) l h = cc
 goto_alone _ a b l h = cc
 
-if_leaps : (o : Option ℕ) (t : TestTree) (a b : Forest) → conditional_goto t a b ≡ o → leaps (convert a) ≡ gotos a + leaps a → leaps (convert b) ≡ gotos b + leaps b
+if_leaps : (o : Option ℕ) (t : TestTree) (a b : Forest) → conditional_goto t a b ≡ o → leaps (convert a) ≡ gotos a + leaps a →
+    leaps (convert b) ≡ gotos b + leaps b
     → leaps (option_map_or (λ l. jump_tree l (source_tree t)) o (one (If t (convert a) (convert b)))) ≡ gotos a + gotos b + leaps a + leaps b
 if_leaps None t a b e p q = omega arith
 if_leaps (Some l) t a b e p q = let h = goto_alone t a b l e in let x = h.0 in let y = h.1 in omega arith
@@ -117,7 +121,9 @@ if_leaps (Some l) t a b e p q = let h = goto_alone t a b l e in let x = h.0 in l
 mutual
   converted_leaps : (a : Forest) → leaps (convert a) ≡ gotos a + leaps a
   converted_leaps Nil = refl
-  converted_leaps (Then x a) = let p = converted_item_leaps x in let q = converted_leaps a in let r = total-join leap_of (convert_item x) (convert a) in omega arith
+  converted_leaps (Then x a) = let p = converted_item_leaps x in let q = converted_leaps a in let r =
+      total-join leap_of (convert_item x) (convert a) in
+      omega arith
 
   converted_item_leaps : (x : Tree) → leaps (convert_item x) ≡ total_of goto_of x + total_of leap_of x
   converted_item_leaps (If t a b) = let h = if_leaps (conditional_goto t a b) t a b refl (converted_leaps a) (converted_leaps b) in omega (arith, h)
@@ -134,7 +140,8 @@ mutual
   converted_sections_leaps NoSection = refl
   converted_sections_leaps (Section cases default a ends c) = let p = converted_leaps a in let q = converted_sections_leaps c in omega arith
 
-whole : (flat : Forest) (body : List Item) (ms : List Kept) (new : List Item) → trees_of body ≡ convert flat → leaps flat ≡ 0 → IsWellMade (trees_of body) → Derives body ms new
+whole : (flat : Forest) (body : List Item) (ms : List Kept) (new : List Item) → trees_of body ≡ convert flat → leaps flat ≡ 0 →
+    IsWellMade (trees_of body) → Derives body ms new
     → nesting (trees_of new) ≤ nesting flat + 3 * gotos flat
 whole flat body ms new e z w d =
     let h = nesting_laws.derived body ms new w d in

@@ -72,11 +72,13 @@ two-most (suc n) = omega arith
 abbrev deepest : ℕ → Point → ℕ
 deepest l p = reach p.body p.at + two_unless (lands l (trees_of (drop (p.at.item + 1) (list_there p.body p.at.steps))))
 
-deepest_is : (l : ℕ) (p : Point) (a : List Item) → list_at p.body p.at.steps ≡ Some a → deepest l p ≡ reach p.body p.at + two_unless (lands l (trees_of (drop (p.at.item + 1) a)))
+deepest_is : (l : ℕ) (p : Point) (a : List Item) → list_at p.body p.at.steps ≡ Some a →
+    deepest l p ≡ reach p.body p.at + two_unless (lands l (trees_of (drop (p.at.item + 1) a)))
 deepest_is l p a e = ap (λ z. reach p.body p.at + two_unless (lands l (trees_of (drop (p.at.item + 1) z)))) (there_is p.body p.at.steps a e)
 
 -- an element before the Leap that has the one Land
-none_after : (l : ℕ) (a : List Item) (i j : ℕ) (x : Item) → slice_get a i ≡ Some (Leap l) → j < i → slice_get a j ≡ Some x → 0 < lands_of l (tree_of x) → lands l (trees_of a) ≤ 1
+none_after : (l : ℕ) (a : List Item) (i j : ℕ) (x : Item) → slice_get a i ≡ Some (Leap l) → j < i → slice_get a j ≡ Some x →
+    0 < lands_of l (tree_of x) → lands l (trees_of a) ≤ 1
     → lands l (trees_of (drop (i + 1) a)) ≡ 0
 none_after l a i j x e h f p one =
     let s = total-split (land_of l) a i (Leap l) e in
@@ -89,7 +91,8 @@ list_one : (l : ℕ) (p : Point) (a : List Item) → list_at p.body p.at.steps �
 list_one l p a e one = let h = list_total (land_of l) p.body p.at.steps a e in omega (arith, h, one)
 
 -- where the Leap stands first in its list, and that has a Land
-deepest_first : (l : ℕ) (q : Point) (a : List Item) → list_at q.body q.at.steps ≡ Some (Leap l ∷ a) → q.at.item ≡ 0 → 0 < lands l (trees_of a) → deepest l q ≡ reach q.body q.at
+deepest_first : (l : ℕ) (q : Point) (a : List Item) → list_at q.body q.at.steps ≡ Some (Leap l ∷ a) → q.at.item ≡ 0 → 0 < lands l (trees_of a) →
+    deepest l q ≡ reach q.body q.at
 deepest_first l q a e z h =
     let p = deepest_is l q (Leap l ∷ a) e in
     let d = ap (λ n. two_unless (lands l (trees_of (drop (n + 1) (Leap l ∷ a))))) z in
@@ -105,7 +108,8 @@ lift_deepest l p q h one =
     let x : 0 < lands_of l (tree_of t.item) = omega (arith, w, k) in
     let new = deepest_first l q a (lifted_list l p q h.place t) t.first (range_held l t.list h.place p.at.item t.item t.earlier t.item_is x) in
     let old = deepest_is l p t.list t.list_is in
-    let z = two-none (lands l (trees_of (drop (p.at.item + 1) t.list))) (none_after l t.list p.at.item h.place t.item t.leap t.earlier t.item_is x (list_one l p t.list t.list_is one)) in
+    let z = two-none (lands l (trees_of (drop (p.at.item + 1) t.list)))
+    (none_after l t.list p.at.item h.place t.item t.leap t.earlier t.item_is x (list_one l p t.list t.list_is one)) in
     let r = lift_reach l p q h.place t in
     omega (arith, new, old, z, r)
 
@@ -170,17 +174,20 @@ join_deepest l p new h one = by_order (cases_lt p.at.item h.place) where
 
   by_order : (p.at.item < h.place) ⊎ (h.place ≤ p.at.item) → nesting (trees_of new) ≤ deepest l p
   by_order (inl b) =
-      let v = ap (λ z. nesting (trees_of (cond z (joined_after l p.at.item h.place t.list) (joined_before l p.at.item h.place t.list)))) (lt-ltb p.at.item h.place b) in
+      let v = ap (λ z. nesting (trees_of (cond z (joined_after l p.at.item h.place t.list) (joined_before l p.at.item h.place t.list))))
+      (lt-ltb p.at.item h.place b) in
       let here = join_after_here l p.at.item h.place t.list b t.land in
       let m = around_more p.body p.at.steps (nesting (trees_of w)) (at_leap t.list p.at.item) 0 t.list t.list_is (omega (arith, v, here)) in
       omega (arith, whole, old, m)
   by_order (inr b) =
-      let v = ap (λ z. nesting (trees_of (cond z (joined_after l p.at.item h.place t.list) (joined_before l p.at.item h.place t.list)))) (le-ltb p.at.item h.place b) in
+      let v = ap (λ z. nesting (trees_of (cond z (joined_after l p.at.item h.place t.list) (joined_before l p.at.item h.place t.list))))
+      (le-ltb p.at.item h.place b) in
       let here = join_before_here l p.at.item h.place t.list t.leap in
       let m = around_more p.body p.at.steps (nesting (trees_of w)) (at_leap t.list p.at.item) 2 t.list t.list_is (omega (arith, v, here)) in
       let before : h.place < p.at.item = apart b (λ e. not_both t.list p.at.item t.leap (subst (λ k. slice_get t.list k ≡ Some (Land l)) e t.land)) in
       let some = lands-Land l in
-      let z = two-none (lands l (trees_of (drop (p.at.item + 1) t.list))) (none_after l t.list p.at.item h.place (Land l) t.leap before t.land (omega (arith, some)) (list_one l p t.list t.list_is one)) in
+      let z = two-none (lands l (trees_of (drop (p.at.item + 1) t.list)))
+      (none_after l t.list p.at.item h.place (Land l) t.leap before t.land (omega (arith, some)) (list_one l p t.list t.list_is one)) in
       omega (arith, whole, old, m, z) where
         apart : h.place ≤ p.at.item → (h.place ≡ p.at.item → ⊥) → h.place < p.at.item
         apart u n = omega arith
@@ -214,7 +221,8 @@ leap_stays l (stays p) h = h
 leap_stays l (goes k {p = p} {q = q} m r) h = moves_leap k l p q m
 
 -- each body on the way from the choice to the join, and the one after it
-pub no_deeper_on_the_way : (l : ℕ) {n : ℕ} {p q : Point} → Goes l n p q → (list : List Item) → list_at q.body q.at.steps ≡ Some list → slice_get list q.at.item ≡ Some (Leap l) → lands l (trees_of p.body) ≡ 1
+pub no_deeper_on_the_way : (l : ℕ) {n : ℕ} {p q : Point} → Goes l n p q → (list : List Item) → list_at q.body q.at.steps ≡ Some list →
+    slice_get list q.at.item ≡ Some (Leap l) → lands l (trees_of p.body) ≡ 1
     → nesting (trees_of q.body) ≤ nesting (trees_of p.body) + 3
 no_deeper_on_the_way l {p = p} {q = q} r list e f one =
     let h : HasLeap l q = record { list = list; list_is = e; leap = f } in
@@ -223,7 +231,8 @@ no_deeper_on_the_way l {p = p} {q = q} r list e f one =
     let c = (depth_now l p (leap_stays l r h)).1 in
     omega (arith, a, b, c)
 
-pub no_deeper_joined : (l : ℕ) {n : ℕ} {p q : Point} (new : List Item) → Goes l n p q → IsJoined l q new → lands l (trees_of p.body) ≡ 1 → lands l (trees_of q.body) ≡ 1 → nesting (trees_of new) ≤ nesting (trees_of p.body) + 3
+pub no_deeper_joined : (l : ℕ) {n : ℕ} {p q : Point} (new : List Item) → Goes l n p q → IsJoined l q new → lands l (trees_of p.body) ≡ 1 →
+    lands l (trees_of q.body) ≡ 1 → nesting (trees_of new) ≤ nesting (trees_of p.body) + 3
 no_deeper_joined l {p = p} {q = q} new r j one end =
     let t = join_parts l q new j in
     let h : HasLeap l q = record { list = t.list; list_is = t.list_is; leap = t.leap } in

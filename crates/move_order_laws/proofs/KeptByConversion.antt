@@ -27,7 +27,8 @@ module _ (P : Tree → Type 0) (k : IsKeptByConversion P) where
   jumps : (l : ℕ) (e : Option ExpressionTree) → P (Arm l e) × P (Leap l) → Everywhere P (jump_tree l e)
   jumps l e h = (h.0, (h.1, tt))
 
-  lone_kept : (e : ExpressionTree) (a : Forest) → P (If (Source e) a Nil) → Everywhere P a → Everywhere P (convert a) → Everywhere P (option_map_or (λ l. jump_tree l (Some e)) (lone_goto a) (one (If (Source e) (convert a) Nil)))
+  lone_kept : (e : ExpressionTree) (a : Forest) → P (If (Source e) a Nil) → Everywhere P a → Everywhere P (convert a) →
+      Everywhere P (option_map_or (λ l. jump_tree l (Some e)) (lone_goto a) (one (If (Source e) (convert a) Nil)))
   lone_kept e (Then (Goto l) Nil) h i j = jumps l (Some e) (k.conditional l e h i.0)
   lone_kept e a h i j = ((k.ifs (Source e) a Nil h, j, tt), tt)
 

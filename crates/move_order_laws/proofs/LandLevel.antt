@@ -59,7 +59,8 @@ land_some l xs ss i e =
     let r = lands-Land l in
     omega (arith, p, q, r)
 
-pub land_level : (l : ℕ) (xs : List Item) (ss : List Step) (i : ℕ) → item_at xs ss i ≡ Some (Land l) → lands l (trees_of xs) ≡ 1 → levels l (trees_of xs) ≡ length ss
+pub land_level : (l : ℕ) (xs : List Item) (ss : List Step) (i : ℕ) → item_at xs ss i ≡ Some (Land l) → lands l (trees_of xs) ≡ 1 →
+    levels l (trees_of xs) ≡ length ss
 land_level l xs [] i e one =
     let q = total-split (land_of l) xs i (Land l) e in
     let r = lands-Land l in

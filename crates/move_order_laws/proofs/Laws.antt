@@ -21,11 +21,13 @@ use Rattle.move_order_laws.proofs.Converted.{converted_kept}
 moved : (xs ys : Forest) → IsWellMade xs → Changed Moved xs ys → skeleton ys ≡ skeleton xs
 moved xs ys w c = let v = well_moved xs ys c w in moved_kept c w.converted v.converted
 
-eliminated : (l : ℕ) {p : Point} {ms : List Kept} {new : List Item} → Eliminates l p ms new → IsWellMade (trees_of p.body) → skeleton (trees_of new) ≡ skeleton (trees_of p.body)
+eliminated : (l : ℕ) {p : Point} {ms : List Kept} {new : List Item} → Eliminates l p ms new → IsWellMade (trees_of p.body) →
+    skeleton (trees_of new) ≡ skeleton (trees_of p.body)
 eliminated l (joins p new j) w = moved (trees_of p.body) (trees_of new) w (joins_changed l p.at.item j.place p.at.steps p.body new j.moves)
 eliminated l (moves k p q ms new m e) w = eliminated l e (well_made_moved k l p q m w) ∙ moved (trees_of p.body) (trees_of q.body) w (moved_changed k l p q m)
 
-derived : {body : List Item} {ms : List Kept} {new : List Item} → Derives body ms new → IsWellMade (trees_of body) → skeleton (trees_of new) ≡ skeleton (trees_of body)
+derived : {body : List Item} {ms : List Kept} {new : List Item} → Derives body ms new → IsWellMade (trees_of body) →
+    skeleton (trees_of new) ≡ skeleton (trees_of body)
 derived (ends body e) w = refl
 derived (chooses body at l ms ns mid new f e d) w = derived d (well_made_eliminated l e w) ∙ eliminated l e w
 

@@ -48,7 +48,8 @@ module _ (n : ℕ) where
     part_fewer (C.here r) = r
     part_fewer (within a b {xs = xs} {ys = ys} c) =
         let h = (part_fewer c).left in
-        let p = leaps-join a (join xs b) in let q = leaps-join xs b in let p' = leaps-join a (join ys b) in let q' = leaps-join ys b in record { left = omega arith }
+        let p = leaps-join a (join xs b) in let q = leaps-join xs b in let p' = leaps-join a (join ys b) in let q' = leaps-join ys b in
+        record { left = omega arith }
     part_fewer (in_then t b c) = let h = (part_fewer c).left in record { left = omega arith }
     part_fewer (in_else t a c) = let h = (part_fewer c).left in record { left = omega arith }
     part_fewer (in_while t c) = let h = (part_fewer c).left in record { left = omega arith }
@@ -62,7 +63,8 @@ module _ (n : ℕ) where
     sections_fewer (in_later cases default ends a r) = let h = sections_fewer r in omega arith
 
 -- where the list at the steps has n Leaps fewer, so has the body
-body_fewer : (n : ℕ) (old new : List Item) (steps : List Step) (a w : List Item) → list_at old steps ≡ Some a → new ≡ put_at old steps w → leaps (trees_of w) + n ≡ leaps (trees_of a)
+body_fewer : (n : ℕ) (old new : List Item) (steps : List Step) (a w : List Item) → list_at old steps ≡ Some a → new ≡ put_at old steps w →
+    leaps (trees_of w) + n ≡ leaps (trees_of a)
     → leaps (trees_of new) + n ≡ leaps (trees_of old)
 body_fewer n old new steps a w e f h =
     ap (λ z. leaps (trees_of z) + n) f ∙ (part_fewer n (changed_at (Fewer n) old steps a w e (C.here (record { left = h })))).left
@@ -89,7 +91,8 @@ leaps-three : (a b : List Item) (x : Item) → leaps (trees_of (a ++ x ∷ b)) �
 leaps-three a b x = leaps-append a (x ∷ b) ∙ ap (λ n. leaps (trees_of a) + n) (leaps-more x b)
 
 -- from an item on
-leaps-from : (a : List Item) (i : ℕ) (x : Item) → slice_get a i ≡ Some x → leaps (trees_of (drop i a)) ≡ total_of leap_of (tree_of x) + leaps (trees_of (drop (i + 1) a))
+leaps-from : (a : List Item) (i : ℕ) (x : Item) → slice_get a i ≡ Some x →
+    leaps (trees_of (drop i a)) ≡ total_of leap_of (tree_of x) + leaps (trees_of (drop (i + 1) a))
 leaps-from a i x e = ap (λ z. leaps (trees_of z)) (drop_here a i x e) ∙ leaps-more x (drop (i + 1) a)
 
 -- what stands between two places, and behind
@@ -148,15 +151,18 @@ lifted_leaps l i j a e h =
 
 -- ---- sections
 
-leaps-section : (c : Real.Section) (cs : List Real.Section) → total_in leap_of (sections_of (c ∷ cs)) ≡ leaps (trees_of (list_of c)) + total_in leap_of (sections_of cs)
+leaps-section : (c : Real.Section) (cs : List Real.Section) → total_in leap_of (sections_of (c ∷ cs)) ≡ leaps (trees_of (list_of c)) + total_in
+    leap_of (sections_of cs)
 unfolding sections_of
 leaps-section c cs = ap (λ (z : SectionTree). leaps z.list + total_in leap_of (sections_of cs)) (section-parts c)
 
-leaps-with : (w : List Item) (c : Real.Section) (cs : List Real.Section) → total_in leap_of (sections_of (with_list w c ∷ cs)) ≡ leaps (trees_of w) + total_in leap_of (sections_of cs)
+leaps-with : (w : List Item) (c : Real.Section) (cs : List Real.Section) →
+    total_in leap_of (sections_of (with_list w c ∷ cs)) ≡ leaps (trees_of w) + total_in leap_of (sections_of cs)
 unfolding sections_of
 leaps-with w c cs = ap (λ (z : SectionTree). leaps z.list + total_in leap_of (sections_of cs)) (section-with w c)
 
-chosen_leaps : (b : Bool) (cs ds : List Real.Section) → total_in leap_of (sections_of ds) ≡ total_in leap_of (sections_of cs) → total_in leap_of (sections_of (cond b cs ds)) ≡ total_in leap_of (sections_of cs)
+chosen_leaps : (b : Bool) (cs ds : List Real.Section) → total_in leap_of (sections_of ds) ≡ total_in leap_of (sections_of cs) →
+    total_in leap_of (sections_of (cond b cs ds)) ≡ total_in leap_of (sections_of cs)
 chosen_leaps true cs ds h = refl
 chosen_leaps false cs ds h = h
 
@@ -219,7 +225,8 @@ layer_left : (l i : ℕ) (b : Branch) (y : Item-F Item Real.Section) (a : List I
 unfolding trees_of sections_of
 layer_left l i B.Then (O.If t x z) a e f h = let g : a ≡ x = cc in let r = rest_leaps l i x (subst (λ v. slice_get v i ≡ Some (Leap l)) g f) in omega (arith, r)
 layer_left l i B.Else (O.If t z x) a e f h = let g : a ≡ x = cc in let r = rest_leaps l i x (subst (λ v. slice_get v i ≡ Some (Leap l)) g f) in omega (arith, r)
-layer_left l i B.Body (O.While t x) a e f h = let g : a ≡ x = cc in let r = rest_leaps l i x (subst (λ v. slice_get v i ≡ Some (Leap l)) g f) in omega (arith, r)
+layer_left l i B.Body (O.While t x) a e f h = let g : a ≡ x = cc in let r = rest_leaps l i x (subst (λ v. slice_get v i ≡ Some (Leap l)) g f) in
+    omega (arith, r)
 layer_left l i B.Body (O.Do x t) a e f h = let g : a ≡ x = cc in let r = rest_leaps l i x (subst (λ v. slice_get v i ≡ Some (Leap l)) g f) in omega (arith, r)
 layer_left l i (B.Section k) (O.Switch s cs) a e f h =
     let p = map_some list_of (slice_get cs k) a e in
@@ -227,11 +234,13 @@ layer_left l i (B.Section k) (O.Switch s cs) a e f h =
     omega (arith, r)
 layer_left l i _ _ a e f h = absurd h
 
-item_left : (l i : ℕ) (b : Branch) (x : Item) (a : List Item) → child b x ≡ Some a → slice_get a i ≡ Some (Leap l) → HasBranch b x → total_of leap_of (tree_of (left l b i x)) + 1 ≡ total_of leap_of (tree_of x)
+item_left : (l i : ℕ) (b : Branch) (x : Item) (a : List Item) → child b x ≡ Some a → slice_get a i ≡ Some (Leap l) → HasBranch b x →
+    total_of leap_of (tree_of (left l b i x)) + 1 ≡ total_of leap_of (tree_of x)
 item_left l i b x a e f h =
     ap (λ t. total_of leap_of t + 1) (tree-roll (left_F l b i (out-Item x))) ∙ layer_left l i b (out-Item x) a e f h ∙ ap (total_of leap_of) (sym (tree-out x))
 
-out_leaps : (l k i : ℕ) (b : Branch) (xs : List Item) (x : Item) (a : List Item) → slice_get xs k ≡ Some x → child b x ≡ Some a → slice_get a i ≡ Some (Leap l) → HasBranch b x
+out_leaps : (l k i : ℕ) (b : Branch) (xs : List Item) (x : Item) (a : List Item) → slice_get xs k ≡ Some x → child b x ≡ Some a →
+    slice_get a i ≡ Some (Leap l) → HasBranch b x
     → leaps (trees_of (moved_out l k b i xs)) + 0 ≡ leaps (trees_of xs)
 out_leaps l k i b xs x a e f g h =
     let v = ap (λ o. leaps (trees_of (option_map_or (λ x. take k xs ++ left l b i x ∷ Leap l ∷ drop (k + 1) xs) o xs))) e in
@@ -259,11 +268,14 @@ layer_entered l n (B.Section k) (O.Switch s cs) a e h =
     omega (arith, v, r)
 layer_entered l n _ _ a e h = absurd h
 
-item_entered : (l : ℕ) (n : ℤ) (b : Branch) (x : Item) (a : List Item) → child b x ≡ Some a → HasBranch b x → total_of leap_of (tree_of (entered l n b x)) ≡ total_of leap_of (tree_of x) + 1
+item_entered : (l : ℕ) (n : ℤ) (b : Branch) (x : Item) (a : List Item) → child b x ≡ Some a → HasBranch b x →
+    total_of leap_of (tree_of (entered l n b x)) ≡ total_of leap_of (tree_of x) + 1
 item_entered l n b x a e h =
-    ap (total_of leap_of) (tree-roll (entered_F l n b (out-Item x))) ∙ layer_entered l n b (out-Item x) a e h ∙ ap (λ t. total_of leap_of t + 1) (sym (tree-out x))
+    ap (total_of leap_of) (tree-roll (entered_F l n b (out-Item x))) ∙ layer_entered l n b (out-Item x) a e h ∙
+    ap (λ t. total_of leap_of t + 1) (sym (tree-out x))
 
-in_leaps : (l : ℕ) (n : ℤ) (i j : ℕ) (b : Branch) (xs : List Item) (x : Item) (a : List Item) → i < j → slice_get xs i ≡ Some (Leap l) → slice_get xs j ≡ Some x → child b x ≡ Some a → HasBranch b x
+in_leaps : (l : ℕ) (n : ℤ) (i j : ℕ) (b : Branch) (xs : List Item) (x : Item) (a : List Item) → i < j → slice_get xs i ≡ Some (Leap l) →
+    slice_get xs j ≡ Some x → child b x ≡ Some a → HasBranch b x
     → leaps (trees_of (moved_in l n i j b xs)) + 0 ≡ leaps (trees_of xs)
 in_leaps l n i j b xs x a h e f g w =
     let mid = slice_range xs (i + 1) j in
@@ -284,14 +296,17 @@ in_leaps l n i j b xs x a h e f g w =
 pub same_leaps : (k : MoveKind) (l : ℕ) (p q : Point) → MovesBy k l p q → leaps (trees_of q.body) ≡ leaps (trees_of p.body)
 same_leaps Out l p q h =
     let t = out_parts l p q h in
-    let e = body_fewer 0 p.body q.body h.outer t.list (moved_out l h.last.item h.last.branch p.at.item t.list) t.list_is t.body (out_leaps l h.last.item p.at.item h.last.branch t.list t.item t.inner t.item_is t.inner_is t.leap t.branch) in
+    let e = body_fewer 0 p.body q.body h.outer t.list (moved_out l h.last.item h.last.branch p.at.item t.list) t.list_is t.body
+    (out_leaps l h.last.item p.at.item h.last.branch t.list t.item t.inner t.item_is t.inner_is t.leap t.branch) in
     omega (arith, e)
 same_leaps Lift l p q h =
     let t = lift_parts l p q h in
-    let e = body_fewer 0 p.body q.body p.at.steps t.list (lifted l p.at.item h.place t.list) t.list_is t.body (lifted_leaps l p.at.item h.place t.list t.leap t.earlier) in
+    let e = body_fewer 0 p.body q.body p.at.steps t.list (lifted l p.at.item h.place t.list) t.list_is t.body
+    (lifted_leaps l p.at.item h.place t.list t.leap t.earlier) in
     omega (arith, e)
 same_leaps Inward l p q h =
     let t = in_parts l p q h in
-    let e = body_fewer 0 p.body q.body p.at.steps t.list (moved_in l h.number p.at.item h.place h.branch t.list) t.list_is t.body (in_leaps l h.number p.at.item h.place h.branch t.list t.item t.inner t.later t.leap t.item_is t.inner_is t.branch) in
+    let e = body_fewer 0 p.body q.body p.at.steps t.list (moved_in l h.number p.at.item h.place h.branch t.list) t.list_is t.body
+    (in_leaps l h.number p.at.item h.place h.branch t.list t.item t.inner t.later t.leap t.item_is t.inner_is t.branch) in
     omega (arith, e)
 same_leaps _ l p q h = absurd h

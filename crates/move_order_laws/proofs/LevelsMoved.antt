@@ -31,7 +31,8 @@ levels-later l m NoSection = omega arith
 levels-later l m (Section cases default a true c) = let h = levels-guarded l m a in omega arith
 levels-later l m (Section cases default a false c) = let h = levels-guarded l m a in let k = levels-later l m c in omega arith
 
-levels-chosen : (l m : ℕ) (ends : Bool) (c : Sections) → total_in (lands_inside l) (cond ends c (later_guarded m c)) ≤ total_in (lands_inside l) c + total_in (land_of l) c
+levels-chosen : (l m : ℕ) (ends : Bool) (c : Sections) → total_in (lands_inside l) (cond ends c (later_guarded m c)) ≤ total_in (lands_inside l)
+    c + total_in (land_of l) c
 levels-chosen l m true c = omega arith
 levels-chosen l m false c = levels-later l m c
 
@@ -55,7 +56,8 @@ lands-entered : (l m k : ℕ) {c d : Sections} → SectionsEntered m k c d → t
 lands-entered l m _ (entered_here cases default ends a c z) = omega arith
 lands-entered l m _ (entered_later cases default ends a r) = let p = lands-entered l m _ r in omega arith
 
-entering : (l m : ℕ) (t : Forest) (x y : Tree) → levels_of l y ≤ levels_of l x + lands_of l x → levels l (join (guarded m t) (one y)) ≤ levels l (Then (Leap m) (join t (one x))) + lands l (Then (Leap m) (join t (one x)))
+entering : (l m : ℕ) (t : Forest) (x y : Tree) → levels_of l y ≤ levels_of l x + lands_of l x →
+    levels l (join (guarded m t) (one y)) ≤ levels l (Then (Leap m) (join t (one x))) + lands l (Then (Leap m) (join t (one x)))
 entering l m t x y e =
     let p = levels-join l t (one x) in
     let q = levels-join l (guarded m t) (one y) in
@@ -80,7 +82,8 @@ moved_levels l (M.in_then m t u a b h) = entering l m t (If u a b) (If (OrOn m u
 moved_levels l (M.in_else m t u a b h) = entering l m t (If u a b) (If (AndOff m u) a (Then (Leap m) b)) (omega arith)
 moved_levels l (M.in_while m t u a h) = entering l m t (While u a) (While (OrOn m u) (Then (Leap m) a)) (omega arith)
 moved_levels l (M.in_do m t u a h) = entering l m t (Do a u) (Do (Then (Leap m) a) u) (omega arith)
-moved_levels l (M.in_switch m t s k n {c = c} {d = d} r p) = entering l m t (Switch s c) (Switch (Pick m n s) d) (let q = levels-entered l m k r in let z = lands-entered l m k r in omega arith)
+moved_levels l (M.in_switch m t s k n {c = c} {d = d} r p) = entering l m t (Switch s c) (Switch (Pick m n s) d)
+    (let q = levels-entered l m k r in let z = lands-entered l m k r in omega arith)
 
 mutual
   pub changed_levels : (l : ℕ) {xs ys : Forest} → Changed Moved xs ys → levels l ys ≤ levels l xs + lands l xs
@@ -119,6 +122,7 @@ module _ (l c : ℕ) where
     no_deeper (in_switch s r) = let h = no_deeper_in r in record { lands_same = omega arith; deeper = omega arith }
     no_deeper (in_block r) = let h = no_deeper r in record { lands_same = omega arith; deeper = omega arith }
 
-    no_deeper_in : {a b : Sections} → ChangedSections (NoDeeper l c) a b → (total_in (land_of l) b ≡ total_in (land_of l) a) × (total_in (lands_inside l) b ≤ total_in (lands_inside l) a + c)
+    no_deeper_in : {a b : Sections} → ChangedSections (NoDeeper l c) a b →
+        (total_in (land_of l) b ≡ total_in (land_of l) a) × (total_in (lands_inside l) b ≤ total_in (lands_inside l) a + c)
     no_deeper_in (in_section cases default ends d r) = let h = no_deeper r in (omega arith, omega arith)
     no_deeper_in (in_later cases default ends a r) = let h = no_deeper_in r in (omega arith, omega arith)

@@ -72,32 +72,43 @@ moved_skeleton (M.lifted m x t z) h k =
     skeleton-one (Do (Then (Leap m) (Then x t)) (On m)) ∙ ap (join (skeleton_of x)) (sym (skeleton-join t (one (Leap m)) ∙ join-nil (skeleton t)))
 moved_skeleton (M.out_then m t a b c) h k =
     leaving m (If t (join a (Then (Leap m) b)) c) (If t (join a (guarded m b)) c)
-    (plain_if t (join a (guarded m b)) c k.0.1 ∙ ap (λ z. if_skeleton (test_source t) z (skeleton c)) (skeleton-left m a b) ∙ sym (plain_if t (join a (Then (Leap m) b)) c h.0.1))
+    (plain_if t (join a (guarded m b)) c k.0.1 ∙ ap (λ z. if_skeleton (test_source t) z (skeleton c)) (skeleton-left m a b) ∙
+    sym (plain_if t (join a (Then (Leap m) b)) c h.0.1))
 moved_skeleton (M.out_else m t a b c) h k =
     leaving m (If t c (join a (Then (Leap m) b))) (If t c (join a (guarded m b)))
-    (plain_if t c (join a (guarded m b)) k.0.1 ∙ ap (if_skeleton (test_source t) (skeleton c)) (skeleton-left m a b) ∙ sym (plain_if t c (join a (Then (Leap m) b)) h.0.1))
+    (plain_if t c (join a (guarded m b)) k.0.1 ∙ ap (if_skeleton (test_source t) (skeleton c)) (skeleton-left m a b) ∙
+    sym (plain_if t c (join a (Then (Leap m) b)) h.0.1))
 moved_skeleton (M.out_while m t a b) h k =
     leaving m (While t (join a (Then (Leap m) b))) (While (AndOff m t) (join a (guarded m b))) (ap (λ z. one (While (reduced t) z)) (skeleton-left m a b))
 moved_skeleton (M.out_do m t a b) h k =
     leaving m (Do (join a (Then (Leap m) b)) t) (Do (join a (guarded m b)) (AndOff m t)) (ap (do_skeleton (test_source t)) (skeleton-left m a b))
-moved_skeleton (M.out_switch m s {c = c} {d = d} r) h k = leaving m (Switch s c) (Switch s d) (ap (λ z. one (Switch (reduced_selector s) z)) (skeleton-sections_left m r))
-moved_skeleton (M.in_then m t u a b z) h k = entering m t (If u a b) (If (OrOn m u) (Then (Leap m) a) b) (sym (plain_if u a b (everywhere_back IsConverted t (one (If u a b)) h.1).0.1))
-moved_skeleton (M.in_else m t u a b z) h k = entering m t (If u a b) (If (AndOff m u) a (Then (Leap m) b)) (sym (plain_if u a b (everywhere_back IsConverted t (one (If u a b)) h.1).0.1))
+moved_skeleton (M.out_switch m s {c = c} {d = d} r) h k = leaving m (Switch s c) (Switch s d)
+    (ap (λ z. one (Switch (reduced_selector s) z)) (skeleton-sections_left m r))
+moved_skeleton (M.in_then m t u a b z) h k = entering m t (If u a b) (If (OrOn m u) (Then (Leap m) a) b)
+    (sym (plain_if u a b (everywhere_back IsConverted t (one (If u a b)) h.1).0.1))
+moved_skeleton (M.in_else m t u a b z) h k = entering m t (If u a b) (If (AndOff m u) a (Then (Leap m) b))
+    (sym (plain_if u a b (everywhere_back IsConverted t (one (If u a b)) h.1).0.1))
 moved_skeleton (M.in_while m t u a z) h k = entering m t (While u a) (While (OrOn m u) (Then (Leap m) a)) refl
 moved_skeleton (M.in_do m t u a z) h k = entering m t (Do a u) (Do (Then (Leap m) a) u) refl
-moved_skeleton (M.in_switch m t s j n {c = c} {d = d} r p) h k = entering m t (Switch s c) (Switch (Pick m n s) d) (ap (λ z. one (Switch (reduced_selector s) z)) (skeleton-entered m j r))
+moved_skeleton (M.in_switch m t s j n {c = c} {d = d} r p) h k = entering m t (Switch s c) (Switch (Pick m n s) d)
+    (ap (λ z. one (Switch (reduced_selector s) z)) (skeleton-entered m j r))
 
-module _ (R : Forest → Forest → Type 0) (kept : (xs ys : Forest) → R xs ys → Everywhere IsConverted xs → Everywhere IsConverted ys → skeleton ys ≡ skeleton xs) where
+module _ (R : Forest → Forest → Type 0) (kept : (xs ys : Forest) → R xs ys → Everywhere IsConverted xs → Everywhere IsConverted ys →
+    skeleton ys ≡ skeleton xs) where
   mutual
     pub changed_skeleton : {xs ys : Forest} → Changed R xs ys → Everywhere IsConverted xs → Everywhere IsConverted ys → skeleton ys ≡ skeleton xs
     changed_skeleton (here {xs = xs} {ys = ys} r) h k = kept xs ys r h k
     changed_skeleton (within a b {xs = xs} {ys = ys} c) h k =
-        let inner = changed_skeleton c (everywhere_front IsConverted xs b (everywhere_back IsConverted a (join xs b) h)) (everywhere_front IsConverted ys b (everywhere_back IsConverted a (join ys b) k)) in
-        skeleton-join a (join ys b) ∙ ap (join (skeleton a)) (skeleton-join ys b ∙ ap (λ z. join z (skeleton b)) inner ∙ sym (skeleton-join xs b)) ∙ sym (skeleton-join a (join xs b))
+        let inner = changed_skeleton c (everywhere_front IsConverted xs b (everywhere_back IsConverted a (join xs b) h))
+        (everywhere_front IsConverted ys b (everywhere_back IsConverted a (join ys b) k)) in
+        skeleton-join a (join ys b) ∙ ap (join (skeleton a)) (skeleton-join ys b ∙ ap (λ z. join z (skeleton b)) inner ∙ sym (skeleton-join xs b)) ∙
+        sym (skeleton-join a (join xs b))
     changed_skeleton (in_then t b {xs = xs} {ys = ys} c) h k =
-        ap (λ z. join z Nil) (plain_if t ys b k.0.1 ∙ ap (λ z. if_skeleton (test_source t) z (skeleton b)) (changed_skeleton c h.0.1 k.0.1) ∙ sym (plain_if t xs b h.0.1))
+        ap (λ z. join z Nil) (plain_if t ys b k.0.1 ∙ ap (λ z. if_skeleton (test_source t) z (skeleton b)) (changed_skeleton c h.0.1 k.0.1) ∙
+        sym (plain_if t xs b h.0.1))
     changed_skeleton (in_else t a {xs = xs} {ys = ys} c) h k =
-        ap (λ z. join z Nil) (plain_if t a ys k.0.1 ∙ ap (if_skeleton (test_source t) (skeleton a)) (changed_skeleton c h.0.2 k.0.2) ∙ sym (plain_if t a xs h.0.1))
+        ap (λ z. join z Nil) (plain_if t a ys k.0.1 ∙ ap (if_skeleton (test_source t) (skeleton a)) (changed_skeleton c h.0.2 k.0.2) ∙
+        sym (plain_if t a xs h.0.1))
     changed_skeleton (in_while t c) h k = ap (λ z. one (While (reduced t) z)) (changed_skeleton c h.0.1 k.0.1)
     changed_skeleton (in_do t c) h k = ap (λ z. join (do_skeleton (test_source t) z) Nil) (changed_skeleton c h.0.1 k.0.1)
     changed_skeleton (in_for f t u c) h k = ap (λ z. one (For (skeleton f) t u z)) (changed_skeleton c h.0.2 k.0.2)

@@ -60,15 +60,18 @@ bound-close (suc n) (suc b) f e h = omega arith
 
 -- the parts of the bound, where the Leap's list is known
 abbrev left_in : ℕ → List Item → Path → List Item → ℕ
-left_in l body at a = bound_by (lands l (trees_of a)) (lands l (trees_of (take at.item a))) (length at.steps + levels l (trees_of body) + 3) (levels l (trees_of a))
+left_in l body at a = bound_by (lands l (trees_of a)) (lands l (trees_of (take at.item a))) (length at.steps + levels l (trees_of body) + 3)
+    (levels l (trees_of a))
 
 left_is : (l : ℕ) (body : List Item) (at : Path) (a : List Item) → list_at body at.steps ≡ Some a → moves_left l body at ≡ left_in l body at a
 left_is l body at a e = ap (left_in l body at) (there_is body at.steps a e)
 
-pub left_most : (l : ℕ) (body : List Item) (at : Path) (a : List Item) → list_at body at.steps ≡ Some a → moves_left l body at ≤ length at.steps + levels l (trees_of body) + 3
+pub left_most : (l : ℕ) (body : List Item) (at : Path) (a : List Item) → list_at body at.steps ≡ Some a →
+    moves_left l body at ≤ length at.steps + levels l (trees_of body) + 3
 left_most l body at a e =
     let h = list_total (lands_inside l) body at.steps a e in
-    let m = bound-most (lands l (trees_of a)) (lands l (trees_of (take at.item a))) (length at.steps + levels l (trees_of body) + 3) (levels l (trees_of a)) (omega (arith, h)) in
+    let m = bound-most (lands l (trees_of a)) (lands l (trees_of (take at.item a))) (length at.steps + levels l (trees_of body) + 3)
+    (levels l (trees_of a)) (omega (arith, h)) in
     let s = left_is l body at a e in
     omega (arith, m, s)
 
@@ -87,7 +90,8 @@ levels-leap l a =
     omega (arith, e, t)
 
 -- where the Leap stands first in its list, and that has a Land
-left_first : (l : ℕ) (q : Point) (a : List Item) → list_at q.body q.at.steps ≡ Some (Leap l ∷ a) → q.at.item ≡ 0 → 0 < lands l (trees_of a) → moves_left l q.body q.at ≡ levels l (trees_of a) + 1
+left_first : (l : ℕ) (q : Point) (a : List Item) → list_at q.body q.at.steps ≡ Some (Leap l ∷ a) → q.at.item ≡ 0 → 0 < lands l (trees_of a) →
+    moves_left l q.body q.at ≡ levels l (trees_of a) + 1
 left_first l q a e z h =
     let p = left_is l q.body q.at (Leap l ∷ a) e in
     let f = length q.at.steps + levels l (trees_of q.body) + 3 in
@@ -101,7 +105,8 @@ first_dropped [] j x e = cc
 first_dropped (y ∷ ys) zero x e = e
 first_dropped (y ∷ ys) (suc j) x e = first_dropped ys j x e
 
-pub range_held : (l : ℕ) (a : List Item) (j i : ℕ) (x : Item) → j < i → slice_get a j ≡ Some x → 0 < lands_of l (tree_of x) → 0 < lands l (trees_of (slice_range a j i))
+pub range_held : (l : ℕ) (a : List Item) (j i : ℕ) (x : Item) → j < i → slice_get a j ≡ Some x → 0 < lands_of l (tree_of x) →
+    0 < lands l (trees_of (slice_range a j i))
 range_held l a j i x h e p =
     let k : 0 < i - j = omega arith in
     let s = early_total (land_of l) (drop j a) (i - j) 0 x k (first_dropped a j x e) in
@@ -119,7 +124,8 @@ lift_fewer l p q h =
     let u = take_total (land_of l) t.list p.at.item in
     let old =
     left_is l p.body p.at t.list t.list_is
-    ∙ bound-lift (lands l (trees_of t.list)) (lands l (trees_of (take p.at.item t.list))) (length p.at.steps + levels l (trees_of p.body) + 3) (levels l (trees_of t.list)) (omega (arith, x, s, u)) (omega (arith, x, s)) in
+    ∙ bound-lift (lands l (trees_of t.list)) (lands l (trees_of (take p.at.item t.list))) (length p.at.steps + levels l (trees_of p.body) + 3)
+    (levels l (trees_of t.list)) (omega (arith, x, s, u)) (omega (arith, x, s)) in
     let r = total-range (lands_inside l) t.list h.place p.at.item in
     omega (arith, new, old, r)
 
@@ -135,12 +141,14 @@ in_fewer l p q h =
     let e = element_total (lands_inside l) t.list h.place t.item h.branch t.inner t.item_is t.inner_is in
     let d = element_total (land_of l) t.list h.place t.item h.branch t.inner t.item_is t.inner_is in
     let old = left_is l p.body p.at t.list t.list_is in
-    let least = bound-least (lands l (trees_of t.list)) (lands l (trees_of (take p.at.item t.list))) (length p.at.steps + levels l (trees_of p.body) + 3) (levels l (trees_of t.list)) (omega (arith, held, d)) in
+    let least = bound-least (lands l (trees_of t.list)) (lands l (trees_of (take p.at.item t.list)))
+    (length p.at.steps + levels l (trees_of p.body) + 3) (levels l (trees_of t.list)) (omega (arith, held, d)) in
     omega (arith, new, old, least, held, inside, e)
 
 -- rule O
 
-out_changed : (l : ℕ) (p q : Point) (outer : List Step) (last : Step) (t : OutParts l p q outer last) → Changed Moved (trees_of t.list) (trees_of (moved_out l last.item last.branch p.at.item t.list))
+out_changed : (l : ℕ) (p q : Point) (outer : List Step) (last : Step) (t : OutParts l p q outer last) →
+    Changed Moved (trees_of t.list) (trees_of (moved_out l last.item last.branch p.at.item t.list))
 out_changed l p q outer last t = moved_out_changed l last.item p.at.item last.branch t.list t.item t.inner t.item_is t.inner_is t.leap t.branch
 
 -- where the list that the Leap comes to has no Land, no Land is deeper
@@ -167,19 +175,23 @@ out_fewer l p q h one =
     let w = moved_out l h.last.item h.last.branch p.at.item t.list in
     let here = ap (list_at p.body) h.steps ∙ t.all_is in
     let far = length p.at.steps + levels l (trees_of p.body) + 3 in
-    let before = left_is l p.body p.at t.inner here ∙ bound-far (lands l (trees_of t.inner)) (lands l (trees_of (take p.at.item t.inner))) far (levels l (trees_of t.inner)) t.elsewhere in
-    let shorter : length p.at.steps ≡ length q.at.steps + 1 = ap length h.steps ∙ length-append h.outer (h.last ∷ []) ∙ ap (λ (z : List Step). length z + 1) (sym t.steps) in
+    let before = left_is l p.body p.at t.inner here ∙ bound-far (lands l (trees_of t.inner)) (lands l (trees_of (take p.at.item t.inner))) far
+    (levels l (trees_of t.inner)) t.elsewhere in
+    let shorter : length p.at.steps ≡ length q.at.steps + 1 = ap length h.steps ∙ length-append h.outer (h.last ∷ []) ∙
+    ap (λ (z : List Step). length z + 1) (sym t.steps) in
     let there = left_list l p q h.outer h.last t in
     let after = left_is l q.body q.at w there in
     let all = changed_levels l (moves_out_changed l h.outer h.last p.at.item p.body q.body q.at h.moves) in
     let part = list_total (lands_inside l) q.body q.at.steps w there in
     let goal = λ (z : (lands l (trees_of w) ≡ 0) ⊎ (0 < lands l (trees_of w))). elim z as (λ _. moves_left l q.body q.at < moves_left l p.body p.at) [
       | inl e ↦
-          let f = bound-far (lands l (trees_of w)) (lands l (trees_of (take q.at.item w))) (length q.at.steps + levels l (trees_of q.body) + 3) (levels l (trees_of w)) e in
+          let f = bound-far (lands l (trees_of w)) (lands l (trees_of (take q.at.item w))) (length q.at.steps + levels l (trees_of q.body) + 3)
+          (levels l (trees_of w)) e in
           let level = out_level l p q h.outer h.last t e in
           omega (arith, before, shorter, after, f, level)
       | inr k ↦
-          let f = bound-close (lands l (trees_of w)) (lands l (trees_of (take q.at.item w))) (length q.at.steps + levels l (trees_of q.body) + 3) (levels l (trees_of w)) k in
+          let f = bound-close (lands l (trees_of w)) (lands l (trees_of (take q.at.item w))) (length q.at.steps + levels l (trees_of q.body) + 3)
+          (levels l (trees_of w)) k in
           omega (arith, before, shorter, after, f, all, part, one)
     ] in
     goal (cases_zero (lands l (trees_of w)))
@@ -205,12 +217,14 @@ join_some l p new h =
     let s = total-split (land_of l) t.list h.place (Land l) t.land in
     let e = ap (lands_of l) (tree-Land l) ∙ one_land l in
     let old = left_is l p.body p.at t.list t.list_is in
-    let least = bound-least (lands l (trees_of t.list)) (lands l (trees_of (take p.at.item t.list))) (length p.at.steps + levels l (trees_of p.body) + 3) (levels l (trees_of t.list)) (omega (arith, s, e)) in
+    let least = bound-least (lands l (trees_of t.list)) (lands l (trees_of (take p.at.item t.list)))
+    (length p.at.steps + levels l (trees_of p.body) + 3) (levels l (trees_of t.list)) (omega (arith, s, e)) in
     omega (arith, old, least) where
       one_land : (l : ℕ) → lands_of l (T.Land l) ≡ 1
       one_land l = ap (λ b. cond {A = ℕ} b 1 0) (eq-eqb l l refl)
 
-pub all_fewer : (l : ℕ) {n : ℕ} {p q : Point} → Goes l n p q → lands l (trees_of p.body) ≡ 1 → (moves_left l q.body q.at + n ≤ moves_left l p.body p.at) × (lands l (trees_of q.body) ≡ 1)
+pub all_fewer : (l : ℕ) {n : ℕ} {p q : Point} → Goes l n p q → lands l (trees_of p.body) ≡ 1 →
+    (moves_left l q.body q.at + n ≤ moves_left l p.body p.at) × (lands l (trees_of q.body) ≡ 1)
 all_fewer l (stays p) one = (omega arith, one)
 all_fewer l (goes k {p = p} {q = q} m r) one =
     let f = fewer k l p q m one in

@@ -66,7 +66,8 @@ layer_found (O.Switch s cs) = sections_found cs
 layer_found (O.Leap l) = refl
 layer_found _ = refl
 
-section_roll : (z : Real.Section-F Item Section) → section_tree (roll-Section z) ≡ section_layer (Real.map-Section Item Section Tree SectionTree tree_of section_tree z)
+section_roll : (z : Real.Section-F Item Section) → section_tree (roll-Section z) ≡ section_layer
+    (Real.map-Section Item Section Tree SectionTree tree_of section_tree z)
 unfolding section_tree tree_of
 section_roll z = fold-roll-Section Tree SectionTree layer section_layer z
 

@@ -40,7 +40,8 @@ well_made_moved k l p q m w = well_moved (trees_of p.body) (trees_of q.body) (mo
 pub well_made_joined : (l : ℕ) (p : Point) (new : List Item) → IsJoined l p new → IsWellMade (trees_of p.body) → IsWellMade (trees_of new)
 well_made_joined l p new j w = well_moved (trees_of p.body) (trees_of new) (joins_changed l p.at.item j.place p.at.steps p.body new j.moves) w
 
-pub well_made_eliminated : (l : ℕ) {p : Point} {ms : List Kept} {new : List Item} → Eliminates l p ms new → IsWellMade (trees_of p.body) → IsWellMade (trees_of new)
+pub well_made_eliminated : (l : ℕ) {p : Point} {ms : List Kept} {new : List Item} → Eliminates l p ms new → IsWellMade (trees_of p.body) →
+    IsWellMade (trees_of new)
 well_made_eliminated l (joins p new j) w = well_made_joined l p new j w
 well_made_eliminated l (moves k p q ms new m e) w = well_made_eliminated l e (well_made_moved k l p q m w)
 
@@ -54,7 +55,8 @@ record Same (ms ns : List Kept) (a b : List Item) : Type 0 where
   moves_same : ms ≡ ns
   body_same : a ≡ b
 
-one_elimination : (l : ℕ) {p q : Point} {ms ns : List Kept} {a b : List Item} → Eliminates l p ms a → Eliminates l q ns b → p ≡ q → IsWellMade (trees_of p.body) → Same ms ns a b
+one_elimination : (l : ℕ) {p q : Point} {ms ns : List Kept} {a b : List Item} → Eliminates l p ms a → Eliminates l q ns b → p ≡ q →
+    IsWellMade (trees_of p.body) → Same ms ns a b
 one_elimination l (joins p new j) (joins q other i) e w =
     let one = one_land p.body w l p.at j.moves.applies.leap in
     let i' = subst (λ (z : Point). IsJoined l z other) (sym e) i in
@@ -73,7 +75,8 @@ one_elimination l (moves k p r ms new m d) (moves j q s ns other n f) e w =
     let same = one_move l p one k j r s m (subst (λ (z : Point). MovesBy j l z s) (sym e) n) in
     let rest = one_elimination l d f same.1 (well_made_moved k l p r m w) in
     record {
-      moves_same = ap₂ (λ (z : Kept) (t : List Kept). z ∷ t) (ap₂ (λ (a : MoveKind) (z : Point). record { kind = a; label = l; path = z.at }) same.0 e) rest.moves_same;
+      moves_same = ap₂ (λ (z : Kept) (t : List Kept). z ∷ t)
+          (ap₂ (λ (a : MoveKind) (z : Point). record { kind = a; label = l; path = z.at }) same.0 e) rest.moves_same;
       body_same = rest.body_same;
     }
 

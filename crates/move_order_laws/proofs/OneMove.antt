@@ -36,13 +36,15 @@ use Rattle.move_order_laws.proofs.Parts.{same_list, there_is, join_parts, lift_p
 
 -- two elements of a list, each of which is the one Land or holds it
 
-early : (l : ℕ) (a : List Item) (j k : ℕ) (x y : Item) → slice_get a j ≡ Some x → slice_get a k ≡ Some y → 0 < lands_of l (tree_of x) → 0 < lands_of l (tree_of y) → lands l (trees_of a) ≤ 1 → j < k → ⊥
+early : (l : ℕ) (a : List Item) (j k : ℕ) (x y : Item) → slice_get a j ≡ Some x → slice_get a k ≡ Some y → 0 < lands_of l (tree_of x) →
+    0 < lands_of l (tree_of y) → lands l (trees_of a) ≤ 1 → j < k → ⊥
 early l a j k x y e f p q one h =
     let s = total-split (land_of l) a k y f in
     let t = early_total (land_of l) a k j x h e in
     omega (arith, s, t, p, q, one)
 
-one_place : (l : ℕ) (a : List Item) (j k : ℕ) (x y : Item) → slice_get a j ≡ Some x → slice_get a k ≡ Some y → 0 < lands_of l (tree_of x) → 0 < lands_of l (tree_of y) → lands l (trees_of a) ≤ 1 → j ≡ k
+one_place : (l : ℕ) (a : List Item) (j k : ℕ) (x y : Item) → slice_get a j ≡ Some x → slice_get a k ≡ Some y → 0 < lands_of l (tree_of x) →
+    0 < lands_of l (tree_of y) → lands l (trees_of a) ≤ 1 → j ≡ k
 one_place l a j k x y e f p q one = elim (cases_lt j k) [
   | inl h ↦ absurd (early l a j k x y e f p q one h)
   | inr h ↦ elim (cases_lt k j) [
@@ -166,22 +168,28 @@ one_out l p q r h g =
 
 -- rule I: the branch, and what the number does
 
-section_lands : (l : ℕ) (c : Section) (cs : List Section) → total_in (land_of l) (sections_of (c ∷ cs)) ≡ lands l (trees_of (list_of c)) + total_in (land_of l) (sections_of cs)
-section_lands l c cs = ap (total_in (land_of l)) (sections-more c cs) ∙ ap (λ (z : SectionTree). lands l z.list + total_in (land_of l) (sections_of cs)) (section-parts c)
+section_lands : (l : ℕ) (c : Section) (cs : List Section) → total_in (land_of l) (sections_of (c ∷ cs)) ≡ lands l (trees_of (list_of c)) + total_in
+    (land_of l) (sections_of cs)
+section_lands l c cs = ap (total_in (land_of l)) (sections-more c cs) ∙
+    ap (λ (z : SectionTree). lands l z.list + total_in (land_of l) (sections_of cs)) (section-parts c)
 
-section_some : (l : ℕ) (cs : List Section) (k : ℕ) (a : List Item) → option_map list_of (slice_get cs k) ≡ Some a → lands l (trees_of a) ≤ total_in (land_of l) (sections_of cs)
+section_some : (l : ℕ) (cs : List Section) (k : ℕ) (a : List Item) → option_map list_of (slice_get cs k) ≡ Some a →
+    lands l (trees_of a) ≤ total_in (land_of l) (sections_of cs)
 section_some l [] k a e = cc
 section_some l (c ∷ cs) zero a e = let h : list_of c ≡ a = cc in let g = ap (λ z. lands l (trees_of z)) h in let m = section_lands l c cs in omega (arith, g, m)
 section_some l (c ∷ cs) (suc k) a e = let m = section_lands l c cs in let h = section_some l cs k a e in omega (arith, m, h)
 
-one_section : (l : ℕ) (cs : List Section) (j k : ℕ) (a c : List Item) → option_map list_of (slice_get cs j) ≡ Some a → option_map list_of (slice_get cs k) ≡ Some c → 0 < lands l (trees_of a) → 0 < lands l (trees_of c)
+one_section : (l : ℕ) (cs : List Section) (j k : ℕ) (a c : List Item) → option_map list_of (slice_get cs j) ≡ Some a →
+    option_map list_of (slice_get cs k) ≡ Some c → 0 < lands l (trees_of a) → 0 < lands l (trees_of c)
     → total_in (land_of l) (sections_of cs) ≤ 1 → j ≡ k
 one_section l [] j k a c e f p q one = cc
 one_section l (x ∷ cs) zero zero a c e f p q one = refl
 one_section l (x ∷ cs) zero (suc k) a c e f p q one =
-    let h : list_of x ≡ a = cc in let g = ap (λ z. lands l (trees_of z)) h in let m = section_lands l x cs in let n = section_some l cs k c f in absurd (omega (arith, g, m, n, p, q, one))
+    let h : list_of x ≡ a = cc in let g = ap (λ z. lands l (trees_of z)) h in let m = section_lands l x cs in let n = section_some l cs k c f in
+    absurd (omega (arith, g, m, n, p, q, one))
 one_section l (x ∷ cs) (suc j) zero a c e f p q one =
-    let h : list_of x ≡ c = cc in let g = ap (λ z. lands l (trees_of z)) h in let m = section_lands l x cs in let n = section_some l cs j a e in absurd (omega (arith, g, m, n, p, q, one))
+    let h : list_of x ≡ c = cc in let g = ap (λ z. lands l (trees_of z)) h in let m = section_lands l x cs in let n = section_some l cs j a e in
+    absurd (omega (arith, g, m, n, p, q, one))
 one_section l (x ∷ cs) (suc j) (suc k) a c e f p q one = let m = section_lands l x cs in ap suc (one_section l cs j k a c e f p q (omega (arith, m, one)))
 
 while_body : (b : Branch) (t : Test) (x : List Item) → HasBranch_F b (O.While t x) → b ≡ B.Body
@@ -196,14 +204,17 @@ do_body B.Then t x h = absurd h
 do_body B.Else t x h = absurd h
 do_body (B.Section k) t x h = absurd h
 
-if_branch : (l : ℕ) (b d : Branch) (t : Test) (x z a c : List Item) → child_F b (O.If t x z) ≡ Some a → child_F d (O.If t x z) ≡ Some c → 0 < lands l (trees_of a) → 0 < lands l (trees_of c)
+if_branch : (l : ℕ) (b d : Branch) (t : Test) (x z a c : List Item) → child_F b (O.If t x z) ≡ Some a → child_F d (O.If t x z) ≡ Some c →
+    0 < lands l (trees_of a) → 0 < lands l (trees_of c)
     → lands l (trees_of x) + lands l (trees_of z) ≤ 1 → b ≡ d
 if_branch l B.Then B.Then t x z a c e f p q one = refl
 if_branch l B.Else B.Else t x z a c e f p q one = refl
 if_branch l B.Then B.Else t x z a c e f p q one =
-    let g : x ≡ a = cc in let h : z ≡ c = cc in let m = ap (λ w. lands l (trees_of w)) g in let n = ap (λ w. lands l (trees_of w)) h in absurd (omega (arith, m, n, p, q, one))
+    let g : x ≡ a = cc in let h : z ≡ c = cc in let m = ap (λ w. lands l (trees_of w)) g in let n = ap (λ w. lands l (trees_of w)) h in
+    absurd (omega (arith, m, n, p, q, one))
 if_branch l B.Else B.Then t x z a c e f p q one =
-    let g : x ≡ c = cc in let h : z ≡ a = cc in let m = ap (λ w. lands l (trees_of w)) g in let n = ap (λ w. lands l (trees_of w)) h in absurd (omega (arith, m, n, p, q, one))
+    let g : x ≡ c = cc in let h : z ≡ a = cc in let m = ap (λ w. lands l (trees_of w)) g in let n = ap (λ w. lands l (trees_of w)) h in
+    absurd (omega (arith, m, n, p, q, one))
 if_branch l B.Body d t x z a c e f p q one = cc
 if_branch l (B.Section k) d t x z a c e f p q one = cc
 if_branch l B.Then B.Body t x z a c e f p q one = cc
@@ -211,7 +222,8 @@ if_branch l B.Then (B.Section k) t x z a c e f p q one = cc
 if_branch l B.Else B.Body t x z a c e f p q one = cc
 if_branch l B.Else (B.Section k) t x z a c e f p q one = cc
 
-switch_branch : (l : ℕ) (b d : Branch) (s : Selector) (cs : List Section) (a c : List Item) → child_F b (O.Switch s cs) ≡ Some a → child_F d (O.Switch s cs) ≡ Some c → 0 < lands l (trees_of a) → 0 < lands l (trees_of c)
+switch_branch : (l : ℕ) (b d : Branch) (s : Selector) (cs : List Section) (a c : List Item) → child_F b (O.Switch s cs) ≡ Some a →
+    child_F d (O.Switch s cs) ≡ Some c → 0 < lands l (trees_of a) → 0 < lands l (trees_of c)
     → total_in (land_of l) (sections_of cs) ≤ 1 → b ≡ d
 switch_branch l (B.Section j) (B.Section k) s cs a c e f p q one = ap B.Section (one_section l cs j k a c e f p q one)
 switch_branch l (B.Section j) B.Body s cs a c e f p q one = cc
@@ -221,7 +233,8 @@ switch_branch l B.Body d s cs a c e f p q one = cc
 switch_branch l B.Then d s cs a c e f p q one = cc
 switch_branch l B.Else d s cs a c e f p q one = cc
 
-layer_branch : (l : ℕ) (y : Item-F Item Section) (b d : Branch) (a c : List Item) → child_F b y ≡ Some a → child_F d y ≡ Some c → 0 < lands l (trees_of a) → 0 < lands l (trees_of c) → lands_inside l (layer_tree y) ≤ 1
+layer_branch : (l : ℕ) (y : Item-F Item Section) (b d : Branch) (a c : List Item) → child_F b y ≡ Some a → child_F d y ≡ Some c →
+    0 < lands l (trees_of a) → 0 < lands l (trees_of c) → lands_inside l (layer_tree y) ≤ 1
     → HasBranch_F b y → HasBranch_F d y → b ≡ d
 unfolding trees_of sections_of
 layer_branch l (O.If t x z) b d a c e f p q one u v = if_branch l b d t x z a c e f p q (omega (arith, one))
@@ -233,7 +246,8 @@ layer_branch l _ B.Then d a c e f p q one u v = absurd u
 layer_branch l _ B.Else d a c e f p q one u v = absurd u
 layer_branch l _ (B.Section k) d a c e f p q one u v = absurd u
 
-one_branch : (l : ℕ) (x : Item) (b d : Branch) (a c : List Item) → child b x ≡ Some a → child d x ≡ Some c → 0 < lands l (trees_of a) → 0 < lands l (trees_of c) → lands_inside l (tree_of x) ≤ 1
+one_branch : (l : ℕ) (x : Item) (b d : Branch) (a c : List Item) → child b x ≡ Some a → child d x ≡ Some c → 0 < lands l (trees_of a) →
+    0 < lands l (trees_of c) → lands_inside l (tree_of x) ≤ 1
     → HasBranch b x → HasBranch d x → b ≡ d
 one_branch l x b d a c e f p q one u v = layer_branch l (out-Item x) b d a c e f p q (subst (λ t. lands_inside l t ≤ 1) (tree-out x) one) u v
 
@@ -255,11 +269,13 @@ one_number : (k : IntKind) (c : Sections) (cases : List ExpressionTree) (n m : �
 one_number k c [] n m f g = one_free k c n m f g
 one_number k c (e ∷ es) n m f g = some_same (sym f ∙ g)
 
-some_number : (o : Option IntKind) (c : Sections) (cases : List ExpressionTree) (n m : ℤ) → IsSomeAnd o (λ k. IsNumberFor k c cases n) → IsSomeAnd o (λ k. IsNumberFor k c cases m) → n ≡ m
+some_number : (o : Option IntKind) (c : Sections) (cases : List ExpressionTree) (n m : ℤ) → IsSomeAnd o (λ k. IsNumberFor k c cases n) →
+    IsSomeAnd o (λ k. IsNumberFor k c cases m) → n ≡ m
 some_number None c cases n m f g = absurd f
 some_number (Some k) c cases n m f g = one_number k c cases n m f g
 
-layer_entered : (l : ℕ) (b : Branch) (n m : ℤ) (y : Item-F Item Section) → HasBranch_F b y → SelectsBranch b n (layer_tree y) → SelectsBranch b m (layer_tree y) → entered_F l n b y ≡ entered_F l m b y
+layer_entered : (l : ℕ) (b : Branch) (n m : ℤ) (y : Item-F Item Section) → HasBranch_F b y → SelectsBranch b n (layer_tree y) →
+    SelectsBranch b m (layer_tree y) → entered_F l n b y ≡ entered_F l m b y
 unfolding trees_of sections_of
 layer_entered l B.Then n m (O.If t x z) h p q = refl
 layer_entered l B.Else n m (O.If t x z) h p q = refl
@@ -270,13 +286,16 @@ layer_entered l (B.Section k) n m (O.Switch s cs) h p q =
     ap (λ z. entered_F l z (B.Section k) (O.Switch s cs)) (some_number (selector_kind (selector_tree s)) c (cases_at k c) n m p q)
 layer_entered l _ n m _ h p q = absurd h
 
-same_entered : (l : ℕ) (b : Branch) (n m : ℤ) (x : Item) → HasBranch b x → SelectsBranch b n (tree_of x) → SelectsBranch b m (tree_of x) → entered l n b x ≡ entered l m b x
+same_entered : (l : ℕ) (b : Branch) (n m : ℤ) (x : Item) → HasBranch b x → SelectsBranch b n (tree_of x) → SelectsBranch b m (tree_of x) →
+    entered l n b x ≡ entered l m b x
 same_entered l b n m x h p q =
     ap roll-Item (layer_entered l b n m (out-Item x) h (subst (SelectsBranch b n) (tree-out x) p) (subst (SelectsBranch b m) (tree-out x) q))
 
-same_moved_in : (l : ℕ) (n m : ℤ) (i j : ℕ) (b : Branch) (xs : List Item) (x : Item) → slice_get xs j ≡ Some x → HasBranch b x → SelectsBranch b n (tree_of x) → SelectsBranch b m (tree_of x) → moved_in l n i j b xs ≡ moved_in l m i j b xs
+same_moved_in : (l : ℕ) (n m : ℤ) (i j : ℕ) (b : Branch) (xs : List Item) (x : Item) → slice_get xs j ≡ Some x → HasBranch b x →
+    SelectsBranch b n (tree_of x) → SelectsBranch b m (tree_of x) → moved_in l n i j b xs ≡ moved_in l m i j b xs
 same_moved_in l n m i j b xs x e h p q =
-    moved_in_is l n i j b xs x e ∙ ap (λ z. take i xs ++ guarded l (slice_range xs (i + 1) j) ++ z ∷ drop (j + 1) xs) (same_entered l b n m x h p q) ∙ sym (moved_in_is l m i j b xs x e)
+    moved_in_is l n i j b xs x e ∙ ap (λ z. take i xs ++ guarded l (slice_range xs (i + 1) j) ++ z ∷ drop (j + 1) xs) (same_entered l b n m x h p q) ∙
+    sym (moved_in_is l m i j b xs x e)
 
 module _ (l : ℕ) (p : Point) (one : lands l (trees_of p.body) ≡ 1) where
   one_lift : (q r : Point) → IsLifted l p q → IsLifted l p r → q ≡ r

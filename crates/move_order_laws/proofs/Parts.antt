@@ -33,11 +33,13 @@ there_is xs steps a e = ap (λ o. unwrap_or o []) e
 pub same_list : (xs : List Item) (steps : List Step) (a b : List Item) → list_at xs steps ≡ Some a → list_at xs steps ≡ Some b → b ≡ a
 same_list xs steps a b e f = some_same (sym f ∙ e)
 
-item_there : (xs : List Item) (steps : List Step) (i : ℕ) (a : List Item) (x : Item) → list_at xs steps ≡ Some a → slice_get a i ≡ Some x → item_at xs steps i ≡ Some x
+item_there : (xs : List Item) (steps : List Step) (i : ℕ) (a : List Item) (x : Item) → list_at xs steps ≡ Some a → slice_get a i ≡ Some x →
+    item_at xs steps i ≡ Some x
 item_there xs steps i a x e f = ap (option_and_then (λ a. slice_get a i)) e ∙ f
 
 -- the item at a place of a list that is known
-item_in : (xs : List Item) (steps : List Step) (i : ℕ) (a : List Item) (x : Item) → list_at xs steps ≡ Some a → item_at xs steps i ≡ Some x → slice_get a i ≡ Some x
+item_in : (xs : List Item) (steps : List Step) (i : ℕ) (a : List Item) (x : Item) → list_at xs steps ≡ Some a → item_at xs steps i ≡ Some x →
+    slice_get a i ≡ Some x
 item_in xs steps i a x e f = sym (ap (option_and_then (λ a. slice_get a i)) e) ∙ f
 
 pub get_middle : {A : Type 0} (xs ys : List A) (x : A) (n : ℕ) → length xs ≡ n → slice_get (xs ++ x ∷ ys) n ≡ Some x
@@ -128,7 +130,13 @@ ends xs [] last a e =
 ends xs (s ∷ steps) last a e =
     let t = stepped xs s (steps ++ last ∷ []) a e in
     let r = ends t.inner steps last a t.rest in
-    record { list = r.list; item = r.item; list_is = list_step xs s steps t.item t.inner t.item_is t.inner_is ∙ r.list_is; item_is = r.item_is; child_is = r.child_is }
+    record {
+      list = r.list;
+      item = r.item;
+      list_is = list_step xs s steps t.item t.inner t.item_is t.inner_is ∙ r.list_is;
+      item_is = r.item_is;
+      child_is = r.child_is;
+    }
 
 -- what holds of the item at a path
 holds_of : (P : Item → Type 0) (xs : List Item) (steps : List Step) (i : ℕ) (x : Item) → item_at xs steps i ≡ Some x → Holds P (item_at xs steps i) → P x
@@ -164,7 +172,8 @@ out_parts l p q h =
       inner_is = r.child_is;
       all_is = s.list_is;
       leap = s.item_is;
-      branch = holds_of (HasBranch h.last.branch) p.body h.outer h.last.item r.item (item_there p.body h.outer h.last.item r.list r.item r.list_is r.item_is) h.moves.applies.construct;
+      branch = holds_of (HasBranch h.last.branch) p.body h.outer h.last.item r.item
+          (item_there p.body h.outer h.last.item r.list r.item r.list_is r.item_is) h.moves.applies.construct;
       elsewhere = ap (λ z. lands l (trees_of z)) (sym (there_is p.body (h.outer ++ h.last ∷ []) s.list s.list_is)) ∙ h.moves.applies.elsewhere;
       body = h.moves.body ∙ ap (λ a. put_at p.body h.outer (moved_out l h.last.item h.last.branch p.at.item a)) (there_is p.body h.outer r.list r.list_is);
       steps = ap (λ (z : Path). z.steps) h.moves.path;
@@ -210,13 +219,15 @@ in_parts l p q h =
       body = h.moves.body ∙ ap (λ a. put_at p.body p.at.steps (moved_in l h.number p.at.item h.place h.branch a)) (there_is p.body p.at.steps s.list s.list_is);
       steps =
           ap (λ (z : Path). z.steps) h.moves.path
-          ∙ ap (λ a. p.at.steps ++ record { item = p.at.item + length (guarded l (slice_range a (p.at.item + 1) h.place)); branch = h.branch } ∷ []) (there_is p.body p.at.steps s.list s.list_is);
+          ∙ ap (λ a. p.at.steps ++ record { item = p.at.item + length (guarded l (slice_range a (p.at.item + 1) h.place)); branch = h.branch } ∷ [])
+          (there_is p.body p.at.steps s.list s.list_is);
       first = ap (λ (z : Path). z.item) h.moves.path;
     }
 
 -- the list of the Leap after rule I
 
-layer_entered : (l : ℕ) (n : ℤ) (b : Branch) (y : Item-F Item Section) (a : List Item) → child_F b y ≡ Some a → HasBranch_F b y → child_F b (entered_F l n b y) ≡ Some (Leap l ∷ a)
+layer_entered : (l : ℕ) (n : ℤ) (b : Branch) (y : Item-F Item Section) (a : List Item) → child_F b y ≡ Some a → HasBranch_F b y →
+    child_F b (entered_F l n b y) ≡ Some (Leap l ∷ a)
 layer_entered l n B.Then (O.If t x z) a e h = let g : x ≡ a = cc in ap (λ v. Some (Leap l ∷ v)) g
 layer_entered l n B.Else (O.If t x z) a e h = let g : z ≡ a = cc in ap (λ v. Some (Leap l ∷ v)) g
 layer_entered l n B.Body (O.While t x) a e h = let g : x ≡ a = cc in ap (λ v. Some (Leap l ∷ v)) g
@@ -245,7 +256,8 @@ pub entered_at : (l : ℕ) (n : ℤ) (i j : ℕ) (b : Branch) (xs : List Item) (
 entered_at l n i j b xs x h e =
     let mid = guarded l (slice_range xs (i + 1) j) in
     ap (λ z. slice_get z (i + length mid)) (moved_in_is l n i j b xs x e)
-    ∙ get_middle (take i xs ++ mid) (drop (j + 1) xs) (entered l n b x) (i + length mid) (length-append (take i xs) mid ∙ ap (λ z. z + length mid) (length-take-le i xs h))
+    ∙ get_middle (take i xs ++ mid) (drop (j + 1) xs) (entered l n b x) (i + length mid)
+    (length-append (take i xs) mid ∙ ap (λ z. z + length mid) (length-take-le i xs h))
 
 pub entered_list : (l : ℕ) (p q : Point) (n : ℤ) (place : ℕ) (b : Branch) (h : InParts l p q n place b) → list_at q.body q.at.steps ≡ Some (Leap l ∷ h.inner)
 entered_list l p q n place b h =
@@ -255,10 +267,12 @@ entered_list l p q n place b h =
     ap (list_at q.body) h.steps
     ∙ ap (λ z. list_at z (p.at.steps ++ step ∷ [])) h.body
     ∙ list-append (put_at p.body p.at.steps w) p.at.steps (step ∷ []) w (list_put p.body p.at.steps w h.list h.list_is)
-    ∙ list_step w step [] (entered l n b h.item) (Leap l ∷ h.inner) (entered_at l n p.at.item place b h.list h.item (omega arith) h.item_is) (entered_child l n b h.item h.inner h.inner_is h.branch)
+    ∙ list_step w step [] (entered l n b h.item) (Leap l ∷ h.inner) (entered_at l n p.at.item place b h.list h.item (omega arith) h.item_is)
+    (entered_child l n b h.item h.inner h.inner_is h.branch)
 
 -- the list of the Leap after rule O
-pub left_list : (l : ℕ) (p q : Point) (outer : List Step) (last : Step) (h : OutParts l p q outer last) → list_at q.body q.at.steps ≡ Some (moved_out l last.item last.branch p.at.item h.list)
+pub left_list : (l : ℕ) (p q : Point) (outer : List Step) (last : Step) (h : OutParts l p q outer last) →
+    list_at q.body q.at.steps ≡ Some (moved_out l last.item last.branch p.at.item h.list)
 left_list l p q outer last h =
     let w = moved_out l last.item last.branch p.at.item h.list in
     ap (list_at q.body) h.steps ∙ ap (λ z. list_at z outer) h.body ∙ list_put p.body outer w h.list h.list_is

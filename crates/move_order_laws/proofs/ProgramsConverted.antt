@@ -45,8 +45,10 @@ converted_body f a e = ap (λ o. option_map_or trees_of (option_map converted_li
 own_body : (f : Function) (a : List Item) → f.body ≡ Some a → body_of f ≡ trees_of a
 own_body f a e = ap (λ o. option_map_or trees_of o Nil) e
 
-body_kept : (f : Function) (a : List Item) → f.body ≡ Some a → (P : Tree → Type 0) → IsKeptByConversion P → Everywhere P (body_of f) → Everywhere P (body_of (converted f))
-body_kept f a e P k h = subst (Everywhere P) (sym (converted_body f a e ∙ converted_trees a)) (convert_kept P k (trees_of a) (subst (Everywhere P) (own_body f a e) h))
+body_kept : (f : Function) (a : List Item) → f.body ≡ Some a → (P : Tree → Type 0) → IsKeptByConversion P → Everywhere P (body_of f) →
+    Everywhere P (body_of (converted f))
+body_kept f a e P k h = subst (Everywhere P) (sym (converted_body f a e ∙ converted_trees a))
+    (convert_kept P k (trees_of a) (subst (Everywhere P) (own_body f a e) h))
 
 range_kept : (f : Function) (a : List Item) → f.flat ≡ true → f.body ≡ Some a → IsInRange f → IsInRange (converted f)
 range_kept f a flat e h = record {
@@ -95,7 +97,8 @@ converted_steady p q r s =
 -- ---- one function, wherever it stands
 
 module _ (f : Function) where
-  as_converted : (a : List Item) → f.flat ≡ true → f.body ≡ Some a → IsWellMade (trees_of (converted_list a)) → {ts us : List Top} → OneFunctionExchanged f (converted f) ts us → OneFunctionConverted ts us
+  as_converted : (a : List Item) → f.flat ≡ true → f.body ≡ Some a → IsWellMade (trees_of (converted_list a)) → {ts us : List Top} →
+      OneFunctionExchanged f (converted f) ts us → OneFunctionConverted ts us
   as_converted a flat e w (Exchanged.this_function ts) = this_function f a ts flat e w
   as_converted a flat e w (Exchanged.later_function t r) = later_function t (as_converted a flat e w r)
 

@@ -34,10 +34,12 @@ section_list w c = ap (λ (z : SectionTree). z.list) (section-with w c)
 later_first : (c : Section) (cs : List Section) → later_in (sections_of (c ∷ cs)) ≡ max (later (trees_of (list_of c))) (later_in (sections_of cs))
 later_first c cs = ap later_in (sections-more c cs) ∙ ap (λ (z : SectionTree). max (later z.list) (later_in (sections_of cs))) (section-parts c)
 
-section_nesting-with : (w : List Item) (c : Section) (cs : List Section) → nesting_in (sections_of (with_list w c ∷ cs)) ≡ max (nesting (trees_of w)) (nesting_in (sections_of cs))
+section_nesting-with : (w : List Item) (c : Section) (cs : List Section) →
+    nesting_in (sections_of (with_list w c ∷ cs)) ≡ max (nesting (trees_of w)) (nesting_in (sections_of cs))
 section_nesting-with w c cs = ap nesting_in (sections-more (with_list w c) cs) ∙ ap (λ z. max (nesting z) (nesting_in (sections_of cs))) (section_list w c)
 
-chosen_most : (l : ℕ) (e : Bool) (cs : List Section) → nesting_in (sections_of (later_guarded l cs)) ≤ later_in (sections_of cs) → nesting_in (sections_of (cond e cs (later_guarded l cs))) ≤ later_in (sections_of cs)
+chosen_most : (l : ℕ) (e : Bool) (cs : List Section) → nesting_in (sections_of (later_guarded l cs)) ≤ later_in (sections_of cs) →
+    nesting_in (sections_of (cond e cs (later_guarded l cs))) ≤ later_in (sections_of cs)
 chosen_most l true cs h = later_in-more cs
 chosen_most l false cs h = h
 
@@ -59,9 +61,12 @@ nesting_in-append (c ∷ cs) ds =
     let h = nesting_in-append cs ds in
     omega (arith, a, b, h)
 
-layer_left : (l i : ℕ) (b : Branch) (y : Item-F Item Section) (a : List Item) → child_F b y ≡ Some a → HasBranch_F b y → nesting_of (layer_tree (left_F l b i y)) ≤ beside_F b (at_leap a i) y
+layer_left : (l i : ℕ) (b : Branch) (y : Item-F Item Section) (a : List Item) → child_F b y ≡ Some a → HasBranch_F b y →
+    nesting_of (layer_tree (left_F l b i y)) ≤ beside_F b (at_leap a i) y
 unfolding trees_of sections_of
-layer_left l i B.Then (O.If t x z) a e h = let g : x ≡ a = cc in let r = nesting-rest l i x ∙ ap (λ w. at_leap w i) g in let k = later_more (trees_of z) in omega (arith, r, k)
+layer_left l i B.Then (O.If t x z) a e h = let g : x ≡ a = cc in let r = nesting-rest l i x ∙ ap (λ w. at_leap w i) g in let k =
+    later_more
+    (trees_of z) in omega (arith, r, k)
 layer_left l i B.Else (O.If t x z) a e h = let g : z ≡ a = cc in let r = nesting-rest l i z ∙ ap (λ w. at_leap w i) g in omega (arith, r)
 layer_left l i B.Body (O.While t x) a e h = let g : x ≡ a = cc in let r = nesting-rest l i x ∙ ap (λ w. at_leap w i) g in omega (arith, r)
 layer_left l i B.Body (O.Do x t) a e h = let g : x ≡ a = cc in let r = nesting-rest l i x ∙ ap (λ w. at_leap w i) g in omega (arith, r)
@@ -77,8 +82,10 @@ layer_left l i (B.Section k) (O.Switch s cs) a e h =
     omega (arith, d, p, q, r, m)
 layer_left l i _ _ a e h = absurd h
 
-item_left : (l i : ℕ) (b : Branch) (x : Item) (a : List Item) → child b x ≡ Some a → HasBranch b x → nesting_of (tree_of (left l b i x)) ≤ beside b (at_leap a i) x
-item_left l i b x a e h = subst (λ t. nesting_of t ≤ beside b (at_leap a i) x) (sym (tree-roll (left_F l b i (out-Item x)))) (layer_left l i b (out-Item x) a e h)
+item_left : (l i : ℕ) (b : Branch) (x : Item) (a : List Item) → child b x ≡ Some a → HasBranch b x →
+    nesting_of (tree_of (left l b i x)) ≤ beside b (at_leap a i) x
+item_left l i b x a e h = subst (λ t. nesting_of t ≤ beside b (at_leap a i) x) (sym (tree-roll (left_F l b i (out-Item x))))
+    (layer_left l i b (out-Item x) a e h)
 
 out_reach_here : (l i k : ℕ) (b : Branch) (xs : List Item) (x : Item) (a : List Item) → slice_get xs k ≡ Some x → child b x ≡ Some a → HasBranch b x
     → at_leap (moved_out l k b i xs) (k + 1) ≤ around_element xs k (beside b (at_leap a i) x)
@@ -86,12 +93,15 @@ out_reach_here l i k b xs x a e f h =
     let n = slice_get_within xs k x e in
     let back = drop (k + 1) xs in
     let x' = left l b i x in
-    let made : moved_out l k b i xs ≡ take k xs ++ x' ∷ (Leap l ∷ back) = ap (λ o. option_map_or (λ x. take k xs ++ left l b i x ∷ Leap l ∷ drop (k + 1) xs) o xs) e in
+    let made : moved_out l k b i xs ≡ take k xs ++ x' ∷ (Leap l ∷ back) =
+    ap (λ o. option_map_or (λ x. take k xs ++ left l b i x ∷ Leap l ∷ drop (k + 1) xs) o xs) e in
     let size : length (take k xs) ≡ k = length-take-le k xs (omega arith) in
     let front : take (k + 1) (moved_out l k b i xs) ≡ take k xs ++ x' ∷ [] =
-    ap (take (k + 1)) (made ∙ one_more (take k xs) x' (Leap l ∷ back)) ∙ take_at (take k xs ++ x' ∷ []) (Leap l ∷ back) (k + 1) (length-append (take k xs) (x' ∷ []) ∙ ap (λ m. m + 1) size) in
+    ap (take (k + 1)) (made ∙ one_more (take k xs) x' (Leap l ∷ back)) ∙
+    take_at (take k xs ++ x' ∷ []) (Leap l ∷ back) (k + 1) (length-append (take k xs) (x' ∷ []) ∙ ap (λ m. m + 1) size) in
     let rest : drop (k + 1 + 1) (moved_out l k b i xs) ≡ back =
-    ap (drop (k + 1 + 1)) (made ∙ one_more (take k xs) x' (Leap l ∷ back)) ∙ drop_after (take k xs ++ x' ∷ []) back (Leap l) (k + 1) (length-append (take k xs) (x' ∷ []) ∙ ap (λ m. m + 1) size) in
+    ap (drop (k + 1 + 1)) (made ∙ one_more (take k xs) x' (Leap l ∷ back)) ∙
+    drop_after (take k xs ++ x' ∷ []) back (Leap l) (k + 1) (length-append (take k xs) (x' ∷ []) ∙ ap (λ m. m + 1) size) in
     let p = ap (λ z. nesting (trees_of z)) front ∙ nesting-three (take k xs) [] x' in
     let q = ap (λ z. later (trees_of z)) rest in
     let r = item_left l i b x a f h in
@@ -101,7 +111,8 @@ out_reach_here l i k b xs x a e f h =
       one_more [] y zs = refl
       one_more (w ∷ ys) y zs = ap (λ v. w ∷ v) (one_more ys y zs)
 
-pub out_reach : (l : ℕ) (p q : Point) (outer : List Step) (last : Step) → OutParts l p q outer last → p.at.steps ≡ outer ++ last ∷ [] → reach q.body q.at ≤ reach p.body p.at
+pub out_reach : (l : ℕ) (p q : Point) (outer : List Step) (last : Step) → OutParts l p q outer last → p.at.steps ≡ outer ++ last ∷ [] →
+    reach q.body q.at ≤ reach p.body p.at
 out_reach l p q outer last t steps =
     let w = moved_out l last.item last.branch p.at.item t.list in
     let new =
@@ -116,5 +127,6 @@ out_reach l p q outer last t steps =
     ∙ around-append p.body outer (last ∷ []) (at_leap t.inner p.at.item) t.list t.list_is
     ∙ ap (around p.body outer) (around_step t.list last [] (at_leap t.inner p.at.item) t.item t.inner t.item_is t.inner_is) in
     let here = out_reach_here l p.at.item last.item last.branch t.list t.item t.inner t.item_is t.inner_is t.branch in
-    let h = around_more p.body outer (at_leap w (last.item + 1)) (around_element t.list last.item (beside last.branch (at_leap t.inner p.at.item) t.item)) 0 t.list t.list_is (omega (arith, here)) in
+    let h = around_more p.body outer (at_leap w (last.item + 1))
+    (around_element t.list last.item (beside last.branch (at_leap t.inner p.at.item) t.item)) 0 t.list t.list_is (omega (arith, here)) in
     omega (arith, new, old, h)

@@ -29,7 +29,8 @@ use Rattle.move_order_laws.specs.Next.{Point}
 use Rattle.move_order_laws.proofs.Parts.{there_is, LiftParts, InParts, lifted_child, child-Do, lifted_list, moved_in_is, entered_child, entered_at, entered_list}
 use Rattle.move_order_laws.proofs.Around.{nesting_some, nesting-join, later_more, later_most, nesting-split, beside_more, beside_nesting, around_step, around_put, around-append, around_more, nesting_around, around_nesting, take_set, drop_set_one}
 
-pub nesting-three : (a b : List Item) (x : Item) → nesting (trees_of (a ++ x ∷ b)) ≡ max (nesting (trees_of a)) (max (1 + nesting_of (tree_of x)) (nesting (trees_of b)))
+pub nesting-three : (a b : List Item) (x : Item) → nesting (trees_of (a ++ x ∷ b)) ≡ max (nesting (trees_of a))
+    (max (1 + nesting_of (tree_of x)) (nesting (trees_of b)))
 nesting-three a b x = ap nesting (trees-three a b x) ∙ nesting-join (trees_of a) (Then (tree_of x) (trees_of b))
 
 pub nesting-append : (a b : List Item) → nesting (trees_of (a ++ b)) ≡ max (nesting (trees_of a)) (nesting (trees_of b))
@@ -44,10 +45,11 @@ nesting-guarded l a = ap nesting (trees-guarded l a) ∙ plain_guarded l (trees_
 
 -- a list with an element
 pub later-three : (a b : List Item) (x : Item) → later (trees_of (a ++ x ∷ b)) ≡ 1 + nesting (trees_of (a ++ x ∷ b))
-later-three a b x = ap later (trees-three a b x) ∙ some (trees_of a) (Then (tree_of x) (trees_of b)) (tree_of x) (trees_of b) refl ∙ ap (λ z. 1 + nesting z) (sym (trees-three a b x)) where
-  some : (f g : Forest) (y : Tree) (h : Forest) → g ≡ Then y h → later (join f g) ≡ 1 + nesting (join f g)
-  some Nil g y h e = ap later e ∙ ap (λ z. 1 + nesting z) (sym e)
-  some (Then z f) g y h e = refl
+later-three a b x = ap later (trees-three a b x) ∙ some (trees_of a) (Then (tree_of x) (trees_of b)) (tree_of x) (trees_of b) refl ∙
+    ap (λ z. 1 + nesting z) (sym (trees-three a b x)) where
+      some : (f g : Forest) (y : Tree) (h : Forest) → g ≡ Then y h → later (join f g) ≡ 1 + nesting (join f g)
+      some Nil g y h e = ap later e ∙ ap (λ z. 1 + nesting z) (sym e)
+      some (Then z f) g y h e = refl
 
 pub nesting-range : (a : List Item) (j i : ℕ) → nesting (trees_of (slice_range a j i)) ≤ nesting (trees_of a)
 nesting-range a j i =
@@ -85,7 +87,8 @@ pub reach_is : (body : List Item) (at : Path) (a : List Item) → list_at body a
 reach_is body at a e = ap (λ z. around body at.steps (at_leap z at.item)) (there_is body at.steps a e)
 
 -- a body is no deeper than that
-pub nesting_reach : (l : ℕ) (body : List Item) (at : Path) (a : List Item) → list_at body at.steps ≡ Some a → slice_get a at.item ≡ Some (Leap l) → nesting (trees_of body) ≤ reach body at
+pub nesting_reach : (l : ℕ) (body : List Item) (at : Path) (a : List Item) → list_at body at.steps ≡ Some a → slice_get a at.item ≡ Some (Leap l) →
+    nesting (trees_of body) ≤ reach body at
 nesting_reach l body at a e f =
     let p = nesting_around body at.steps a e in
     let h = list_at_leap l at.item a f in
@@ -94,7 +97,8 @@ nesting_reach l body at a e f =
     omega (arith, p, q, r)
 
 -- and that is at most one more
-pub reach_nesting : (l : ℕ) (body : List Item) (at : Path) (a : List Item) → list_at body at.steps ≡ Some a → slice_get a at.item ≡ Some (Leap l) → reach body at ≤ nesting (trees_of body) + 1
+pub reach_nesting : (l : ℕ) (body : List Item) (at : Path) (a : List Item) → list_at body at.steps ≡ Some a → slice_get a at.item ≡ Some (Leap l) →
+    reach body at ≤ nesting (trees_of body) + 1
 reach_nesting l body at a e f =
     let p = around_nesting body at.steps a e in
     let h = at_leap_list at.item l a f in
@@ -144,35 +148,44 @@ lift_reach l p q place t =
     ∙ around_put p.body p.at.steps (around w (step ∷ []) (at_leap a 0)) w t.list t.list_is
     ∙ ap (around p.body p.at.steps) (around_step w step [] (at_leap a 0) (Do a (On l)) a (lifted_child l p.at.item place t.list within) (child-Do a l)) in
     let old = reach_is p.body p.at t.list t.list_is in
-    let h = around_more p.body p.at.steps (around_element w place (at_leap a 0)) (at_leap t.list p.at.item) 2 t.list t.list_is (lift_reach_here l p.at.item place t.list t.leap within) in
+    let h = around_more p.body p.at.steps (around_element w place (at_leap a 0)) (at_leap t.list p.at.item) 2 t.list t.list_is
+    (lift_reach_here l p.at.item place t.list t.leap within) in
     omega (arith, new, old, h)
 
 -- rule I
 
-layer_beside_entered : (l : ℕ) (n : ℤ) (b : Branch) (m : ℕ) (y : Item-F Item Section) (a : List Item) → child_F b y ≡ Some a → HasBranch_F b y → beside_F b m (entered_F l n b y) ≡ beside_F b m y
+layer_beside_entered : (l : ℕ) (n : ℤ) (b : Branch) (m : ℕ) (y : Item-F Item Section) (a : List Item) → child_F b y ≡ Some a → HasBranch_F b y →
+    beside_F b m (entered_F l n b y) ≡ beside_F b m y
 layer_beside_entered l n B.Then m (O.If t x z) a e h = refl
 layer_beside_entered l n B.Else m (O.If t x z) a e h = refl
 layer_beside_entered l n B.Body m y a e h = refl
 layer_beside_entered l n (B.Section k) m (O.Switch s cs) a e h =
     let t = map_some list_of (slice_get cs k) a e in
     let made = with_list (Leap l ∷ list_of t.0) t.0 in
-    ap (λ o. (λ (l : List Section). max (nesting_in (sections_of (take k l))) (max m (later_in (sections_of (drop (k + 1) l))))) (option_map_or (λ c. slice_set cs k (with_list (Leap l ∷ list_of c) c)) o cs)) t.1
+    ap (λ o. (λ (l : List Section). max (nesting_in (sections_of (take k l))) (max m (later_in (sections_of (drop (k + 1) l)))))
+    (option_map_or (λ c. slice_set cs k (with_list (Leap l ∷ list_of c) c)) o cs)) t.1
     ∙ ap₂ (λ (l r : List Section). max (nesting_in (sections_of l)) (max m (later_in (sections_of r)))) (take_set cs k made) (drop_set_one cs k made)
 layer_beside_entered l n _ m _ a e h = absurd h
 
-beside_entered : (l : ℕ) (n : ℤ) (b : Branch) (m : ℕ) (x : Item) (a : List Item) → child b x ≡ Some a → HasBranch b x → beside b m (entered l n b x) ≡ beside b m x
+beside_entered : (l : ℕ) (n : ℤ) (b : Branch) (m : ℕ) (x : Item) (a : List Item) → child b x ≡ Some a → HasBranch b x →
+    beside b m (entered l n b x) ≡ beside b m x
 beside_entered l n b m x a e h = ap (beside_F b m) (out-roll-Item (entered_F l n b (out-Item x))) ∙ layer_beside_entered l n b m (out-Item x) a e h
 
-in_reach_here : (l : ℕ) (n : ℤ) (i j : ℕ) (b : Branch) (a : List Item) (x : Item) (c : List Item) → i < j → i ≤ length a → slice_get a j ≡ Some x → child b x ≡ Some c → HasBranch b x
-    → around_element (moved_in l n i j b a) (i + length (guarded l (slice_range a (i + 1) j))) (beside b (at_leap (Leap l ∷ c) 0) (entered l n b x)) ≤ at_leap a i
+in_reach_here : (l : ℕ) (n : ℤ) (i j : ℕ) (b : Branch) (a : List Item) (x : Item) (c : List Item) → i < j → i ≤ length a → slice_get a j ≡ Some x →
+    child b x ≡ Some c → HasBranch b x
+    → around_element (moved_in l n i j b a) (i + length (guarded l (slice_range a (i + 1) j)))
+    (beside b (at_leap (Leap l ∷ c) 0) (entered l n b x)) ≤ at_leap a i
 in_reach_here l n i j b a x c h w e f g =
     let mid = slice_range a (i + 1) j in
     let rest = drop (j + 1) a in
     let made = moved_in_is l n i j b a x e in
     let front = take i a ++ guarded l mid in
-    let size : length front ≡ i + length (guarded l mid) = length-append (take i a) (guarded l mid) ∙ ap (λ z. z + length (guarded l mid)) (length-take-le i a w) in
-    let p = ap (λ z. nesting (trees_of z)) (ap (take (i + length (guarded l mid))) made ∙ take_at front (entered l n b x ∷ rest) (i + length (guarded l mid)) size) ∙ nesting-append (take i a) (guarded l mid) in
-    let q = ap (λ z. later (trees_of z)) (ap (drop (i + length (guarded l mid) + 1)) made ∙ drop_after front rest (entered l n b x) (i + length (guarded l mid)) size) in
+    let size : length front ≡ i + length (guarded l mid) = length-append (take i a) (guarded l mid) ∙ ap (λ z. z + length (guarded l mid))
+    (length-take-le i a w) in
+    let p = ap (λ z. nesting (trees_of z)) (ap (take (i + length (guarded l mid))) made ∙
+    take_at front (entered l n b x ∷ rest) (i + length (guarded l mid)) size) ∙ nesting-append (take i a) (guarded l mid) in
+    let q = ap (λ z. later (trees_of z)) (ap (drop (i + length (guarded l mid) + 1)) made ∙
+    drop_after front rest (entered l n b x) (i + length (guarded l mid)) size) in
     let m = nesting-guarded l mid in
     let o : drop (i + 1) a ≡ mid ++ x ∷ rest = drop_split a (i + 1) j (omega arith) ∙ ap (λ z. mid ++ z) (drop_here a j x e) in
     let r = ap (λ z. later (trees_of z)) o ∙ later-three mid rest x in
@@ -201,7 +214,8 @@ in_reach l p q n place b t =
     ∙ around-append (put_at p.body p.at.steps w) p.at.steps (step ∷ []) (at_leap a 0) w (list_put p.body p.at.steps w t.list t.list_is)
     ∙ around_put p.body p.at.steps (around w (step ∷ []) (at_leap a 0)) w t.list t.list_is
     ∙ ap (around p.body p.at.steps)
-    (around_step w step [] (at_leap a 0) (entered l n b t.item) a (entered_at l n p.at.item place b t.list t.item within t.item_is) (entered_child l n b t.item t.inner t.inner_is t.branch)) in
+    (around_step w step [] (at_leap a 0) (entered l n b t.item) a (entered_at l n p.at.item place b t.list t.item within t.item_is)
+    (entered_child l n b t.item t.inner t.inner_is t.branch)) in
     let old = reach_is p.body p.at t.list t.list_is in
     let e = around_element w step.item (beside b (at_leap a 0) (entered l n b t.item)) in
     let here = in_reach_here l n p.at.item place b t.list t.item t.inner t.later within t.item_is t.inner_is t.branch in

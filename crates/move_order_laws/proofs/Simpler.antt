@@ -79,7 +79,8 @@ simplified_skeleton (shorter_switch c s) h k = ap (λ z. one (Switch z (skeleton
 simplified_skeleton (neighbours m a b r) h k =
     ap (λ z. join z Nil) (made_if (Off m) (join a b) Nil refl k.0.1 ∙ join-nil (skeleton (join a b)) ∙ skeleton-join a b)
     ∙ join-nil (join (skeleton a) (skeleton b))
-    ∙ ap₂ join (sym (join-nil (skeleton a)) ∙ sym (made_if (Off m) a Nil refl h.0.1)) (sym (join-nil (skeleton b)) ∙ sym (made_if (Off m) b Nil refl h.1.0.1) ∙ sym (join-nil (skeleton_of (If (Off m) b Nil))))
+    ∙ ap₂ join (sym (join-nil (skeleton a)) ∙ sym (made_if (Off m) a Nil refl h.0.1))
+    (sym (join-nil (skeleton b)) ∙ sym (made_if (Off m) b Nil refl h.1.0.1) ∙ sym (join-nil (skeleton_of (If (Off m) b Nil))))
 simplified_skeleton (nested t u a o m) h k =
     ap (λ z. join z Nil)
     (made_if (round t u) a Nil (round_source t u ∙ made_source u m) k.0.1
@@ -163,4 +164,5 @@ mutual
 
   dropped_sections_kept : (d : ℕ → Bool) (c : Sections) → EverywhereIn IsConverted c → skeleton_in (dropped_sections d c) ≡ skeleton_in c
   dropped_sections_kept d NoSection h = refl
-  dropped_sections_kept d (Section cases default a ends c) h = ap₂ (λ y z. Section cases default y ends z) (dropped_kept d a h.0) (dropped_sections_kept d c h.1)
+  dropped_sections_kept d (Section cases default a ends c) h = ap₂ (λ y z. Section cases default y ends z) (dropped_kept d a h.0)
+      (dropped_sections_kept d c h.1)

@@ -37,7 +37,8 @@ use Rattle.move_order_laws.proofs.SomeMove.{SomeMove, SomeJoin, some_move}
 
 -- the Leap after a move
 
-item_of : (xs : List Item) (steps : List Step) (i : ℕ) (a : List Item) (x : Item) → list_at xs steps ≡ Some a → slice_get a i ≡ Some x → item_at xs steps i ≡ Some x
+item_of : (xs : List Item) (steps : List Step) (i : ℕ) (a : List Item) (x : Item) → list_at xs steps ≡ Some a → slice_get a i ≡ Some x →
+    item_at xs steps i ≡ Some x
 item_of xs steps i a x e f = ap (option_and_then (λ a. slice_get a i)) e ∙ f
 
 leap_out : (l : ℕ) (p q : Point) → GoesOut l p q → HasLeap l q
@@ -48,18 +49,23 @@ leap_out l p q h =
     let front = take h.last.item t.list in
     let back = drop (h.last.item + 1) t.list in
     let made : moved_out l h.last.item h.last.branch p.at.item t.list ≡ (front ++ x ∷ []) ++ Leap l ∷ back =
-    ap (λ o. option_map_or (λ x. take h.last.item t.list ++ left l h.last.branch p.at.item x ∷ Leap l ∷ drop (h.last.item + 1) t.list) o t.list) t.item_is ∙ one_more front x (Leap l ∷ back) in
-    let size : length (front ++ x ∷ []) ≡ h.last.item + 1 = length-append front (x ∷ []) ∙ ap (λ m. m + 1) (length-take-le h.last.item t.list (omega (arith, n))) in
+    ap (λ o. option_map_or (λ x. take h.last.item t.list ++ left l h.last.branch p.at.item x ∷ Leap l ∷ drop (h.last.item + 1) t.list) o t.list)
+    t.item_is ∙ one_more front x (Leap l ∷ back) in
+    let size : length (front ++ x ∷ []) ≡ h.last.item + 1 = length-append front (x ∷ []) ∙ ap (λ m. m + 1)
+    (length-take-le h.last.item t.list (omega (arith, n))) in
     item_of q.body q.at.steps q.at.item (moved_out l h.last.item h.last.branch p.at.item t.list) (Leap l) (left_list l p q h.outer h.last t)
-    (ap (slice_get (moved_out l h.last.item h.last.branch p.at.item t.list)) t.after ∙ ap (λ z. slice_get z (h.last.item + 1)) made ∙ get_middle (front ++ x ∷ []) back (Leap l) (h.last.item + 1) size) where
+    (ap (slice_get (moved_out l h.last.item h.last.branch p.at.item t.list)) t.after ∙ ap (λ z. slice_get z (h.last.item + 1)) made ∙
+    get_middle (front ++ x ∷ []) back (Leap l) (h.last.item + 1) size) where
       one_more : {A : Type 0} (ys : List A) (y : A) (zs : List A) → ys ++ y ∷ zs ≡ (ys ++ y ∷ []) ++ zs
       one_more [] y zs = refl
       one_more (w ∷ ys) y zs = ap (λ v. w ∷ v) (one_more ys y zs)
 
 pub leap_after : (k : MoveKind) (l : ℕ) (p q : Point) → MovesBy k l p q → HasLeap l q
 leap_after Out l p q h = leap_out l p q h
-leap_after Lift l p q h = let t = lift_parts l p q h in item_of q.body q.at.steps q.at.item _ (Leap l) (lifted_list l p q h.place t) (ap (slice_get (Leap l ∷ _)) t.first)
-leap_after Inward l p q h = let t = in_parts l p q h in item_of q.body q.at.steps q.at.item _ (Leap l) (entered_list l p q h.number h.place h.branch t) (ap (slice_get (Leap l ∷ _)) t.first)
+leap_after Lift l p q h = let t = lift_parts l p q h in item_of q.body q.at.steps q.at.item _ (Leap l) (lifted_list l p q h.place t)
+    (ap (slice_get (Leap l ∷ _)) t.first)
+leap_after Inward l p q h = let t = in_parts l p q h in item_of q.body q.at.steps q.at.item _ (Leap l)
+    (entered_list l p q h.number h.place h.branch t) (ap (slice_get (Leap l ∷ _)) t.first)
 leap_after _ l p q h = absurd h
 
 -- there is an elimination
@@ -70,7 +76,11 @@ record Elimination (l : ℕ) (p : Point) : Type 0 where
   eliminates : Eliminates l p kept new
 
 one_more_move : (l : ℕ) (p : Point) (s : SomeMove l p) → Elimination l s.next → Elimination l p
-one_more_move l p s e = record { kept = record { kind = s.kind; label = l; path = p.at } ∷ e.kept; new = e.new; eliminates = moves s.kind p s.next e.kept e.new s.move e.eliminates }
+one_more_move l p s e = record {
+  kept = record { kind = s.kind; label = l; path = p.at } ∷ e.kept;
+  new = e.new;
+  eliminates = moves s.kind p s.next e.kept e.new s.move e.eliminates;
+}
 
 at_once : (l : ℕ) (p : Point) → SomeJoin l p → Elimination l p
 at_once l p s = record { kept = record { kind = Join; label = l; path = p.at } ∷ []; new = s.body; eliminates = joins p s.body s.join }
@@ -100,8 +110,10 @@ found_leap body at e =
     let x : f.item ≡ Leap f.label = sym (roll-out-Item f.item) ∙ ap roll-Item f.label_is ∙ rolls-Leap f.label in
     (f.label, item_of body at.steps at.item f.list (Leap f.label) f.list_is (f.item_is ∙ ap (λ z. Some z) x))
 
-module _ (body : List Item) (w : IsWellMade (trees_of body)) (rest : (mid : List Item) → leaps (trees_of mid) < leaps (trees_of body) → IsWellMade (trees_of mid) → HasDerivation mid) where
-  step : (at : Path) → first (leaps_from 0 body) ≡ Some at → (l : ℕ) (e : Elimination l (record { body = body; at = at })) → HasDerivation e.new → HasDerivation body
+module _ (body : List Item) (w : IsWellMade (trees_of body))
+    (rest : (mid : List Item) → leaps (trees_of mid) < leaps (trees_of body) → IsWellMade (trees_of mid) → HasDerivation mid) where
+  step : (at : Path) → first (leaps_from 0 body) ≡ Some at → (l : ℕ) (e : Elimination l (record { body = body; at = at })) → HasDerivation e.new →
+      HasDerivation body
   step at f l e d = record { moves = e.kept ++ d.moves; new = d.new; derives = chooses body at l e.kept d.moves e.new d.new f e.eliminates d.derives }
 
   by_first : (o : Option Path) → first (leaps_from 0 body) ≡ o → HasDerivation body
@@ -132,10 +144,12 @@ way l (moves k p q ms new m e) =
     let s = r.size in
     record { count = suc r.count; last = r.last; goes_there = goes k m r.goes_there; join = r.join; size = omega (arith, s) }
 
-all_lands : (l : ℕ) {n : ℕ} {p q : Point} → Goes l n p q → lands l (trees_of p.body) ≡ 1 → (moves_left l q.body q.at + n ≤ moves_left l p.body p.at) × (lands l (trees_of q.body) ≡ 1)
+all_lands : (l : ℕ) {n : ℕ} {p q : Point} → Goes l n p q → lands l (trees_of p.body) ≡ 1 →
+    (moves_left l q.body q.at + n ≤ moves_left l p.body p.at) × (lands l (trees_of q.body) ≡ 1)
 all_lands l r one = all_fewer l r one
 
-bounded : (l : ℕ) (p : Point) (land : Path) (ms : List Kept) (new : List Item) → IsWellMade (trees_of p.body) → Eliminates l p ms new → item_at p.body land.steps land.item ≡ Some (Land l)
+bounded : (l : ℕ) (p : Point) (land : Path) (ms : List Kept) (new : List Item) → IsWellMade (trees_of p.body) → Eliminates l p ms new →
+    item_at p.body land.steps land.item ≡ Some (Land l)
     → length ms ≤ length p.at.steps + length land.steps + 3
 bounded l p land ms new w e h =
     let leap = leap_first l e in
@@ -160,13 +174,15 @@ on_the_way l (goes k {p = p} {q = r} {r = q} m g) w =
     let t = stands q.body q.at.steps q.at.item (Leap l) (leap_last l g (leap_after k l p r m)) in
     no_deeper_on_the_way l (goes k m g) t.list t.list_is t.item_is (one_land p.body w l p.at leap)
 
-joined : (l : ℕ) (p : Point) (ms : List Kept) (new : List Item) → IsWellMade (trees_of p.body) → Eliminates l p ms new → nesting (trees_of new) ≤ nesting (trees_of p.body) + 3
+joined : (l : ℕ) (p : Point) (ms : List Kept) (new : List Item) → IsWellMade (trees_of p.body) → Eliminates l p ms new →
+    nesting (trees_of new) ≤ nesting (trees_of p.body) + 3
 joined l p ms new w e =
     let one = one_land p.body w l p.at (leap_first l e) in
     let r = way l e in
     no_deeper_joined l new r.goes_there r.join one (all_lands l r.goes_there one).1
 
-derived : {body : List Item} {ms : List Kept} {new : List Item} → Derives body ms new → IsWellMade (trees_of body) → nesting (trees_of new) ≤ nesting (trees_of body) + 3 * leaps (trees_of body)
+derived : {body : List Item} {ms : List Kept} {new : List Item} → Derives body ms new → IsWellMade (trees_of body) →
+    nesting (trees_of new) ≤ nesting (trees_of body) + 3 * leaps (trees_of body)
 derived (ends body e) w = omega arith
 derived (chooses body at l ms ns mid new f e d) w =
     let a = joined l (record { body = body; at = at }) ms mid w e in

@@ -76,15 +76,18 @@ less_or_same (suc j) zero h = absurd (omega arith)
 less_or_same (suc j) (suc m) h = elim (less_or_same j m (omega arith)) [ inl l ↦ inl (omega arith) | inr e ↦ inr (ap suc e) ]
 
 -- search from m on, with as many tries as may fail
-free_from : (k : IntKind) (c : Sections) (tries m : ℕ) → length (case_numbers k c) < tries + m → ((j : ℕ) → j < m → Contains (case_numbers k c) (Some (pos j))) → (n : ℤ) × IsFree k c n
+free_from : (k : IntKind) (c : Sections) (tries m : ℕ) → length (case_numbers k c) < tries + m →
+    ((j : ℕ) → j < m → Contains (case_numbers k c) (Some (pos j))) → (n : ℤ) × IsFree k c n
 free_from k c zero m h below = absurd (let r = count_below m (case_numbers k c) below in omega (arith, r))
-free_from k c (suc tries) m h below = by_test (list_any (same (Some (pos m))) (case_numbers k c)) refl (λ more. free_from k c tries (m + 1) (omega arith) more) where
-  by_test : (b : Bool) → list_any (same (Some (pos m))) (case_numbers k c) ≡ b → (((j : ℕ) → j < m + 1 → Contains (case_numbers k c) (Some (pos j))) → (n : ℤ) × IsFree k c n) → (n : ℤ) × IsFree k c n
-  by_test true e go = go (λ j l. elim (less_or_same j m l) [
-    | inl b ↦ below j b
-    | inr f ↦ subst (λ z. Contains (case_numbers k c) (Some (pos z))) (sym f) (Contains-from_any (tells_apart exact) (Some (pos m)) (case_numbers k c) e)
-  ])
-  by_test false e go = (pos m, record { count = m; number = refl; free = not_there (Some (pos m)) (case_numbers k c) e; least = below })
+free_from k c (suc tries) m h below = by_test (list_any (same (Some (pos m))) (case_numbers k c)) refl
+    (λ more. free_from k c tries (m + 1) (omega arith) more) where
+      by_test : (b : Bool) → list_any (same (Some (pos m))) (case_numbers k c) ≡ b →
+          (((j : ℕ) → j < m + 1 → Contains (case_numbers k c) (Some (pos j))) → (n : ℤ) × IsFree k c n) → (n : ℤ) × IsFree k c n
+      by_test true e go = go (λ j l. elim (less_or_same j m l) [
+        | inl b ↦ below j b
+        | inr f ↦ subst (λ z. Contains (case_numbers k c) (Some (pos z))) (sym f) (Contains-from_any (tells_apart exact) (Some (pos m)) (case_numbers k c) e)
+      ])
+      by_test false e go = (pos m, record { count = m; number = refl; free = not_there (Some (pos m)) (case_numbers k c) e; least = below })
 
 some_free : (k : IntKind) (c : Sections) → (n : ℤ) × IsFree k c n
 some_free k c = free_from k c (length (case_numbers k c) + 1) 0 (omega arith) (λ j h. absurd (omega arith))
@@ -94,7 +97,8 @@ some_free k c = free_from k c (length (case_numbers k c) + 1) 0 (omega arith) (�
 all_of : (P : ExpressionTree → Type 0) (c : Sections) (k : ℕ) → All P (all_cases c) → All P (cases_at k c)
 all_of P NoSection k h = h
 all_of P (Section cases default a ends c) zero h = subst (All P) (take-append_seam cases (all_cases c)) (All-take P (length cases) (cases ++ all_cases c) h)
-all_of P (Section cases default a ends c) (suc k) h = all_of P c k (subst (All P) (drop-append_seam cases (all_cases c)) (All-drop P (length cases) (cases ++ all_cases c) h))
+all_of P (Section cases default a ends c) (suc k) h = all_of P c k
+    (subst (All P) (drop-append_seam cases (all_cases c)) (All-drop P (length cases) (cases ++ all_cases c) h))
 
 first_of : (P : ExpressionTree → Type 0) (e : ExpressionTree) (es : List ExpressionTree) → All P (e ∷ es) → P e
 first_of P e es h = h 0 e (omega arith)
@@ -107,7 +111,8 @@ number_for : (k : IntKind) (c : Sections) (cases : List ExpressionTree) → All 
 number_for k c [] h = some_free k c
 number_for k c (e ∷ es) h = map_is_some (converted k) (constant_value e) (first_of (λ e. IsSome (constant_value e)) e es h)
 
-section_number : (o : Option IntKind) (k : ℕ) (c : Sections) → IsSome o → IfSome o (λ j. AreCases j c) → (n : ℤ) × IsSomeAnd o (λ j. IsNumberFor j c (cases_at k c) n)
+section_number : (o : Option IntKind) (k : ℕ) (c : Sections) → IsSome o → IfSome o (λ j. AreCases j c) →
+    (n : ℤ) × IsSomeAnd o (λ j. IsNumberFor j c (cases_at k c) n)
 section_number None k c h f = absurd (true≢false (sym h))
 section_number (Some j) k c h f = number_for j c (cases_at k c) (all_of (λ e. IsSome (constant_value e)) c k f.untrapped)
 
@@ -148,7 +153,8 @@ section_with l (c ∷ cs) h =
       | inr p ↦ next_section l c cs (section_with l cs p)
     ]
 
-pub layer_way : (l : ℕ) (y : Item-F Item Real.Section) → 0 < lands_inside l (layer_tree y) → IsConverted (layer_tree y) → IsPlainFor (layer_tree y) → HasSelectorKind (layer_tree y) → HasCases (layer_tree y) → Way l y
+pub layer_way : (l : ℕ) (y : Item-F Item Real.Section) → 0 < lands_inside l (layer_tree y) → IsConverted (layer_tree y) → IsPlainFor (layer_tree y) →
+    HasSelectorKind (layer_tree y) → HasCases (layer_tree y) → Way l y
 unfolding trees_of sections_of
 layer_way l (O.If t x z) h c f s k = elim (one_of (lands l (trees_of x)) (lands l (trees_of z)) (omega (arith, h))) [
   | inl p ↦ record { branch = B.Then; number = pos 0; list = x; child_is = refl; has = tt; held = p; selects = tt }
@@ -174,11 +180,13 @@ none_or_some (suc n) = inr (omega arith)
 
 -- the construct round a Leap
 
-pub branch_of : (b : Branch) (y : Item-F Item Real.Section) (a : List Item) → child_F b y ≡ Some a → 0 < jumps (trees_of a) → IsConverted (layer_tree y) → IsPlainFor (layer_tree y) → HasBranch_F b y
+pub branch_of : (b : Branch) (y : Item-F Item Real.Section) (a : List Item) → child_F b y ≡ Some a → 0 < jumps (trees_of a) →
+    IsConverted (layer_tree y) → IsPlainFor (layer_tree y) → HasBranch_F b y
 unfolding trees_of sections_of
 branch_of B.Body (O.While t x) a e j c f = tt
 branch_of B.Body (O.Do x t) a e j c f = tt
-branch_of B.Body (O.For g t u x) a e j c f = let h : x ≡ a = cc in let z : jumps (trees_of x) ≡ jumps (trees_of a) = ap (λ z. jumps (trees_of z)) h in let w = f.1 in absurd (omega (arith, z, w, j))
+branch_of B.Body (O.For g t u x) a e j c f = let h : x ≡ a = cc in let z : jumps (trees_of x) ≡ jumps (trees_of a) = ap (λ z. jumps (trees_of z)) h in
+    let w = f.1 in absurd (omega (arith, z, w, j))
 branch_of B.Body (O.Block x) a e j c f = absurd c
 branch_of B.Then (O.If t x z) a e j c f = tt
 branch_of B.Else (O.If t x z) a e j c f = tt
@@ -299,8 +307,10 @@ module _ (l : ℕ) (p : Point) (w : IsWellMade (trees_of p.body)) (leap : item_a
 
   go_in : (k : ℕ) (x : Item) → slice_get here.list k ≡ Some x → p.at.item < k → 0 < lands_inside l (tree_of x) → SomeMove l p
   go_in k x e h i =
-      let each = λ (P : Tree → Type 0) (a : Everywhere P (trees_of p.body)). subst P (tree-out x) (holds_at P p.body p.at.steps here.list k x here.list_is e a) in
-      let y = layer_way l (out-Item x) (subst (λ z. 0 < lands_inside l z) (tree-out x) i) (each IsConverted w.converted) (each IsPlainFor w.loops) (each HasSelectorKind w.selectors) (each HasCases w.cases) in
+      let each = λ (P : Tree → Type 0) (a : Everywhere P (trees_of p.body)). subst P (tree-out x)
+      (holds_at P p.body p.at.steps here.list k x here.list_is e a) in
+      let y = layer_way l (out-Item x) (subst (λ z. 0 < lands_inside l z) (tree-out x) i) (each IsConverted w.converted) (each IsPlainFor w.loops)
+      (each HasSelectorKind w.selectors) (each HasCases w.cases) in
       let there = item_is_at k x e in
       let step : Step = record { item = k; branch = y.branch } in
       let list = list-append p.body p.at.steps (step ∷ []) here.list here.list_is ∙ list_step here.list step [] x y.list e y.child_is in
@@ -317,7 +327,8 @@ module _ (l : ℕ) (p : Point) (w : IsWellMade (trees_of p.body)) (leap : item_a
               later = h;
               construct = subst (Holds (HasBranch y.branch)) (sym there) y.has;
               held = subst (Holds (λ a. 0 < lands l (trees_of a))) (sym list) y.held;
-              number = subst (Holds (λ x. SelectsBranch y.branch y.number (tree_of x))) (sym there) (subst (SelectsBranch y.branch y.number) (sym (tree-out x)) y.selects);
+              number = subst (Holds (λ x. SelectsBranch y.branch y.number (tree_of x))) (sym there)
+                  (subst (SelectsBranch y.branch y.number) (sym (tree-out x)) y.selects);
             };
             body = refl;
             path = refl;

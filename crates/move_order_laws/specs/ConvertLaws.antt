@@ -16,7 +16,8 @@ use Rattle.move_order_laws.specs.Exchanged.{KeepsBehaviour, IsConvertible}
 
 -- one flat function, whose conversion is well made, is converted; all else is equal
 pub data OneFunctionConverted : List Top → List Top → Type 0 where
-  this_function : (f : Function) (a : List Item) (ts : List Top) → f.flat ≡ true → f.body ≡ Some a → IsWellMade (trees_of (converted_list a)) → OneFunctionConverted (T.Function f ∷ ts) (T.Function (converted f) ∷ ts)
+  this_function : (f : Function) (a : List Item) (ts : List Top) → f.flat ≡ true → f.body ≡ Some a → IsWellMade (trees_of (converted_list a)) →
+      OneFunctionConverted (T.Function f ∷ ts) (T.Function (converted f) ∷ ts)
   later_function : (t : Top) {ts us : List Top} → OneFunctionConverted ts us → OneFunctionConverted (t ∷ ts) (t ∷ us)
 
 pub record ConversionLaws : Type 0 where

@@ -11,7 +11,8 @@ use Rattle.move_order_laws.specs.Next.{Point, IsJoined, MovesBy}
 -- the moves of a chosen Leap, the last of which joins it: the body is `new` then
 pub data Eliminates (l : ℕ) : Point → List Kept → List Item → Type 0 where
   joins : (p : Point) (new : List Item) → IsJoined l p new → Eliminates l p (record { kind = Join; label = l; path = p.at } ∷ []) new
-  moves : (k : MoveKind) (p q : Point) (ms : List Kept) (new : List Item) → MovesBy k l p q → Eliminates l q ms new → Eliminates l p (record { kind = k; label = l; path = p.at } ∷ ms) new
+  moves : (k : MoveKind) (p q : Point) (ms : List Kept) (new : List Item) → MovesBy k l p q → Eliminates l q ms new →
+      Eliminates l p (record { kind = k; label = l; path = p.at } ∷ ms) new
 
 -- the moves of a body, where the first Leap in text order is chosen at the start and after each join
 pub data Derives : List Item → List Kept → List Item → Type 0 where

@@ -39,5 +39,6 @@ pub record DepthLaws : Type 0 where
   -- the conversion makes one Leap of each goto
   pub jumps : (xs : Forest) → leaps (convert xs) ≡ gotos xs + leaps xs
   -- so from a flat form to the end of its moves there are at most three levels more for each goto
-  pub whole : (flat : Forest) (body : List Item) (ms : List Kept) (new : List Item) → trees_of body ≡ convert flat → leaps flat ≡ 0 → IsWellMade (trees_of body) → Derives body ms new
+  pub whole : (flat : Forest) (body : List Item) (ms : List Kept) (new : List Item) → trees_of body ≡ convert flat → leaps flat ≡ 0 →
+      IsWellMade (trees_of body) → Derives body ms new
       → nesting (trees_of new) ≤ nesting flat + 3 * gotos flat

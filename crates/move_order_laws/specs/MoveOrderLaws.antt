@@ -49,7 +49,8 @@ pub record CountLaws : Type 0 where
   -- each leaves fewer for it
   pub fewer : (l : ℕ) (p q : Point) (k : MoveKind) → IsWellMade (trees_of p.body) → MovesBy k l p q → moves_left l q.body q.at < moves_left l p.body p.at
   -- from its choice to its join they are at most the level of the Leap, that of its Land, and three
-  pub bounded : (l : ℕ) (p : Point) (land : Path) (ms : List Kept) (new : List Item) → IsWellMade (trees_of p.body) → Eliminates l p ms new → item_at p.body land.steps land.item ≡ Some (Land l)
+  pub bounded : (l : ℕ) (p : Point) (land : Path) (ms : List Kept) (new : List Item) → IsWellMade (trees_of p.body) → Eliminates l p ms new →
+      item_at p.body land.steps land.item ≡ Some (Land l)
       → length ms ≤ length p.at.steps + length land.steps + 3
   -- and in a derivation of a body there is one join for each Leap
   pub joins : (body : List Item) (ms : List Kept) (new : List Item) → IsWellMade (trees_of body) → Derives body ms new → join_count ms ≡ leaps (trees_of body)
@@ -59,9 +60,11 @@ pub record NestingLaws : Type 0 where
   -- from the choice of a Leap on, up to three levels deeper
   pub on_the_way : (l n : ℕ) (p q : Point) → IsWellMade (trees_of p.body) → Goes l n p q → nesting (trees_of q.body) ≤ nesting (trees_of p.body) + 3
   -- its join included
-  pub joined : (l : ℕ) (p : Point) (ms : List Kept) (new : List Item) → IsWellMade (trees_of p.body) → Eliminates l p ms new → nesting (trees_of new) ≤ nesting (trees_of p.body) + 3
+  pub joined : (l : ℕ) (p : Point) (ms : List Kept) (new : List Item) → IsWellMade (trees_of p.body) → Eliminates l p ms new →
+      nesting (trees_of new) ≤ nesting (trees_of p.body) + 3
   -- and three for each Leap in all
-  pub derived : (body : List Item) (ms : List Kept) (new : List Item) → IsWellMade (trees_of body) → Derives body ms new → nesting (trees_of new) ≤ nesting (trees_of body) + 3 * leaps (trees_of body)
+  pub derived : (body : List Item) (ms : List Kept) (new : List Item) → IsWellMade (trees_of body) → Derives body ms new →
+      nesting (trees_of new) ≤ nesting (trees_of body) + 3 * leaps (trees_of body)
 
 -- a body has a derivation
 pub record HasDerivation (body : List Item) : Type 0 where
@@ -73,7 +76,8 @@ pub record HasDerivation (body : List Item) : Type 0 where
 pub record DerivationLaws : Type 0 where
   pub some : (body : List Item) → IsWellMade (trees_of body) → HasDerivation body
   -- is one alone
-  pub one : (body : List Item) (ms ns : List Kept) (new other : List Item) → IsWellMade (trees_of body) → Derives body ms new → Derives body ns other → (ms ≡ ns) × (new ≡ other)
+  pub one : (body : List Item) (ms ns : List Kept) (new other : List Item) → IsWellMade (trees_of body) → Derives body ms new →
+      Derives body ns other → (ms ≡ ns) × (new ≡ other)
   -- and leaves a well made body without Leap
   pub well_made : (body : List Item) (ms : List Kept) (new : List Item) → IsWellMade (trees_of body) → Derives body ms new → IsWellMade (trees_of new)
   pub none_left : (body : List Item) (ms : List Kept) (new : List Item) → Derives body ms new → first (leaps_from 0 new) ≡ None

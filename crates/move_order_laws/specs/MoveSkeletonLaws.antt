@@ -24,4 +24,5 @@ pub record SkeletonLaws : Type 0 where
   -- the conversion of any list has the skeleton of the list
   pub converted : (xs : Forest) → skeleton (convert xs) ≡ skeleton xs
   -- so the end of a derivation has the skeleton of its start
-  pub derived : (body : List Item) (ms : List Kept) (new : List Item) → IsWellMade (trees_of body) → Derives body ms new → skeleton (trees_of new) ≡ skeleton (trees_of body)
+  pub derived : (body : List Item) (ms : List Kept) (new : List Item) → IsWellMade (trees_of body) → Derives body ms new →
+      skeleton (trees_of new) ≡ skeleton (trees_of body)

@@ -63,7 +63,8 @@ around_element xs k n = max (nesting (trees_of (take k xs))) (max (1 + n) (later
 -- of a body, where the Leap stands in the list at the steps, and that counts as n
 abbrev pub around : List Item → List Step → ℕ → ℕ
 around xs [] n = n
-around xs (s ∷ ss) n = option_map_or (λ x. around_element xs s.item (beside s.branch (option_map_or (λ a. around a ss n) (child s.branch x) n) x)) (slice_get xs s.item) n
+around xs (s ∷ ss) n = option_map_or (λ x. around_element xs s.item (beside s.branch (option_map_or (λ a. around a ss n) (child s.branch x) n) x))
+    (slice_get xs s.item) n
 
 -- of the list of the Leap, at its place there
 abbrev pub at_leap : List Item → ℕ → ℕ

@@ -24,7 +24,8 @@ dropped_set [] i x = refl
 dropped_set (y ∷ xs) zero x = refl
 dropped_set (y ∷ xs) (suc i) x = dropped_set xs i x
 
-pub taken_set : {A : Type 0} (xs : List A) (i : ℕ) (x y : A) (zs : List A) → slice_get xs i ≡ Some x → take (suc i) (slice_set xs i y) ++ zs ≡ take i xs ++ y ∷ zs
+pub taken_set : {A : Type 0} (xs : List A) (i : ℕ) (x y : A) (zs : List A) → slice_get xs i ≡ Some x →
+    take (suc i) (slice_set xs i y) ++ zs ≡ take i xs ++ y ∷ zs
 taken_set [] i x y zs e = cc
 taken_set (w ∷ xs) zero x y zs e = refl
 taken_set (w ∷ xs) (suc i) x y zs e = ap (λ z. w ∷ z) (taken_set xs i x y zs e)
@@ -42,7 +43,8 @@ append-nil (x ∷ xs) = ap (λ z. x ∷ z) (append-nil xs)
 pub starts : (tops : List Top) (ms : List Move) → ms ≡ [] → All IsTopMovable tops → AreMovedTo 0 tops tops ms
 starts tops ms e a = record { continues = λ us ns r. subst (λ z. MovedTops tops us (z ++ ns)) (sym e) r; movable = a }
 
-pub one_more : (i : ℕ) (old now : List Top) (ms ks all : List Move) (t u : Top) → slice_get now i ≡ Some t → MovedTop t u ks → all ≡ ms ++ ks → AreMovedTo i old now ms → AreMovedTo (suc i) old (slice_set now i u) all
+pub one_more : (i : ℕ) (old now : List Top) (ms ks all : List Move) (t u : Top) → slice_get now i ≡ Some t → MovedTop t u ks → all ≡ ms ++ ks →
+    AreMovedTo i old now ms → AreMovedTo (suc i) old (slice_set now i u) all
 one_more i old now ms ks all t u e m f h = record {
   continues = λ us ns r.
       let rest : MovedTops (drop (suc i) now) us ns = subst (λ z. MovedTops z us ns) (dropped_set now i u) r in
@@ -50,7 +52,8 @@ one_more i old now ms ks all t u e m f h = record {
       let done : MovedTops old (take i now ++ u ∷ us) (ms ++ (ks ++ ns)) = h.continues (u ∷ us) (ks ++ ns) here in
       let moves : ms ++ (ks ++ ns) ≡ all ++ ns = sym (append_assoc ms ks ns) ∙ ap (λ z. z ++ ns) (sym f) in
       subst (λ z. MovedTops old z (all ++ ns)) (sym (taken_set now i t u us e)) (subst (MovedTops old (take i now ++ u ∷ us)) moves done);
-  movable = subst (All IsTopMovable) (sym (dropped_set now i u)) (All-tail IsTopMovable t (drop (suc i) now) (subst (All IsTopMovable) (dropped now i t e) h.movable));
+  movable = subst (All IsTopMovable) (sym (dropped_set now i u))
+      (All-tail IsTopMovable t (drop (suc i) now) (subst (All IsTopMovable) (dropped now i t e) h.movable));
 }
 
 pub all_moved : (i : ℕ) (old now : List Top) (ms : List Move) → length now ≤ i → AreMovedTo i old now ms → MovedTops old now ms

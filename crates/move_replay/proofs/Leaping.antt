@@ -43,17 +43,20 @@ pub leap_yes : (body : List Item) (o : Option Path) → o ≡ first (leaps_from 
 leap_yes body None e h = absurd (true≢false (sym h))
 leap_yes body (Some at) e h = found_leap body at (sym e)
 
-pub leap_no : (body : List Item) → IsWellMade (trees_of body) → (o : Option Path) → o ≡ first (leaps_from 0 body) → IsFalse (is_some o) → leaps (trees_of body) ≡ 0
+pub leap_no : (body : List Item) → IsWellMade (trees_of body) → (o : Option Path) → o ≡ first (leaps_from 0 body) → IsFalse (is_some o) →
+    leaps (trees_of body) ≡ 0
 leap_no body w None e h = no_leaps body w (sym e)
 leap_no body w (Some at) e h = absurd (true≢false h)
 
-pub leap_at_path : (f : Function) (body : List Item) (at : Path) (o : Option ℕ) → f.body ≡ Some body → o ≡ label_at body at → IsTrue (is_some o) → 0 < leaps (body_of f)
+pub leap_at_path : (f : Function) (body : List Item) (at : Path) (o : Option ℕ) → f.body ≡ Some body → o ≡ label_at body at → IsTrue (is_some o) →
+    0 < leaps (body_of f)
 leap_at_path f body at None e h t = absurd (true≢false (sym t))
 leap_at_path f body at (Some l) e h t = let p = leap_some l body at (leap_of_label body at l h) in let b = ap leaps (body_is f body e) in omega (arith, p, b)
 
 -- ---- one move of a Leap is of one kind
 
-one_kind : (l : ℕ) (p : Point) → IsWellMade (trees_of p.body) → (to uo : Option Path) (k j : MoveKind) (new other : List Item) → MovesTo to k l p new → MovesTo uo j l p other → k ≡ j
+one_kind : (l : ℕ) (p : Point) → IsWellMade (trees_of p.body) → (to uo : Option Path) (k j : MoveKind) (new other : List Item) →
+    MovesTo to k l p new → MovesTo uo j l p other → k ≡ j
 one_kind l p w None None k j new other h g = h.0 ∙ sym g.0
 one_kind l p w None (Some uo) k j new other h g =
     absurd (join_alone l p (one_land p.body w l p.at h.1.moves.applies.leap) j (record { body = other; at = uo }) new g h.1)
@@ -65,7 +68,8 @@ one_kind l p w (Some to) (Some uo) k j new other h g =
     (one_move l p (one_land p.body w l p.at (leap_there k l p q h)) k j q r h g).0
 
 -- where the Leap moves by another kind, the move isn't lawful
-pub other_kind : (labels : List (List ℕ)) (m : Move) (old done new : List Item) (l : ℕ) (k : MoveKind) (to : Option Path) → IsWellMade (trees_of old) → Some l ≡ label_at old m.path → IsMove l m.path k to old done → IsLeapMoved labels m old new → k ≡ m.kind
+pub other_kind : (labels : List (List ℕ)) (m : Move) (old done new : List Item) (l : ℕ) (k : MoveKind) (to : Option Path) →
+    IsWellMade (trees_of old) → Some l ≡ label_at old m.path → IsMove l m.path k to old done → IsLeapMoved labels m old new → k ≡ m.kind
 other_kind labels m old done new l k to w e a h =
     let p : Point = record { body = old; at = m.path } in
     let s = same_label h.label l (item_at old m.path.steps m.path.item) (moved_leap labels m old new h) (leap_of_label old m.path l e) in
@@ -77,7 +81,8 @@ pub same_body : (f : Function) (a : List Item) → f.body ≡ Some a → f.flat 
 same_body f a e flat w = subst IsWellMade (body_is f a e) (w flat)
 
 -- a function with a Leap is moved by a move of it alone
-pub no_move : (m : Move) (f : Function) (a : List Item) → f.body ≡ Some a → 0 < leaps (body_of f) → ((new : List Item) → IsLeapMoved f.labels m a new → ⊥) → (g : Function) → IsMovedBy m f g → ⊥
+pub no_move : (m : Move) (f : Function) (a : List Item) → f.body ≡ Some a → 0 < leaps (body_of f) →
+    ((new : List Item) → IsLeapMoved f.labels m a new → ⊥) → (g : Function) → IsMovedBy m f g → ⊥
 no_move m f a e p n g k =
     let s = some_same (sym k.body_is ∙ e) in
     elim k.made [

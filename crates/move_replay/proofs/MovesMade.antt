@@ -34,13 +34,15 @@ taken_more (y ∷ xs) zero x e = ap (λ z. z ∷ []) (some_same e)
 taken_more (y ∷ xs) (suc i) x e = ap (λ z. y ∷ z) (taken_more xs i x e)
 
 -- one element more is replaced by what f makes of it
-replaced : {A : Type 0} (f : A → A) (xs : List A) (i : ℕ) (x : A) → slice_get (map f (take i xs) ++ drop i xs) i ≡ Some x → slice_set (map f (take i xs) ++ drop i xs) i (f x) ≡ map f (take (suc i) xs) ++ drop (suc i) xs
+replaced : {A : Type 0} (f : A → A) (xs : List A) (i : ℕ) (x : A) → slice_get (map f (take i xs) ++ drop i xs) i ≡ Some x →
+    slice_set (map f (take i xs) ++ drop i xs) i (f x) ≡ map f (take (suc i) xs) ++ drop (suc i) xs
 replaced f [] zero x e = cc
 replaced f [] (suc i) x e = cc
 replaced f (y ∷ xs) zero x e = ap (λ z. f z ∷ xs) (sym (some_same e))
 replaced f (y ∷ xs) (suc i) x e = ap (λ z. f y ∷ z) (replaced f xs i x e)
 
-pub replaced_at : {A : Type 0} (f : A → A) (xs now : List A) (i : ℕ) (x y : A) → now ≡ map f (take i xs) ++ drop i xs → slice_get now i ≡ Some x → y ≡ f x → slice_set now i y ≡ map f (take (i + 1) xs) ++ drop (i + 1) xs
+pub replaced_at : {A : Type 0} (f : A → A) (xs now : List A) (i : ℕ) (x y : A) → now ≡ map f (take i xs) ++ drop i xs → slice_get now i ≡ Some x →
+    y ≡ f x → slice_set now i y ≡ map f (take (i + 1) xs) ++ drop (i + 1) xs
 replaced_at f xs now i x y e g h =
     let more : suc i ≡ i + 1 = omega arith in
     let r = replaced f xs i x (ap (λ z. slice_get z i) (sym e) ∙ g) in
@@ -59,7 +61,8 @@ top_made m (T.Enum x) u ts h = absurd h
 top_made m (T.Global x) u ts h = absurd h
 top_made m (T.Note x) u ts h = absurd h
 
-made_there : (m : Move) (ts : List Top) (i : ℕ) (t u : Top) → slice_get ts i ≡ Some t → All (IsOther m.function) (take i ts) → IsTopMoved m t u → OneMoved m ts (slice_set ts i u)
+made_there : (m : Move) (ts : List Top) (i : ℕ) (t u : Top) → slice_get ts i ≡ Some t → All (IsOther m.function) (take i ts) → IsTopMoved m t u →
+    OneMoved m ts (slice_set ts i u)
 made_there m [] i t u e a h = cc
 made_there m (x ∷ xs) zero t u e a h = top_made m x u xs (subst (λ z. IsTopMoved m z u) (sym (some_same e)) h)
 made_there m (x ∷ xs) (suc i) t u e a h =
@@ -72,7 +75,8 @@ not_both name (T.Enum x) h o = h
 not_both name (T.Global x) h o = h
 not_both name (T.Note x) h o = h
 
-not_there : (m : Move) (ts us : List Top) (i : ℕ) (t : Top) → slice_get ts i ≡ Some t → IsFlatOf m.function t → All (IsOther m.function) (take i ts) → ((u : Top) → IsTopMoved m t u → ⊥) → OneMoved m ts us → ⊥
+not_there : (m : Move) (ts us : List Top) (i : ℕ) (t : Top) → slice_get ts i ≡ Some t → IsFlatOf m.function t → All (IsOther m.function) (take i ts) →
+    ((u : Top) → IsTopMoved m t u → ⊥) → OneMoved m ts us → ⊥
 not_there m [] us i t e f a n h = cc
 not_there m (x ∷ xs) us zero t e f a n (L.this_function {f = g} {g = k} ts h) = n (T.Function k) (subst (λ z. IsTopMoved m z (T.Function k)) (some_same e) h)
 not_there m (x ∷ xs) us zero t e f a n (L.later_function y o h) = not_both m.function x (subst (IsFlatOf m.function) (sym (some_same e)) f) o
@@ -83,10 +87,12 @@ pub nowhere : {m : Move} {ts us : List Top} → All (IsOther m.function) ts → 
 nowhere {m = m} a (L.this_function {f = f} ts h) = All-head (IsOther m.function) (T.Function f) ts a h.flat h.name
 nowhere {m = m} a (L.later_function t {ts = ts} o h) = nowhere (All-tail (IsOther m.function) t ts a) h
 
-pub made_at : (m : Move) (ts slice : List Top) (i : ℕ) (t u : Top) → slice ≡ ts → IsPlaceOf m.function slice i → slice_get ts i ≡ Some t → IsTopMoved m t u → OneMoved m ts (slice_set ts i u)
+pub made_at : (m : Move) (ts slice : List Top) (i : ℕ) (t u : Top) → slice ≡ ts → IsPlaceOf m.function slice i → slice_get ts i ≡ Some t →
+    IsTopMoved m t u → OneMoved m ts (slice_set ts i u)
 made_at m ts slice i t u e p g h = made_there m ts i t u g (subst (λ z. All (IsOther m.function) (take i z)) e p.before) h
 
-pub not_at : (m : Move) (ts slice us : List Top) (i : ℕ) (t : Top) → slice ≡ ts → IsPlaceOf m.function slice i → slice_get ts i ≡ Some t → ((u : Top) → IsTopMoved m t u → ⊥) → OneMoved m ts us → ⊥
+pub not_at : (m : Move) (ts slice us : List Top) (i : ℕ) (t : Top) → slice ≡ ts → IsPlaceOf m.function slice i → slice_get ts i ≡ Some t →
+    ((u : Top) → IsTopMoved m t u → ⊥) → OneMoved m ts us → ⊥
 not_at m ts slice us i t e p g n h =
     let same : p.top ≡ t = some_same (sym p.there ∙ ap (λ z. slice_get z i) e ∙ g) in
     not_there m ts us i t g (subst (IsFlatOf m.function) same p.flat) (subst (λ z. All (IsOther m.function) (take i z)) e p.before) n h
@@ -112,8 +118,11 @@ flat_leapless name t f h w e = let g = subst IsTopLeapless e h in g (subst (IsFl
 
 -- ---- many
 
-pub one_more : (ts us vs : List Top) (ms : List Move) (i : ℕ) (m : Move) → slice_get ms i ≡ Some m → Moves ts (take i ms) us × All IsTopWellMade us → OneMoved m us vs → Moves ts (take (i + 1) ms) vs × All IsTopWellMade vs
+pub one_more : (ts us vs : List Top) (ms : List Move) (i : ℕ) (m : Move) → slice_get ms i ≡ Some m → Moves ts (take i ms) us × All IsTopWellMade us →
+    OneMoved m us vs → Moves ts (take (i + 1) ms) vs × All IsTopWellMade vs
 one_more ts us vs ms i m e a h =
     let more_ : suc i ≡ i + 1 = omega arith in
-    let r : Moves ts (take i ms ++ m ∷ []) vs = moves_both a.0 (more h none) in
-    (subst (λ k. Moves ts (take k ms) vs) more_ (subst (λ z. Moves ts z vs) (sym (taken_more ms i m e)) r), lawful_laws.well_made us vs (m ∷ []) a.1 (more h none))
+    let r : Moves ts (take i ms ++ m ∷ []) vs = moves_both a.0 (more h none) in (
+      subst (λ k. Moves ts (take k ms) vs) more_ (subst (λ z. Moves ts z vs) (sym (taken_more ms i m e)) r),
+      lawful_laws.well_made us vs (m ∷ []) a.1 (more h none),
+    )

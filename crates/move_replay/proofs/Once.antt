@@ -55,7 +55,8 @@ at_once m ms ts us h s =
 pub no_stop : (ms : List Move) (ts us : List Top) (n : ℕ) → All IsTopWellMade ts → Moves ts ms us → StopsAt n ms ts → ⊥
 no_stop [] ts us n w h s = let f = s.next in cc
 no_stop (m ∷ ms) ts us zero w h s = let f = first h in at_once m ms ts f.middle f.here s
-no_stop (m ∷ ms) ts us (suc n) w h s = let f = first h in no_stop ms f.middle us n (one_made m ts f.middle w f.here) f.rest (later m ms ts f.middle n w f.here s)
+no_stop (m ∷ ms) ts us (suc n) w h s = let f = first h in no_stop ms f.middle us n (one_made m ts f.middle w f.here) f.rest
+    (later m ms ts f.middle n w f.here s)
 
 pub one_stop : (ms : List Move) (ts : List Top) (n k : ℕ) → All IsTopWellMade ts → StopsAt n ms ts → StopsAt k ms ts → n ≡ k
 one_stop [] ts n k w s r = let f = s.next in cc
@@ -96,7 +97,8 @@ module _ (p : Program) (resolved : IsResolved p) where
   not_stopped text q ms r a b u =
       let e = one_report text u.moves ms u.report a in
       let s = one_start p u.start b.start u.is_start b.is_start in
-      no_stop ms b.start q.tops u.place (start_made p b.start resolved b.is_start) b.moved (subst (λ z. StopsAt u.place z b.start) e (subst (StopsAt u.place u.moves) s u.stops))
+      no_stop ms b.start q.tops u.place (start_made p b.start resolved b.is_start) b.moved
+      (subst (λ z. StopsAt u.place z b.start) e (subst (StopsAt u.place u.moves) s u.stops))
 
   -- ---- a report that is accepted
 
@@ -171,7 +173,11 @@ module _ (p : Program) (resolved : IsResolved p) where
         | inl b ↦ absurd (no_report text a.moves s a.report b)
         | inr k ↦ elim k [
           | inl b ↦ unlawful_once text r s a b
-          | inr k ↦ elim k [ inl b ↦ absurd (not_stopped text b.program b.moves r b.report b.reached a) | inr b ↦ absurd (not_stopped text b.program b.moves r b.report b.reached a) ]
+          | inr k ↦ elim k [
+            | inl b ↦ absurd (not_stopped text b.program b.moves r b.report b.reached a)
+            | inr b ↦ absurd
+                (not_stopped text b.program b.moves r b.report b.reached a)
+          ]
         ]
       ]
       | inr h ↦ elim h [

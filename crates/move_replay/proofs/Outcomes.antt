@@ -54,7 +54,8 @@ read_back p text q c r a =
 
 -- ---- answers
 
-pub accepted : (p q made : Program) (text : List ℕ) (start : List Top) (used : List (List ℕ)) (ms : List Move) (counts : Counts) → IsResolved p → used ≡ names p → IsReport text ms → IsStart p start → Moves start ms q.tops → All IsTopLeapless q.tops
+pub accepted : (p q made : Program) (text : List ℕ) (start : List Top) (used : List (List ℕ)) (ms : List Move) (counts : Counts) → IsResolved p →
+    used ≡ names p → IsReport text ms → IsStart p start → Moves start ms q.tops → All IsTopLeapless q.tops
     → made ≡ plain used q → IsWithinLimits made → counts ≡ counts_of ms q made → IsReplay p text made counts
 accepted p q made text start used ms counts r e report is moved leapless form within counted =
     let a : IsReached p q ms = record { start = start; is_start = is; moved = moved } in
@@ -71,13 +72,22 @@ accepted p q made text start used ms counts r e report is moved leapless form wi
       guards = ap (λ (c : Counts). c.guards) counted;
     }
 
-pub stopped : (p : Program) (text : List ℕ) (start : List Top) (ms : List Move) (r : Refusal) → IsReport text ms → IsStart p start → Stops start ms text r → IsRefusal p text r
+pub stopped : (p : Program) (text : List ℕ) (start : List Top) (ms : List Move) (r : Refusal) → IsReport text ms → IsStart p start →
+    Stops start ms text r → IsRefusal p text r
 stopped p text start ms r report is h = elim h [
   | inl s ↦ inr (inl (record { moves = ms; report = report; start = start; is_start = is; place = s.place; stops = s.stops; at = s.at }))
-  | inr s ↦ inr (inr (inl (record { moves = ms; program = record { tops = s.end }; report = report; reached = record { start = start; is_start = is; moved = s.moved }; left = s.left; at = s.at })))
+  | inr s ↦ inr (inr (inl (record {
+    moves = ms;
+    program = record { tops = s.end };
+    report = report;
+    reached = record { start = start; is_start = is; moved = s.moved };
+    left = s.left;
+    at = s.at;
+  })))
 ]
 
-pub too_deep : (p q made : Program) (text : List ℕ) (start : List Top) (used : List (List ℕ)) (ms : List Move) (r : Refusal) → used ≡ names p → IsReport text ms → IsStart p start → Moves start ms q.tops → All IsTopLeapless q.tops
+pub too_deep : (p q made : Program) (text : List ℕ) (start : List Top) (used : List (List ℕ)) (ms : List Move) (r : Refusal) → used ≡ names p →
+    IsReport text ms → IsStart p start → Moves start ms q.tops → All IsTopLeapless q.tops
     → made ≡ plain used q → ¬ (IsWithinLimits made) → IsAt 53 (length ms + 1) (length text) r → IsRefusal p text r
 too_deep p q made text start used ms r e report is moved leapless form beyond at =
     inr (inr (inr (record {
@@ -97,17 +107,20 @@ reportable [] n h = tt
 reportable (m ∷ ms) n h = (record { function = n.0.function; label = n.0.label; path = h.0 }, reportable ms n.1 h.1)
 
 -- it is accepted
-pub restructured : (p q : Program) (text : List ℕ) (ms : List Move) (counts : Counts) → IsResolved p → IsRestructured p q ms counts → HaveNumbers ms → text ≡ report_text ms → IsReplay p text q counts
+pub restructured : (p q : Program) (text : List ℕ) (ms : List Move) (counts : Counts) → IsResolved p → IsRestructured p q ms counts → HaveNumbers ms →
+    text ≡ report_text ms → IsReplay p text q counts
 restructured p q text ms counts r w numbers e =
     let start = converted_tops w.rewritten.flat.tops in
     let i : IsStart p start = record { flat = w.rewritten.flat.tops; held = w.rewritten.held; flattened = w.rewritten.flattened; is = refl } in
     let m = replayed_laws.moves flat_counts p w.rewritten.flat.tops w.moved.tops ms r (flat_tops p start r i) w.rewritten.moved in
     let named = replayed_program_laws.moves p w.moved ms r (with_names p w.moved ms (record { start = start; is_start = i; moved = m.0 })) in
-    accepted p w.moved q text start (names p) ms counts r refl (record { lines = reportable ms named numbers; text_is = e }) i m.0 m.1 w.result (resolved_within q (reads_back p q ms counts r w).resolved) (counts_are p q ms counts r w)
+    accepted p w.moved q text start (names p) ms counts r refl (record { lines = reportable ms named numbers; text_is = e }) i m.0 m.1 w.result
+    (resolved_within q (reads_back p q ms counts r w).resolved) (counts_are p q ms counts r w)
 
 -- ---- the answer is the only one
 
-module _ (p : Program) (text : List ℕ) (r : IsResolved p) (result : Result (Program × Counts) ReadStop) (yes : IfOk result (λ a. IsReplay p text a.0 a.1)) (no : (refusal : Refusal) → result ≡ Err (S.Refused refusal) → IsRefusal p text refusal) where
+module _ (p : Program) (text : List ℕ) (r : IsResolved p) (result : Result (Program × Counts) ReadStop)
+    (yes : IfOk result (λ a. IsReplay p text a.0 a.1)) (no : (refusal : Refusal) → result ≡ Err (S.Refused refusal) → IsRefusal p text refusal) where
   pub complete : (q : Program) (c : Counts) → IsReplay p text q c → result ≢ Err S.Memory → result ≡ Ok (q, c)
   complete q c a n = by result refl yes where
     by : (x : Result (Program × Counts) ReadStop) → result ≡ x → IfOk x (λ a. IsReplay p text a.0 a.1) → result ≡ Ok (q, c)

@@ -22,8 +22,16 @@ no_elements : {A : Type 0} (P : A → Type 0) → All P []
 no_elements P k d h = absurd (omega (arith, h))
 
 flat_cases : (m : List ℕ) (k : ℕ) (f : Function) (o : Option ℕ) (b c : Bool) → f.flat ≡ b → bytes_eq f.name m ≡ c → Cases m k (T.Function f) o
-flat_cases m k f o true true e g = inl ((e, search (rules, bytes_eq-Decides)), ap (λ z. cond {A = Option ℕ} (z && bytes_eq f.name m) (Some k) o) e ∙ ap (λ z. cond {A = Option ℕ} z (Some k) o) g)
-flat_cases m k f o true false e g = inr (search (rules, bytes_eq-Decides), ap (λ z. cond {A = Option ℕ} (z && bytes_eq f.name m) (Some k) o) e ∙ ap (λ z. cond {A = Option ℕ} z (Some k) o) g)
+flat_cases m k f o true true e g = inl (
+  (e, search (rules, bytes_eq-Decides)),
+  ap (λ z. cond {A = Option ℕ} (z && bytes_eq f.name m) (Some k) o) e ∙
+      ap (λ z. cond {A = Option ℕ} z (Some k) o) g,
+)
+flat_cases m k f o true false e g = inr (
+  search (rules, bytes_eq-Decides),
+  ap (λ z. cond {A = Option ℕ} (z && bytes_eq f.name m) (Some k) o) e ∙
+      ap (λ z. cond {A = Option ℕ} z (Some k) o) g,
+)
 flat_cases m k f o false c e g = inr ((λ h. let i : true ≡ false = sym h ∙ e in cc), ap (λ z. cond {A = Option ℕ} (z && bytes_eq f.name m) (Some k) o) e)
 
 cases : (m : List ℕ) (k : ℕ) (t : Top) (o : Option ℕ) → Cases m k t o
@@ -49,8 +57,17 @@ some_is m k (t ∷ ts) i e = elim (cases m k t (place_from (suc k) m ts)) [
   | inr p ↦
       let r = some_is m (suc k) ts i (sym p.1 ∙ e) in
       let h = r.1 in
-      let w = r.2.within in
-      (suc r.0, omega (arith, h), record { top = r.2.top; within = omega (arith, w); there = r.2.there; flat = r.2.flat; before = All-cons (IsOther m) t (take r.0 ts) p.0 r.2.before })
+      let w = r.2.within in (
+        suc r.0,
+        omega (arith, h),
+        record {
+          top = r.2.top;
+          within = omega (arith, w);
+          there = r.2.there;
+          flat = r.2.flat;
+          before = All-cons (IsOther m) t (take r.0 ts) p.0 r.2.before;
+        },
+      )
 ]
 
 pub placed : (m : List ℕ) (ts : List Top) (o : Option ℕ) → o ≡ place_in m ts → MatchOption o (All (IsOther m) ts) (λ i. IsPlaceOf m ts i)

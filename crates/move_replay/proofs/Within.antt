@@ -93,7 +93,8 @@ module _ (f : Function) where
     item : (x : Tree) → ItemIsSpelled f x → most_counted_of x ≤ most
     item (Evaluate x) h = full f.slots 1 x h
     item (Return x) h = option f.slots x h
-    item (If t a b) h = both (most_tested t) (max (most_counted a) (most_counted b)) (test f.slots t h.0) (both (most_counted a) (most_counted b) (items a h.1) (items b h.2))
+    item (If t a b) h = both (most_tested t) (max (most_counted a) (most_counted b)) (test f.slots t h.0)
+        (both (most_counted a) (most_counted b) (items a h.1) (items b h.2))
     item (While t a) h = both (most_tested t) (most_counted a) (test f.slots t h.0) (items a h.1)
     item (Do a t) h = both (most_counted a) (most_tested t) (items a h.0) (test f.slots t h.1)
     item (For first t u a) h =
@@ -115,7 +116,8 @@ module _ (f : Function) where
     sections : (c : Sections) → SectionsAreSpelled f c → most_counted_in c ≤ most
     sections NoSection h = omega arith
     sections (Section cases default a ends c) h =
-        both (most_of 3 cases) (max (most_counted a) (most_counted_in c)) (listed f.slots 3 cases h.0) (both (most_counted a) (most_counted_in c) (items a h.1) (sections c h.2))
+        both (most_of 3 cases) (max (most_counted a) (most_counted_in c)) (listed f.slots 3 cases h.0)
+        (both (most_counted a) (most_counted_in c) (items a h.1) (sections c h.2))
 
 -- ---- files
 

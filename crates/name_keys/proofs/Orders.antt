@@ -55,9 +55,15 @@ front_empty (suc k) = omega (arith, front_empty k)
 front_below : (k : ℕ) (text : List ℕ) → AreBytes text → front k text < 256 ^ k
 front_below zero text h = omega arith
 front_below (suc k) [] h = omega (arith, front_empty k, pow-suc 256 k, front_below k [] h)
-front_below (suc k) (x ∷ xs) h = omega (arith, pow-suc 256 k, front_below k xs (tail_bytes x xs h), mul-le (x + 1) (256 ^ k) 256 (256 ^ k) (omega (arith, h 0)) (omega arith))
+front_below (suc k) (x ∷ xs) h = omega (
+  arith,
+  pow-suc 256 k,
+  front_below k xs (tail_bytes x xs h),
+  mul-le (x + 1) (256 ^ k) 256 (256 ^ k) (omega (arith, h 0)) (omega arith),
+)
 
-front_more : (k x y : ℕ) (xs ys : List ℕ) → AreBytes xs → AreBytes ys → nat_cmp (front (suc k) (x ∷ xs)) (front (suc k) (y ∷ ys)) ≡ ordering_then (nat_cmp x y) (nat_cmp (front k xs) (front k ys))
+front_more : (k x y : ℕ) (xs ys : List ℕ) → AreBytes xs → AreBytes ys →
+    nat_cmp (front (suc k) (x ∷ xs)) (front (suc k) (y ∷ ys)) ≡ ordering_then (nat_cmp x y) (nat_cmp (front k xs) (front k ys))
 front_more k x y xs ys p q = digits (256 ^ k) x y (front k xs) (front k ys) (front_below k xs p) (front_below k ys q)
 
 -- the numbers of the first bytes decide, where they differ
@@ -70,23 +76,31 @@ order_of_fronts (suc k) [] (y ∷ ys) p q h =
 order_of_fronts (suc k) (x ∷ xs) [] p q h =
     let none : front (suc k) [] ≡ 0 = front_empty (suc k) in
     sym (greater (front (suc k) (x ∷ xs)) (front (suc k) []) (omega (arith, h, none)))
-order_of_fronts (suc k) (x ∷ xs) (y ∷ ys) p q h = by (cases_order x y) (order_of_fronts k xs ys (tail_bytes x xs p) (tail_bytes y ys q)) ∙ sym (front_more k x y xs ys (tail_bytes x xs p) (tail_bytes y ys q))
+order_of_fronts (suc k) (x ∷ xs) (y ∷ ys) p q h = by (cases_order x y) (order_of_fronts k xs ys (tail_bytes x xs p) (tail_bytes y ys q)) ∙ sym
+    (front_more k x y xs ys (tail_bytes x xs p) (tail_bytes y ys q))
   where
-    by : (x ≡ y) ⊎ ((x < y) ⊎ (y < x)) → (front k xs ≢ front k ys → name_cmp xs ys ≡ nat_cmp (front k xs) (front k ys)) → ordering_then (nat_cmp x y) (name_cmp xs ys) ≡ ordering_then (nat_cmp x y) (nat_cmp (front k xs) (front k ys))
+    by : (x ≡ y) ⊎ ((x < y) ⊎ (y < x)) → (front k xs ≢ front k ys → name_cmp xs ys ≡ nat_cmp (front k xs) (front k ys)) →
+        ordering_then (nat_cmp x y) (name_cmp xs ys) ≡ ordering_then (nat_cmp x y) (nat_cmp (front k xs) (front k ys))
     by (inl e) f = ap (ordering_then (nat_cmp x y)) (f (λ s. h (λ i. e i * 256 ^ k + s i)))
-    by (inr (inl l)) f = ap (λ o. ordering_then o (name_cmp xs ys)) (less x y l) ∙ ap (λ o. ordering_then o (nat_cmp (front k xs) (front k ys))) (sym (less x y l))
-    by (inr (inr l)) f = ap (λ o. ordering_then o (name_cmp xs ys)) (greater x y l) ∙ ap (λ o. ordering_then o (nat_cmp (front k xs) (front k ys))) (sym (greater x y l))
+    by (inr (inl l)) f = ap (λ o. ordering_then o (name_cmp xs ys)) (less x y l) ∙
+        ap (λ o. ordering_then o (nat_cmp (front k xs) (front k ys))) (sym (less x y l))
+    by (inr (inr l)) f = ap (λ o. ordering_then o (name_cmp xs ys)) (greater x y l) ∙
+        ap (λ o. ordering_then o (nat_cmp (front k xs) (front k ys))) (sym (greater x y l))
 
 -- where they are the same and one name has no more bytes, the lengths decide
-pub order_of_lengths : (k : ℕ) (a b : List ℕ) → AreBytes a → AreBytes b → front k a ≡ front k b → min (length a) (length b) ≤ k → name_cmp a b ≡ nat_cmp (length a) (length b)
+pub order_of_lengths : (k : ℕ) (a b : List ℕ) → AreBytes a → AreBytes b → front k a ≡ front k b → min (length a) (length b) ≤ k →
+    name_cmp a b ≡ nat_cmp (length a) (length b)
 order_of_lengths k [] [] p q e h = refl
 order_of_lengths k [] (y ∷ ys) p q e h = sym (less 0 (length (y ∷ ys)) (omega arith))
 order_of_lengths k (x ∷ xs) [] p q e h = sym (greater (length (x ∷ xs)) 0 (omega arith))
 order_of_lengths zero (x ∷ xs) (y ∷ ys) p q e h = absurd (omega arith)
 order_of_lengths (suc k) (x ∷ xs) (y ∷ ys) p q e h =
-    by (cases_order x y) (front_below k xs (tail_bytes x xs p)) (front_below k ys (tail_bytes y ys q)) (λ s. order_of_lengths k xs ys (tail_bytes x xs p) (tail_bytes y ys q) s (omega arith))
+    by (cases_order x y) (front_below k xs (tail_bytes x xs p)) (front_below k ys (tail_bytes y ys q))
+    (λ s. order_of_lengths k xs ys (tail_bytes x xs p) (tail_bytes y ys q) s (omega arith))
   where
-    by : (x ≡ y) ⊎ ((x < y) ⊎ (y < x)) → front k xs < 256 ^ k → front k ys < 256 ^ k → (front k xs ≡ front k ys → name_cmp xs ys ≡ nat_cmp (length xs) (length ys)) → ordering_then (nat_cmp x y) (name_cmp xs ys) ≡ nat_cmp (suc (length xs)) (suc (length ys))
+    by : (x ≡ y) ⊎ ((x < y) ⊎ (y < x)) → front k xs < 256 ^ k → front k ys < 256 ^ k →
+        (front k xs ≡ front k ys → name_cmp xs ys ≡ nat_cmp (length xs) (length ys)) →
+        ordering_then (nat_cmp x y) (name_cmp xs ys) ≡ nat_cmp (suc (length xs)) (suc (length ys))
     by (inl d) f g more =
         let same : front k xs ≡ front k ys = omega (arith, e, ap (λ z. z * 256 ^ k) d) in
         ap (λ o. ordering_then o (name_cmp xs ys)) (equal x y d) ∙ more same ∙ one_more (length xs) (length ys) (cases_order (length xs) (length ys))

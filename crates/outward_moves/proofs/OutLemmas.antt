@@ -31,7 +31,8 @@ rest-is l i n xs e =
     ∙ append_nil (take i xs ++ guarded l (drop (i + 1) xs))
 
 -- the list of the construct, which is left and has the Leap put after it
-pub moved_out-is : (l k : ℕ) (b : Branch) (i : ℕ) (xs ys : List Item) (x : Item) → slice_get xs k ≡ Some x → ys ≡ option_map_or (λ x. slice_set xs k (left l b i x)) (slice_get xs k) xs
+pub moved_out-is : (l k : ℕ) (b : Branch) (i : ℕ) (xs ys : List Item) (x : Item) → slice_get xs k ≡ Some x →
+    ys ≡ option_map_or (λ x. slice_set xs k (left l b i x)) (slice_get xs k) xs
     → insert ys (k + 1) (Leap l) ≡ moved_out l k b i xs
 moved_out-is l k b i xs ys x g e =
     let z = left l b i x in
@@ -69,7 +70,8 @@ ended (o ∷ outer) (p ∷ other) last end e =
     record { same = ap (λ x. x ∷ outer) first ∙ ap (λ xs. p ∷ xs) r.same; step = r.step }
 
 -- rule O applies with the label and the steps that were found
-pub found_applies : (body : List Item) (at : Path) → IsHeldElsewhere body at → (l : ℕ) (outer : List Step) (last : Step) → Some l ≡ label_at body at → at.steps ≡ outer ++ last ∷ []
+pub found_applies : (body : List Item) (at : Path) → IsHeldElsewhere body at → (l : ℕ) (outer : List Step) (last : Step) → Some l ≡ label_at body at →
+    at.steps ≡ outer ++ last ∷ []
     → CanMoveOut l outer last at.item body
 found_applies body at h l outer last e s =
     let r = ended h.outer outer h.last last (sym h.steps ∙ s) in

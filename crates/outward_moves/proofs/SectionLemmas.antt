@@ -33,7 +33,8 @@ module _ (l : ℕ) where
 -- the section that the Leap at i leaves, and those after it
 
 module _ (l i : ℕ) where
-  pub left_ends : (xs : List Section) (k : ℕ) (s t : Section) → slice_get xs k ≡ Some s → t ≡ with_list (rest_guarded l i (list_of s)) s → (out-Section s).ends ≡ true
+  pub left_ends : (xs : List Section) (k : ℕ) (s t : Section) → slice_get xs k ≡ Some s → t ≡ with_list (rest_guarded l i (list_of s)) s →
+      (out-Section s).ends ≡ true
       → slice_set xs k t ≡ take k xs ++ sections_left l i (drop k xs)
   left_ends [] k s t g e h = cc
   left_ends (x ∷ xs) zero s t g e h =
@@ -42,7 +43,8 @@ module _ (l i : ℕ) where
       ∙ sym (ap (λ b. with_list (rest_guarded l i (list_of x)) x ∷ cond b xs (later_guarded l xs)) (ap (λ y. (out-Section y).ends) (sym same) ∙ h))
   left_ends (x ∷ xs) (suc k) s t g e h = ap (λ ys. x ∷ ys) (left_ends xs k s t g e h)
 
-  left_suc : (xs : List Section) (k : ℕ) (s t : Section) → slice_get xs k ≡ Some s → t ≡ with_list (rest_guarded l i (list_of s)) s → (out-Section s).ends ≡ false
+  left_suc : (xs : List Section) (k : ℕ) (s t : Section) → slice_get xs k ≡ Some s → t ≡ with_list (rest_guarded l i (list_of s)) s →
+      (out-Section s).ends ≡ false
       → take (suc k) (slice_set xs k t) ++ later_guarded l (drop (suc k) (slice_set xs k t)) ≡ take k xs ++ sections_left l i (drop k xs)
   left_suc [] k s t g e h = cc
   left_suc (x ∷ xs) zero s t g e h =
@@ -51,7 +53,8 @@ module _ (l i : ℕ) where
       ∙ sym (ap (λ b. with_list (rest_guarded l i (list_of x)) x ∷ cond b xs (later_guarded l xs)) (ap (λ y. (out-Section y).ends) (sym same) ∙ h))
   left_suc (x ∷ xs) (suc k) s t g e h = ap (λ ys. x ∷ ys) (left_suc xs k s t g e h)
 
-  pub left_on : (xs : List Section) (k : ℕ) (s t : Section) → slice_get xs k ≡ Some s → t ≡ with_list (rest_guarded l i (list_of s)) s → (out-Section s).ends ≡ false
+  pub left_on : (xs : List Section) (k : ℕ) (s t : Section) → slice_get xs k ≡ Some s → t ≡ with_list (rest_guarded l i (list_of s)) s →
+      (out-Section s).ends ≡ false
       → take (k + 1) (slice_set xs k t) ++ later_guarded l (drop (k + 1) (slice_set xs k t)) ≡ take k xs ++ sections_left l i (drop k xs)
   left_on xs k s t g e h = rw add-one (left_suc xs k s t g e h)
 
@@ -62,17 +65,20 @@ fallen_some [] k h = absurd (omega arith)
 fallen_some (x ∷ xs) zero h = omega arith
 fallen_some (x ∷ xs) (suc k) h = fallen_some xs k (omega arith)
 
-fallen_suc : (xs : List Section) (k : ℕ) (s t : Section) → slice_get xs k ≡ Some s → (out-Section s).ends ≡ false → fallen (drop k xs) ≡ 1 + fallen (drop (suc k) (slice_set xs k t))
+fallen_suc : (xs : List Section) (k : ℕ) (s t : Section) → slice_get xs k ≡ Some s → (out-Section s).ends ≡ false →
+    fallen (drop k xs) ≡ 1 + fallen (drop (suc k) (slice_set xs k t))
 fallen_suc [] k s t g h = cc
 fallen_suc (x ∷ xs) zero s t g h =
     let same : s ≡ x = cc in
     ap (λ (b : Bool). 1 + cond b 0 (fallen xs)) (ap (λ y. (out-Section y).ends) (sym same) ∙ h)
 fallen_suc (x ∷ xs) (suc k) s t g h = fallen_suc xs k s t g h
 
-pub fallen_on : (xs : List Section) (k : ℕ) (s t : Section) → slice_get xs k ≡ Some s → (out-Section s).ends ≡ false → fallen (drop k xs) ≡ 1 + fallen (drop (k + 1) (slice_set xs k t))
+pub fallen_on : (xs : List Section) (k : ℕ) (s t : Section) → slice_get xs k ≡ Some s → (out-Section s).ends ≡ false →
+    fallen (drop k xs) ≡ 1 + fallen (drop (k + 1) (slice_set xs k t))
 fallen_on xs k s t g h = rw add-one (fallen_suc xs k s t g h)
 
-pub fallen_later_on : (xs : List Section) (k : ℕ) (s t : Section) → slice_get xs k ≡ Some s → (out-Section s).ends ≡ false → fallen_later (drop k xs) ≡ fallen (drop (k + 1) (slice_set xs k t))
+pub fallen_later_on : (xs : List Section) (k : ℕ) (s t : Section) → slice_get xs k ≡ Some s → (out-Section s).ends ≡ false →
+    fallen_later (drop k xs) ≡ fallen (drop (k + 1) (slice_set xs k t))
 fallen_later_on [] k s t g h = cc
 fallen_later_on (x ∷ xs) zero s t g h =
     let same : s ≡ x = cc in

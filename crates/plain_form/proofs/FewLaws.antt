@@ -17,7 +17,8 @@ module _ (names : Function → List (List ℕ)) (named : (f : Function) → leng
       let each : length (map guard_slot ms) ≡ length ms = length-map ms guard_slot in
       omega (arith, all, each, few_names body (names f), named f)
 
-  by_flat : (f : Function) (body : List Item) (b : Bool) → length (if b then with_guard_variables (names f) f body else record f { body = Some (tidied body) }).slots ≤ length f.slots + cond b (length f.labels) 0
+  by_flat : (f : Function) (body : List Item) (b : Bool) → length
+      (if b then with_guard_variables (names f) f body else record f { body = Some (tidied body) }).slots ≤ length f.slots + cond b (length f.labels) 0
   by_flat f body true = few_slots f body
   by_flat f body false = omega arith
 

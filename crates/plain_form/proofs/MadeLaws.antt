@@ -72,7 +72,8 @@ module _ (g : Guards) (to : Item → Item) (to_section : Section → Section) wh
 
   -- where the definition takes the same step on each item and section, both are the same
   items_by : ((y : Item-F Item Section) → made_step g (map-Item Item Section Item Section to to_section y) ≡ to (roll-Item y))
-      → ((c : Section-F Item Section) → ended (record { cases = c.cases; default = c.default; list = map to c.list; ends = c.ends }) ≡ to_section (roll-Section c))
+      → ((c : Section-F Item Section) → ended (record { cases = c.cases; default = c.default; list = map to c.list; ends = c.ends }) ≡ to_section
+      (roll-Section c))
       → (x : Item) → Same x
   items_by h k = ind-Item Same SameSection
       (λ x y e. subst (λ (z : Item-F Item Section). Same (roll-Item z)) e (
@@ -158,7 +159,8 @@ module _ (s : Slots) where
   variable_step (While t a) = sym (tidied-While (T.Source (plain_test (slot_in s) t)) _ ∙ ap (V.While (T.Source (plain_test (slot_in s) t))) (lists_then a))
   variable_step (Do a t) = sym (tidied-Do _ (T.Source (plain_test (slot_in s) t)) ∙ ap (λ p. V.Do p (T.Source (plain_test (slot_in s) t))) (lists_then a))
   variable_step (Switch e cs) =
-      sym (tidied-Switch (S.Source (plain_selector (slot_in s) e)) _ ∙ ap (λ p. V.Switch (S.Source (plain_selector (slot_in s) e)) (given p)) (sections_then cs))
+      sym (tidied-Switch (S.Source (plain_selector (slot_in s) e)) _ ∙
+      ap (λ p. V.Switch (S.Source (plain_selector (slot_in s) e)) (given p)) (sections_then cs))
   variable_step (For f t u a) =
       sym (tidied_roll _ ∙ ap₂ (λ p q. roll-Item (For p t u q)) (lists_then f) (lists_then a))
   variable_step (Block a) = sym (tidied_roll _ ∙ ap (λ p. roll-Item (Block p)) (lists_then a))

@@ -34,7 +34,8 @@ more_same n (b ∷ bs) f g h = ap (λ c. (b || c) ∷ more (n + 1) bs f) (h n) �
 
 more_then : (n : ℕ) (ms : List Bool) (f g : ℕ → Bool) → more n (more n ms f) g ≡ more n ms (λ l. f l || g l)
 more_then n [] f g = refl
-more_then n (b ∷ bs) f g = ap (λ c. c ∷ more (n + 1) (more (n + 1) bs f) g) (or_assoc b (f n) (g n)) ∙ ap (λ t. (b || (f n || g n)) ∷ t) (more_then (n + 1) bs f g)
+more_then n (b ∷ bs) f g = ap (λ c. c ∷ more (n + 1) (more (n + 1) bs f) g) (or_assoc b (f n) (g n)) ∙
+    ap (λ t. (b || (f n || g n)) ∷ t) (more_then (n + 1) bs f g)
 
 -- none more, where no label from n on is asked for
 more_none : (n : ℕ) (ms : List Bool) (f : ℕ → Bool) → ((l : ℕ) → n ≤ l → f l ≡ false) → more n ms f ≡ ms
@@ -58,7 +59,8 @@ more_mark n zero (b ∷ bs) l e =
     ap (λ c. c ∷ bs) (or_true b) ∙ ap (λ c. (b || c) ∷ bs) (sym (eq-eqb l n same))
     ∙ ap (λ t. (b || (l == n)) ∷ t) (sym (more_none (n + 1) bs (λ m. l == m) (λ m g. unlike (eqb l m) l m refl (omega (arith, g)))))
 more_mark n (suc at) (b ∷ bs) l e =
-    ap (λ t. b ∷ t) (more_mark (n + 1) at bs l (omega arith)) ∙ ap (λ c. c ∷ more (n + 1) bs (λ m. l == m)) (sym (or_none b) ∙ ap (λ c. b || c) (sym (unlike_below (eqb l n) l n refl (omega (arith, e)))))
+    ap (λ t. b ∷ t) (more_mark (n + 1) at bs l (omega arith)) ∙ ap (λ c. c ∷ more (n + 1) bs (λ m. l == m))
+    (sym (or_none b) ∙ ap (λ c. b || c) (sym (unlike_below (eqb l n) l n refl (omega (arith, e)))))
 
 -- two markings, one after the other
 both : (ms ns os : List Bool) (f g : ℕ → Bool) → ns ≡ more 0 ms f → os ≡ more 0 ns g → os ≡ more 0 ms (λ l. f l || g l)
@@ -138,12 +140,14 @@ of_sections a l = any_true (map (section_names l) (map section a))
 list_form : (a : List I) (ms : List Bool) → all_marked (map item_marked (map item a)) ms ≡ more 0 ms (of_list a)
 list_form [] ms = none ms
 list_form (e ∷ a) ms =
-    both ms (item_marked e.0 ms) (all_marked (map item_marked (map item a)) (item_marked e.0 ms)) (λ l. item_names l e.0) (of_list a) (e.1 ms) (list_form a (item_marked e.0 ms))
+    both ms (item_marked e.0 ms) (all_marked (map item_marked (map item a)) (item_marked e.0 ms)) (λ l. item_names l e.0) (of_list a) (e.1 ms)
+    (list_form a (item_marked e.0 ms))
 
 sections_form : (a : List C) (ms : List Bool) → all_marked (map section_marked (map section a)) ms ≡ more 0 ms (of_sections a)
 sections_form [] ms = none ms
 sections_form (e ∷ a) ms =
-    both ms (section_marked e.0 ms) (all_marked (map section_marked (map section a)) (section_marked e.0 ms)) (λ l. section_names l e.0) (of_sections a) (e.1 ms) (sections_form a (section_marked e.0 ms))
+    both ms (section_marked e.0 ms) (all_marked (map section_marked (map section a)) (section_marked e.0 ms)) (λ l. section_names l e.0)
+    (of_sections a) (e.1 ms) (sections_form a (section_marked e.0 ms))
 
 -- two lists, one after the other
 lists_form : (a b : List I) (ms : List Bool)
@@ -158,7 +162,8 @@ form (If t a b) ms =
 form (While t a) ms = both ms (test_marked t ms) _ (λ l. test_names l t) (of_list a) (test_law t ms) (list_form a (test_marked t ms))
 form (Do a t) ms = both ms (test_marked t ms) _ (λ l. test_names l t) (of_list a) (test_law t ms) (list_form a (test_marked t ms))
 form (For f t u a) ms = lists_form f a ms
-form (Switch s cs) ms = both ms (selector_marked s ms) _ (λ l. selector_names l s) (of_sections cs) (selector_law s ms) (sections_form cs (selector_marked s ms))
+form (Switch s cs) ms = both ms (selector_marked s ms) _ (λ l. selector_names l s) (of_sections cs) (selector_law s ms)
+    (sections_form cs (selector_marked s ms))
 form (Block a) ms = list_form a ms
 form (Arm l e) ms = one l ms
 form (Land l) ms = one l ms
@@ -185,10 +190,13 @@ item_law = ind-Item Marked SectionMarked
 -- an item with two lists
 
 pub item_marked-If : (t : Test) (a b : List Item) (ms : List Bool) → item_marked (V.If t a b) ms ≡ items_marked b (items_marked a (test_marked t ms))
-item_marked-If t a b ms = ap (λ x. item_marked x ms) (sym (rolls-If t a b)) ∙ ap (λ (f : Marking). f ms) (fold-roll-Item Marking Marking marked_step section_marked_step (If t a b))
+item_marked-If t a b ms = ap (λ x. item_marked x ms) (sym (rolls-If t a b)) ∙
+    ap (λ (f : Marking). f ms) (fold-roll-Item Marking Marking marked_step section_marked_step (If t a b))
 
-pub item_marked-For : (f : List Item) (t u : Option Expression) (a : List Item) (ms : List Bool) → item_marked (V.For f t u a) ms ≡ items_marked a (items_marked f ms)
-item_marked-For f t u a ms = ap (λ x. item_marked x ms) (sym (rolls-For f t u a)) ∙ ap (λ (k : Marking). k ms) (fold-roll-Item Marking Marking marked_step section_marked_step (For f t u a))
+pub item_marked-For : (f : List Item) (t u : Option Expression) (a : List Item) (ms : List Bool) →
+    item_marked (V.For f t u a) ms ≡ items_marked a (items_marked f ms)
+item_marked-For f t u a ms = ap (λ x. item_marked x ms) (sym (rolls-For f t u a)) ∙
+    ap (λ (k : Marking). k ms) (fold-roll-Item Marking Marking marked_step section_marked_step (For f t u a))
 
 items_law : (xs : List Item) (ms : List Bool) → items_marked xs ms ≡ more 0 ms (is_left xs)
 items_law [] ms = none ms
@@ -225,7 +233,8 @@ pub names_are_left : (xs : List Item) (ms : List (List ℕ)) → names_marked ms
 names_are_left xs ms = names_from xs 0 ms
 
 -- one name more
-pub names_more : (ms : List (List ℕ)) (bs : List Bool) (m : List ℕ) → names_marked (ms ++ m ∷ []) bs ≡ names_marked ms bs ++ cond (get_or bs (length ms) false) (m ∷ []) []
+pub names_more : (ms : List (List ℕ)) (bs : List Bool) (m : List ℕ) → names_marked (ms ++ m ∷ []) bs ≡ names_marked ms bs ++ cond
+    (get_or bs (length ms) false) (m ∷ []) []
 names_more [] [] m = refl
 names_more [] (true ∷ bs) m = refl
 names_more [] (false ∷ bs) m = refl

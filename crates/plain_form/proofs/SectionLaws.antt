@@ -28,11 +28,14 @@ popped None old new h = h.1 ∙ ap without_last (sym h.0)
 popped (Some x) old new h = sym (without new x) ∙ ap without_last (sym h)
 
 -- a section that takes its end
-pub ended_without : (cases : List Expression) (default : Bool) (list left : List Item) (ends : Bool) → (not ends && last_is_break list) ≡ true → left ≡ without_last list
-    → roll-Section (record { cases = cases; default = default; list = left; ends = true }) ≡ ended (record { cases = cases; default = default; list = list; ends = ends })
+pub ended_without : (cases : List Expression) (default : Bool) (list left : List Item) (ends : Bool) → (not ends && last_is_break list) ≡ true →
+    left ≡ without_last list
+    → roll-Section (record { cases = cases; default = default; list = left; ends = true }) ≡ ended
+    (record { cases = cases; default = default; list = list; ends = ends })
 ended_without cases default list left ends h e =
     ap (λ l. roll-Section (record { cases = cases; default = default; list = l; ends = true })) e
-    ∙ ap (λ b. cond b (roll-Section (record { cases = cases; default = default; list = without_last list; ends = true })) (roll-Section (record { cases = cases; default = default; list = list; ends = ends }))) (sym h)
+    ∙ ap (λ b. cond b (roll-Section (record { cases = cases; default = default; list = without_last list; ends = true }))
+    (roll-Section (record { cases = cases; default = default; list = list; ends = ends }))) (sym h)
 
 -- ---- sections
 
@@ -40,13 +43,16 @@ abbrev pub gives : Section → Bool
 gives c = is_empty (out-Section c).list && not (out-Section c).ends
 
 -- entries before entries before a section
-entries_twice : (c d e : Section) → with_entries (out-Section (with_entries (out-Section c) d)) e ≡ with_entries (out-Section c) (with_entries (out-Section d) e)
+entries_twice : (c d e : Section) → with_entries (out-Section (with_entries (out-Section c) d)) e ≡ with_entries (out-Section c)
+    (with_entries (out-Section d) e)
 entries_twice c d e =
     let x = out-Section c in
     let y = out-Section d in
     let z = out-Section e in
-    ap (λ cs. roll-Section (record { cases = cs; default = (x.default || y.default) || z.default; list = z.list; ends = z.ends })) (append_assoc x.cases y.cases z.cases)
-    ∙ ap (λ b. roll-Section (record { cases = x.cases ++ (y.cases ++ z.cases); default = b; list = z.list; ends = z.ends })) (or_assoc x.default y.default z.default)
+    ap (λ cs. roll-Section (record { cases = cs; default = (x.default || y.default) || z.default; list = z.list; ends = z.ends }))
+    (append_assoc x.cases y.cases z.cases)
+    ∙ ap (λ b. roll-Section (record { cases = x.cases ++ (y.cases ++ z.cases); default = b; list = z.list; ends = z.ends }))
+    (or_assoc x.default y.default z.default)
 
 give_by : (b : Bool) (c d : Section) (ds : List Section) → gives c ≡ b → give_to c (d ∷ ds) ≡ cond b (with_entries (out-Section c) d ∷ ds) (c ∷ d ∷ ds)
 give_by b c d ds e = ap (λ z. cond z (with_entries (out-Section c) d ∷ ds) (c ∷ d ∷ ds)) e
@@ -83,14 +89,16 @@ after_last (d ∷ []) c rest = refl
 after_last (d ∷ e ∷ cs) c rest = ap (λ z. d ∷ z) (after_last (e ∷ cs) c rest)
 
 -- the last section takes what it is given
-pub added_to : (out next before : List Section) (c d made : Section) → out ≡ before ++ c ∷ [] → gives c ≡ true → made ≡ with_entries (out-Section c) d → next ≡ before ++ made ∷ []
+pub added_to : (out next before : List Section) (c d made : Section) → out ≡ before ++ c ∷ [] → gives c ≡ true →
+    made ≡ with_entries (out-Section c) d → next ≡ before ++ made ∷ []
     → (rest : List Section) → given_after next rest ≡ given_after out (d ∷ rest)
 added_to out next before c d made e h m p rest =
     ap (λ z. given_after z rest) p ∙ after_last before made rest ∙ ap (λ z. before ++ given (z ∷ rest)) m ∙ ap (λ z. before ++ z) (sym (given_on c d rest h))
     ∙ sym (after_last before c (d ∷ rest)) ∙ sym (ap (λ z. given_after z (d ∷ rest)) e)
 
 -- or stands behind one that doesn't give
-pub added_behind : (out next before again : List Section) (c d : Section) → out ≡ before ++ c ∷ [] → gives c ≡ false → again ≡ before ++ c ∷ [] → next ≡ again ++ d ∷ []
+pub added_behind : (out next before again : List Section) (c d : Section) → out ≡ before ++ c ∷ [] → gives c ≡ false → again ≡ before ++ c ∷ [] →
+    next ≡ again ++ d ∷ []
     → (rest : List Section) → given_after next rest ≡ given_after out (d ∷ rest)
 added_behind out next before again c d e h a p rest =
     ap (λ z. given_after z rest) p ∙ after_last again d rest ∙ ap (λ z. z ++ given (d ∷ rest)) a ∙ append_assoc before (c ∷ []) (given (d ∷ rest))
@@ -106,5 +114,6 @@ same_items : (cs : List Section) → map (λ c. c) cs ≡ cs
 same_items [] = refl
 same_items (c ∷ cs) = ap (λ ds. c ∷ ds) (same_items cs)
 
-pub given_end : (out done all : List Section) → map (λ c. c) done ≡ all → ((rest : List Section) → given_after out rest ≡ given (done ++ rest)) → out ≡ given all
+pub given_end : (out done all : List Section) → map (λ c. c) done ≡ all → ((rest : List Section) → given_after out rest ≡ given (done ++ rest)) →
+    out ≡ given all
 given_end out done all e h = sym (given_all out) ∙ h [] ∙ ap given (append-nil done ∙ sym (same_items done) ∙ e)

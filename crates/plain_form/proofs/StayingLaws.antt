@@ -75,7 +75,8 @@ tidied_same (x ∷ xs) h =
     let r = second (holds_switch x) (has_switch xs) h in
     ap₂ {A = Item} {B = List Item} (λ y ys. y ∷ ys) (same x q) (tidied_same xs r)
 
-by_flat : (names : List (List ℕ)) (f : Function) (body : List Item) → f.body ≡ Some body → (b c : Bool) → f.flat ≡ b → has_switch body ≡ c → (not b && not c) ≡ true
+by_flat : (names : List (List ℕ)) (f : Function) (body : List Item) → f.body ≡ Some body → (b c : Bool) → f.flat ≡ b → has_switch body ≡ c →
+    (not b && not c) ≡ true
     → (if f.flat then with_guard_variables names f body else record f { body = Some (tidied body) }) ≡ f
 by_flat names f body e true c p q h = absurd cc
 by_flat names f body e false true p q h = absurd cc
@@ -83,7 +84,8 @@ by_flat names f body e false false p q h =
     ap (λ b. if b then with_guard_variables names f body else record f { body = Some (tidied body) }) p
     ∙ ap (λ xs. record f { body = Some xs }) (tidied_same body q) ∙ ap (λ o. record f { body = o }) (sym e)
 
-by_body : (names : List (List ℕ)) (f : Function) (o : Option (List Item)) → f.body ≡ o → (elim o [ None ↦ true | Some body ↦ not f.flat && not (has_switch body) ]) ≡ true → plain_body names f o ≡ f
+by_body : (names : List (List ℕ)) (f : Function) (o : Option (List Item)) → f.body ≡ o →
+    (elim o [ None ↦ true | Some body ↦ not f.flat && not (has_switch body) ]) ≡ true → plain_body names f o ≡ f
 by_body names f None e h = refl
 by_body names f (Some body) e h = by_flat names f body e f.flat (has_switch body) refl refl h
 

@@ -44,7 +44,8 @@ module _ (p : Code) (sh : Shapes) (c : ℕ) where
   none_parted ts ss u h = record { arguments = []; below = u; fit = tt; sorts = h; last = λ w. refl; without = λ w. refl }
 
   one_parted : (n : ℕ) (ts : List Slot) (ss : List Sort) (u xs : List Value) → Fit (later_slots ts) xs → ((w : List Value) → last_values n [] (u ++ w) ≡ xs)
-      → (b : List Value) → HaveSorts p sh c (ForSlot (first_slot ts).kind ∷ ss) b → ((w : List Value) → without_last n (u ++ w) ≡ b ++ w) → Parted (suc n) ts ss u
+      → (b : List Value) → HaveSorts p sh c (ForSlot (first_slot ts).kind ∷ ss) b → ((w : List Value) → without_last n (u ++ w) ≡ b ++ w) →
+      Parted (suc n) ts ss u
   one_parted n ts ss u xs f l [] h e = absurd h
   one_parted n ts ss u xs f l (y ∷ b) h e = record {
     arguments = y ∷ xs;
@@ -72,7 +73,8 @@ module _ (p : Code) (sh : Shapes) (c : ℕ) where
   each_fits : (ts : List Slot) (vs : List Value) → Fit ts vs → (x : ℕ) → HasSort p sh c (ForSlot (entry_or no_slot ts x).kind) (entry_or Missing vs x)
   each_fits ts [] h x = tt
   each_fits ts (v ∷ vs) h zero = subst (λ (s : Slot). HasSort p sh c (ForSlot s.kind) v) (sym (first_entry ts)) h.0
-  each_fits ts (v ∷ vs) h (suc x) = subst (λ (s : Slot). HasSort p sh c (ForSlot s.kind) (entry_or Missing vs x)) (sym (later_entry ts x)) (each_fits (later_slots ts) vs h.1 x)
+  each_fits ts (v ∷ vs) h (suc x) = subst (λ (s : Slot). HasSort p sh c (ForSlot s.kind) (entry_or Missing vs x)) (sym (later_entry ts x))
+      (each_fits (later_slots ts) vs h.1 x)
 
   pub arguments_fit : (f : FunctionTree) (n : ℕ) (ss : List Sort) (u : List Value) (r : Parted n f.slots ss u) → AreArguments p sh c f r.arguments
   arguments_fit f n ss u r = record { each = each_fits f.slots r.arguments r.fit }

@@ -97,7 +97,8 @@ module _ (p : Code) (gs : List ℕ → Guarding) (is : (m : List ℕ) → IsSlot
 
   -- ---- a call begins
 
-  module _ (sh : Shapes) (n cells : ℕ) (s v : Variables) (input : List ℕ) (answers : List ℤ) (events : List Event) (mem : Memories p sh n s v) (m : List ℕ) {cs cs' : List Frame} (fr : Frames p gs is sh v n m cs cs')
+  module _ (sh : Shapes) (n cells : ℕ) (s v : Variables) (input : List ℕ) (answers : List ℤ) (events : List Event) (mem : Memories p sh n s v)
+      (m : List ℕ) {cs cs' : List Frame} (fr : Frames p gs is sh v n m cs cs')
       (vs : List Value) (are : AreArguments p sh n (p.functions m) vs) where
     abbrev fun : FunctionTree
     fun = p.functions m
@@ -110,17 +111,22 @@ module _ (p : Code) (gs : List ℕ → Guarding) (is : (m : List ℕ) → IsSlot
 
     zeros : Zeros (suc n) (length fun.slots) (length fun.slots + length (gs m).more) new
     zeros x h i =
-        subst (λ u. IsBit u false) (sym (entered_here p sh n fun vs are (gs m) s v mem (slot_at_start (slotted (gs m) fun) vs) x)) (start_bit fun (gs m) vs x (is m).parameters (is m).ints h i)
+        subst (λ u. IsBit u false) (sym (entered_here p sh n fun vs are (gs m) s v mem (slot_at_start (slotted (gs m) fun) vs) x))
+        (start_bit fun (gs m) vs x (is m).parameters (is m).ints h i)
 
     shape_here : (shapes (suc n)).slots ≡ fun.slots
     shape_here = ap (λ b. (cond b (start_shape fun vs) (sh (suc n))).slots) (eq-eqb (suc n) (suc n) refl)
 
-    started : (a : Forest) → Everywhere (Fit p gs is m) a → Later (At m no_guards (items a []) [] cs (world (put_call (suc n) (slot_at_start fun vs) s) (suc n) (cells + cells_of fun.slots) input answers events))
-        (At m no_guards (items (join (gs m).declarations (plain_list (gs m).slot a)) []) [] cs' (world new (suc n) (cells + cells_of fun.slots) input answers events))
+    started : (a : Forest) → Everywhere (Fit p gs is m) a → Later
+        (At m no_guards (items a []) [] cs (world (put_call (suc n) (slot_at_start fun vs) s) (suc n) (cells + cells_of fun.slots) input answers events))
+        (At m no_guards (items (join (gs m).declarations (plain_list (gs m).slot a)) []) [] cs'
+        (world new (suc n) (cells + cells_of fun.slots) input answers events))
     started a i =
-        let d = declares Q m cs' (suc n) (length fun.slots) (length fun.slots + length (gs m).more) (cells + cells_of fun.slots) input answers events (gs m).declarations (is m).declared (plain_list (gs m).slot a) new zeros in
+        let d = declares Q m cs' (suc n) (length fun.slots) (length fun.slots + length (gs m).more) (cells + cells_of fun.slots) input answers events
+        (gs m).declarations (is m).declared (plain_list (gs m).slot a) new zeros in
         let e = entered p sh n fun vs are (gs m) s v mem in
-        let st : Sits p gs is shapes d.after (suc n) m no_guards = record { shape = shape_here; guards = λ l j. d.zeros ((gs m).slot l) ((is m).beyond l j) ((is m).within l j) } in
+        let st : Sits p gs is shapes d.after (suc n) m no_guards =
+        record { shape = shape_here; guards = λ l j. d.zeros ((gs m).slot l) ((is m).beyond l j) ((is m).within l j) } in
         let me : Memories p shapes (suc n) (put_call (suc n) (slot_at_start fun vs) s) d.after = record {
           file_same = λ r. d.outside.files r ∙ e.file_same r;
           file_good = e.file_good;
@@ -129,13 +135,19 @@ module _ (p : Code) (gs : List ℕ → Guarding) (is : (m : List ℕ) → IsSlot
         } in
         record {
           steps = d.steps;
-          related = subst (λ z. Related p gs is (At m no_guards (items a []) [] cs (world (put_call (suc n) (slot_at_start fun vs) s) (suc n) (cells + cells_of fun.slots) input answers events)) z) (sym d.comes)
-              (x_at shapes (put_call (suc n) (slot_at_start fun vs) s) d.after n (cells + cells_of fun.slots) input answers events m no_guards [] [] [] [] me st tt (s_rest [] (rest_items p gs is m a i r_none))
-              (frames_on p gs is sh shapes v d.after n m (shapes_agree p n (start_shape fun vs) sh) (λ c y h j. d.outside.calls c y (λ q g. absurd (omega (arith, q, h))) ∙ entered_kept p sh n fun vs are (gs m) s v mem (slot_at_start (slotted (gs m) fun) vs) c y h) fr));
+          related = subst (λ z. Related p gs is
+              (At m no_guards (items a []) [] cs (world (put_call (suc n) (slot_at_start fun vs) s) (suc n) (cells + cells_of fun.slots) input answers
+              events)) z) (sym d.comes)
+              (x_at shapes (put_call (suc n) (slot_at_start fun vs) s) d.after n (cells + cells_of fun.slots) input answers events m no_guards [] []
+              [] [] me st tt (s_rest [] (rest_items p gs is m a i r_none))
+              (frames_on p gs is sh shapes v d.after n m (shapes_agree p n (start_shape fun vs) sh)
+              (λ c y h j. d.outside.calls c y (λ q g. absurd (omega (arith, q, h))) ∙
+              entered_kept p sh n fun vs are (gs m) s v mem (slot_at_start (slotted (gs m) fun) vs) c y h) fr));
         }
       where
         past : (c x : ℕ) → suc n ≡ c → length fun.slots ≤ x → x < length (shapes c).slots → ⊥
-        past c x q g j = let h : x < length fun.slots = subst (λ z. x < length z) shape_here (subst (λ z. x < length (shapes z).slots) (sym q) j) in omega (arith, h, g)
+        past c x q g j = let h : x < length fun.slots = subst (λ z. x < length z) shape_here (subst (λ z. x < length (shapes z).slots) (sym q) j) in
+            omega (arith, h, g)
 
     abbrev w : World
     w = world s n cells input answers events
@@ -150,44 +162,63 @@ module _ (p : Code) (gs : List ℕ → Guarding) (is : (m : List ℕ) → IsSlot
     whole a = join (gs m).declarations (plain_list (gs m).slot a)
 
     chosen_begin : (b c : Bool) (a : Forest) → Everywhere (Fit p gs is m) a
-        → Later (begin_call m a (pushed b c (cells_of fun.slots) (put_call (suc n) (slot_at_start fun vs) s)) cs w) (begin_call m (whole a) (pushed b c (cells_of fun.slots) new) cs' w')
+        → Later (begin_call m a (pushed b c (cells_of fun.slots) (put_call (suc n) (slot_at_start fun vs) s)) cs w)
+        (begin_call m (whole a) (pushed b c (cells_of fun.slots) new) cs' w')
     chosen_begin true c a i = now _ _ (x_trapped Trap.Calls events)
     chosen_begin false true a i = now _ _ (x_trapped Trap.Cells events)
     chosen_begin false false a i = started a i
 
-    pub begun : (a : Forest) → Everywhere (Fit p gs is m) a → Later (begin_call m a (push fun vs w) cs w) (begin_call m (whole a) (push (slotted (gs m) fun) vs w') cs' w')
+    pub begun : (a : Forest) → Everywhere (Fit p gs is m) a → Later (begin_call m a (push fun vs w) cs w)
+        (begin_call m (whole a) (push (slotted (gs m) fun) vs w') cs' w')
     begun a i =
-        subst (λ k. Later (begin_call m a (push fun vs w) cs w) (begin_call m (whole a) (pushed (nat_lt most_calls (suc n)) (nat_lt most_cells (cells + k)) k new) cs' w')) (sym (more_cells fun.slots (gs m).more (is m).ints))
+        subst (λ k. Later (begin_call m a (push fun vs w) cs w)
+        (begin_call m (whole a) (pushed (nat_lt most_calls (suc n)) (nat_lt most_cells (cells + k)) k new) cs' w'))
+        (sym (more_cells fun.slots (gs m).more (is m).ints))
         (chosen_begin (nat_lt most_calls (suc n)) (nat_lt most_cells (cells + cells_of fun.slots)) a i)
 
   -- ---- a call ends
 
   module _ (sh : Shapes) (cells : ℕ) (s v : Variables) (input : List ℕ) (answers : List ℤ) (events : List Event) where
     entry_left : (b : Bool) (n : ℕ) (x : Value)
-        → Related p gs is (settle (cond b (Traps Trap.NoValue (world s n cells input answers events)) (Exits (integer x) (world s n cells input answers events))) [] no_guards [] [] [])
-        (settle (cond b (Traps Trap.NoValue (world v n cells input answers events)) (Exits (integer x) (world v n cells input answers events))) [] no_guards [] [] [])
+        → Related p gs is (settle (cond b (Traps Trap.NoValue (world s n cells input answers events))
+        (Exits (integer x) (world s n cells input answers events))) [] no_guards [] [] [])
+        (settle (cond b (Traps Trap.NoValue (world v n cells input answers events)) (Exits (integer x) (world v n cells input answers events))) []
+        no_guards [] [] [])
     entry_left true n x = x_trapped Trap.NoValue events
     entry_left false n x = x_ended (integer x) events
 
-    call_left : (b : Bool) (i k : ℕ) (x : Value) (f : List ℕ) (g : Guards) (ss : List Sort) (u r r' : List Value) {ks ks' : List Task} {cs cs' : List Frame} (t : Sort) → HasSort p sh (suc i) t x
-        → Memories p sh (suc i) s v → Sits p gs is sh v (suc i) f g → HaveSorts p sh (suc i) ss u → Stack p gs is f (suc i) (t ∷ ss) r r' ks ks' → Frames p gs is sh v i f cs cs'
-        → Related p gs is (settle (cond b (Traps Trap.NoValue (world s (suc (suc i)) cells input answers events)) (Gives x (world s (suc i) k input answers events))) f g ks (u ++ r) cs)
-        (settle (cond b (Traps Trap.NoValue (world v (suc (suc i)) cells input answers events)) (Gives x (world v (suc i) k input answers events))) f no_guards ks' (u ++ r') cs')
+    call_left : (b : Bool) (i k : ℕ) (x : Value) (f : List ℕ) (g : Guards) (ss : List Sort) (u r r' : List Value) {ks ks' : List Task}
+        {cs cs' : List Frame} (t : Sort) → HasSort p sh (suc i) t x
+        → Memories p sh (suc i) s v → Sits p gs is sh v (suc i) f g → HaveSorts p sh (suc i) ss u → Stack p gs is f (suc i) (t ∷ ss) r r' ks ks' →
+        Frames p gs is sh v i f cs cs'
+        → Related p gs is (settle (cond b (Traps Trap.NoValue (world s (suc (suc i)) cells input answers events))
+        (Gives x (world s (suc i) k input answers events))) f g ks (u ++ r) cs)
+        (settle (cond b (Traps Trap.NoValue (world v (suc (suc i)) cells input answers events)) (Gives x (world v (suc i) k input answers events))) f
+        no_guards ks' (u ++ r') cs')
     call_left true i k x f g ss u r r' t h me st hs sk fr = x_trapped Trap.NoValue events
     call_left false i k x f g ss u r r' t h me st hs sk fr = x_at sh s v i k input answers events f g (t ∷ ss) (x ∷ u) r r' me st (h, hs) sk fr
 
-    pub left_behind : (n : ℕ) (m : List ℕ) (x : Value) {cs cs' : List Frame} → IsNumber x → InKind (p.functions m).result x → Memories p sh (suc n) s v → Frames p gs is sh v n m cs cs'
-        → Related p gs is (leave (p.functions m) x cs (world s (suc n) cells input answers events)) (leave (slotted (gs m) (p.functions m)) x cs' (world v (suc n) cells input answers events))
+    pub left_behind : (n : ℕ) (m : List ℕ) (x : Value) {cs cs' : List Frame} → IsNumber x → InKind (p.functions m).result x →
+        Memories p sh (suc n) s v → Frames p gs is sh v n m cs cs'
+        → Related p gs is (leave (p.functions m) x cs (world s (suc n) cells input answers events))
+        (leave (slotted (gs m) (p.functions m)) x cs' (world v (suc n) cells input answers events))
     left_behind n m x a b me (f_none r) = entry_left (lacks (p.functions m) x) 1 x
     left_behind n m x a b me (f_more i r f g t ss u y y' {k = k} {k' = k'} {cs = cs} {cs' = cs'} st hs un sk fr) =
         let h = p.functions m in
         let left = leave h x (Waits f g k (u ++ y) ∷ cs) (world s (suc (suc i)) cells input answers events) in
-        subst (λ z. Related p gs is left (settle (cond (lacks h x && not z) (Traps Trap.NoValue (world v (suc (suc i)) cells input answers events)) (Gives x (world v (suc i) (cells - cells_of (h.slots ++ (gs m).more)) input answers events))) f no_guards k' (u ++ y') cs')) (sym (drops_alike f (suc i) sk))
-        (subst (λ z. Related p gs is left (settle (cond (lacks h x && not (is_dropped k)) (Traps Trap.NoValue (world v (suc (suc i)) cells input answers events)) (Gives x (world v (suc i) (cells - z) input answers events))) f no_guards k' (u ++ y') cs')) (sym (more_cells h.slots (gs m).more (is m).ints))
-        (call_left (lacks h x && not (is_dropped k)) i (cells - cells_of h.slots) x f g ss u y y' t (under p sh (suc i) (Num h.result) t x un (a, b)) (fewer p sh (suc i) (suc (suc i)) s v (omega arith) me) st hs sk fr))
+        subst (λ z. Related p gs is left
+        (settle (cond (lacks h x && not z) (Traps Trap.NoValue (world v (suc (suc i)) cells input answers events))
+        (Gives x (world v (suc i) (cells - cells_of (h.slots ++ (gs m).more)) input answers events))) f no_guards k' (u ++ y') cs'))
+        (sym (drops_alike f (suc i) sk))
+        (subst (λ z. Related p gs is left
+        (settle (cond (lacks h x && not (is_dropped k)) (Traps Trap.NoValue (world v (suc (suc i)) cells input answers events))
+        (Gives x (world v (suc i) (cells - z) input answers events))) f no_guards k' (u ++ y') cs')) (sym (more_cells h.slots (gs m).more (is m).ints))
+        (call_left (lacks h x && not (is_dropped k)) i (cells - cells_of h.slots) x f g ss u y y' t (under p sh (suc i) (Num h.result) t x un (a, b))
+        (fewer p sh (suc i) (suc (suc i)) s v (omega arith) me) st hs sk fr))
 
   -- the value that a call gives is one for its kind
-  returned_in : (o : Option IntKind) (x : Value) → IsNumber (option_map_or (λ k. Integer (converted k (integer x))) o Missing) × InKind o (option_map_or (λ k. Integer (converted k (integer x))) o Missing)
+  returned_in : (o : Option IntKind) (x : Value) → IsNumber (option_map_or (λ k. Integer (converted k (integer x))) o Missing) × InKind o
+      (option_map_or (λ k. Integer (converted k (integer x))) o Missing)
   returned_in None x = (tt, tt)
   returned_in (Some k) x = (tt, converted-in_range k (integer x))
 

@@ -28,7 +28,12 @@ abbrev pub set_variable : ℕ → ℕ → Bool → Variables → Variables
 set_variable c x b v = put (OfCall c x) (with_number 0 (truth b) (v (OfCall c x))) v
 
 pub bit_stored : (b d : Bool) (u : Variable) → IsBit u d → IsBit (with_number 0 (truth b) u) b
-bit_stored b d (Holds k n cells) h = (h.0, h.1, ap (λ z. cond z (converted k (truth b)) (cells 0)) (eq-eqb 0 0 refl) ∙ ap (λ j. converted j (truth b)) h.0 ∙ converted-in_kind Int (truth b) (bit_in_range Int b))
+bit_stored b d (Holds k n cells) h = (
+  h.0,
+  h.1,
+  ap (λ z. cond z (converted k (truth b)) (cells 0)) (eq-eqb 0 0 refl) ∙
+      ap (λ j. converted j (truth b)) h.0 ∙ converted-in_kind Int (truth b) (bit_in_range Int b),
+)
 bit_stored b d (Lent o) h = absurd h
 
 abbrev pub call_of : Owner → ℕ
@@ -45,7 +50,8 @@ is_of_call (OfCall c x) = true
 
 module _ (p : Code) where
   -- a variable past the slots of its call changes on the right
-  pub guard_memories : (sh : Shapes) (n : ℕ) (s v : Variables) (c x : ℕ) (u : Variable) → length (sh c).slots ≤ x → Memories p sh n s v → Memories p sh n s (put (OfCall c x) u v)
+  pub guard_memories : (sh : Shapes) (n : ℕ) (s v : Variables) (c x : ℕ) (u : Variable) → length (sh c).slots ≤ x → Memories p sh n s v →
+      Memories p sh n s (put (OfCall c x) u v)
   guard_memories sh n s v c x u h m = record {
     file_same = λ r. put_beside (OfCall c x) (OfFile r) u v (λ e. true≢false (ap is_of_call e)) ∙ m.file_same r;
     file_good = m.file_good;
@@ -64,7 +70,8 @@ module _ (p : Code) where
   module _ (n : ℕ) (sh sh' : Shapes) (a : Agree n sh sh') where
     pub target_grows : (c : ℕ) (o : Owner) → c ≤ n → Target p sh c o → Target p sh' c o
     target_grows c (OfFile m) h t = tt
-    target_grows c (OfCall d x) h t = let g = t.0 in let e = a d (omega (arith, g, h)) in (t.0, subst (λ z. x < length z.slots) (sym e) t.1, ap (λ (z : Shape). z.own x) e ∙ t.2)
+    target_grows c (OfCall d x) h t = let g = t.0 in let e = a d (omega (arith, g, h)) in
+        (t.0, subst (λ z. x < length z.slots) (sym e) t.1, ap (λ (z : Shape). z.own x) e ∙ t.2)
 
     pub kind_grows : (c : ℕ) (o : Owner) → c ≤ n → Target p sh c o → owner_kind p sh' o ≡ owner_kind p sh o
     kind_grows c (OfFile m) h t = refl
@@ -96,7 +103,8 @@ module _ (p : Code) where
 
 module _ (p : Code) (gs : List ℕ → Guarding) (is : (m : List ℕ) → IsSlotted p (p.functions m) (gs m)) where
   -- a call whose variables for guards stay
-  pub sits_on : (sh sh' : Shapes) (v v' : Variables) (c : ℕ) (f : List ℕ) (g : Guards) → sh' c ≡ sh c → ((y : ℕ) → length (sh c).slots ≤ y → v' (OfCall c y) ≡ v (OfCall c y)) → Sits p gs is sh v c f g → Sits p gs is sh' v' c f g
+  pub sits_on : (sh sh' : Shapes) (v v' : Variables) (c : ℕ) (f : List ℕ) (g : Guards) → sh' c ≡ sh c →
+      ((y : ℕ) → length (sh c).slots ≤ y → v' (OfCall c y) ≡ v (OfCall c y)) → Sits p gs is sh v c f g → Sits p gs is sh' v' c f g
   sits_on sh sh' v v' c f g e k h = record {
     shape = ap (λ (z : Shape). z.slots) e ∙ h.shape;
     guards = λ l i.
@@ -104,14 +112,17 @@ module _ (p : Code) (gs : List ℕ → Guarding) (is : (m : List ℕ) → IsSlot
   }
 
   -- calls that wait, where memory beyond their slots stays, and the shapes of these calls
-  pub frames_on : (sh sh' : Shapes) (v v' : Variables) (n : ℕ) (m : List ℕ) {cs cs' : List Frame} → Agree p n sh sh' → ((d y : ℕ) → d ≤ n → length (sh d).slots ≤ y → v' (OfCall d y) ≡ v (OfCall d y))
+  pub frames_on : (sh sh' : Shapes) (v v' : Variables) (n : ℕ) (m : List ℕ) {cs cs' : List Frame} → Agree p n sh sh' →
+      ((d y : ℕ) → d ≤ n → length (sh d).slots ≤ y → v' (OfCall d y) ≡ v (OfCall d y))
       → Frames p gs is sh v n m cs cs' → Frames p gs is sh' v' n m cs cs'
   frames_on sh sh' v v' n m a k (f_none r) = f_none r
   frames_on sh sh' v v' n m a k (f_more i r f g t ss u x x' st hs un sk fr) =
-      f_more i r f g t ss u x x' (sits_on sh sh' v v' (suc i) f g (a (suc i) (omega arith)) (λ y h. k (suc i) y (omega arith) h) st) (sorts_grow p (suc i) sh sh' a (suc i) ss u (omega arith) hs) un sk
+      f_more i r f g t ss u x x' (sits_on sh sh' v v' (suc i) f g (a (suc i) (omega arith)) (λ y h. k (suc i) y (omega arith) h) st)
+      (sorts_grow p (suc i) sh sh' a (suc i) ss u (omega arith) hs) un sk
       (frames_on sh sh' v v' i f (λ d h. a d (omega (arith, h))) (λ d y h j. k d y (omega (arith, h)) j) fr)
 
-  pub frames_kept : (sh : Shapes) (v v' : Variables) (n : ℕ) (m : List ℕ) {cs cs' : List Frame} → Kept p sh v v' → Frames p gs is sh v n m cs cs' → Frames p gs is sh v' n m cs cs'
+  pub frames_kept : (sh : Shapes) (v v' : Variables) (n : ℕ) (m : List ℕ) {cs cs' : List Frame} → Kept p sh v v' → Frames p gs is sh v n m cs cs' →
+      Frames p gs is sh v' n m cs cs'
   frames_kept sh v v' n m k fr = frames_on sh sh v v' n m (λ d h. refl) (λ d y h j. k d y j) fr
 
   pub sits_kept : (sh : Shapes) (v v' : Variables) (c : ℕ) (f : List ℕ) (g : Guards) → Kept p sh v v' → Sits p gs is sh v c f g → Sits p gs is sh v' c f g
@@ -119,7 +130,8 @@ module _ (p : Code) (gs : List ℕ → Guarding) (is : (m : List ℕ) → IsSlot
 
   -- ---- a guard and its variable are set
 
-  pub set_sits : (sh : Shapes) (v : Variables) (c : ℕ) (f : List ℕ) (g : Guards) (l : ℕ) (b : Bool) → IsLeft p gs is f l → Sits p gs is sh v c f g → Sits p gs is sh (set_variable c (slot p gs is f l) b v) c f (with_guard l b g)
+  pub set_sits : (sh : Shapes) (v : Variables) (c : ℕ) (f : List ℕ) (g : Guards) (l : ℕ) (b : Bool) → IsLeft p gs is f l → Sits p gs is sh v c f g →
+      Sits p gs is sh (set_variable c (slot p gs is f l) b v) c f (with_guard l b g)
   set_sits sh v c f g l b i h = record {
     shape = h.shape;
     guards = λ m j. at m j (eqb l m) refl;
@@ -131,16 +143,22 @@ module _ (p : Code) (gs : List ℕ → Guarding) (is : (m : List ℕ) → IsSlot
       at : (m : ℕ) → IsLeft p gs is f m → (y : Bool) → eqb l m ≡ y → IsBit (set_variable c x b v (OfCall c (slot p gs is f m))) (cond y b (g m))
       at m j true e =
           subst (λ z. IsBit (set_variable c x b v (OfCall c (slot p gs is f z))) b) (eqb-true l m e)
-          (subst (λ u. IsBit u b) (sym (put_here (OfCall c x) (with_number 0 (truth b) (v (OfCall c x))) v)) (bit_stored b (g l) (v (OfCall c x)) (h.guards l i)))
+          (subst (λ u. IsBit u b) (sym (put_here (OfCall c x) (with_number 0 (truth b) (v (OfCall c x))) v))
+          (bit_stored b (g l) (v (OfCall c x)) (h.guards l i)))
       at m j false e =
           subst (λ u. IsBit u (g m))
-          (sym (put_beside (OfCall c x) (OfCall c (slot p gs is f m)) (with_number 0 (truth b) (v (OfCall c x))) v (λ q. true≢false (sym (eq-eqb l m ((is f).apart l m i j (ap slot_of q))) ∙ e))))
+          (sym (put_beside (OfCall c x) (OfCall c (slot p gs is f m)) (with_number 0 (truth b) (v (OfCall c x))) v
+          (λ q. true≢false (sym (eq-eqb l m ((is f).apart l m i j (ap slot_of q))) ∙ e))))
           (h.guards m j)
 
-  pub set_frames : (sh : Shapes) (v : Variables) (n x : ℕ) (b : Bool) (m : List ℕ) {cs cs' : List Frame} → Frames p gs is sh v n m cs cs' → Frames p gs is sh (set_variable (suc n) x b v) n m cs cs'
+  pub set_frames : (sh : Shapes) (v : Variables) (n x : ℕ) (b : Bool) (m : List ℕ) {cs cs' : List Frame} → Frames p gs is sh v n m cs cs' →
+      Frames p gs is sh (set_variable (suc n) x b v) n m cs cs'
   set_frames sh v n x b m fr =
       frames_on sh sh v (set_variable (suc n) x b v) n m (λ d h. refl)
-      (λ d y h j. put_beside (OfCall (suc n) x) (OfCall d y) (with_number 0 (truth b) (v (OfCall (suc n) x))) v (λ e. let q : suc n ≡ d = ap call_of e in omega (arith, q, h))) fr
+      (λ d y h j. put_beside (OfCall (suc n) x) (OfCall d y) (with_number 0 (truth b) (v (OfCall (suc n) x))) v
+      (λ e. let q : suc n ≡ d = ap call_of e in omega (arith, q, h))) fr
 
-  pub set_memories : (sh : Shapes) (s v : Variables) (n x : ℕ) (b : Bool) (f : List ℕ) → (sh (suc n)).slots ≡ slots p gs is f → length (slots p gs is f) ≤ x → Memories p sh (suc n) s v → Memories p sh (suc n) s (set_variable (suc n) x b v)
-  set_memories sh s v n x b f e h m = guard_memories p sh (suc n) s v (suc n) x (with_number 0 (truth b) (v (OfCall (suc n) x))) (subst (λ z. length z ≤ x) (sym e) h) m
+  pub set_memories : (sh : Shapes) (s v : Variables) (n x : ℕ) (b : Bool) (f : List ℕ) → (sh (suc n)).slots ≡ slots p gs is f →
+      length (slots p gs is f) ≤ x → Memories p sh (suc n) s v → Memories p sh (suc n) s (set_variable (suc n) x b v)
+  set_memories sh s v n x b f e h m = guard_memories p sh (suc n) s v (suc n) x (with_number 0 (truth b) (v (OfCall (suc n) x)))
+      (subst (λ z. length z ≤ x) (sym e) h) m

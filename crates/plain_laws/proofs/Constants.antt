@@ -59,7 +59,8 @@ minus_long n h =
     let i : IsInRange Long (negsuc n) = record { from_least = grind (arith, ints); to_greatest = grind (arith, ints) } in
     let t : nat_le n 9223372036854775807 ≡ true = grind (arith, nat_tests) in
     ap (λ z. number_or Overflow Long (neg_ℤ z)) (converted-in_kind Long (pos (suc n)) r)
-    ∙ chosen_ok (not (nat_le n 9223372036854775807 && true)) (negsuc n) (converted Long (negsuc n)) (ap (λ b. not (b && true)) t) (converted-in_kind Long (negsuc n) i)
+    ∙ chosen_ok (not (nat_le n 9223372036854775807 && true)) (negsuc n) (converted Long (negsuc n)) (ap (λ b. not (b && true)) t)
+    (converted-in_kind Long (negsuc n) i)
 
 -- a promoted kind
 pub data IsPromoted : IntKind → Type 0 where
@@ -108,7 +109,8 @@ module _ (q : Code) (f : List ℕ) (g : Guards) (cs : List Frame) (w : World) (k
   after r = perform q (left (outcome r w) u) f g ks cs
 
   abbrev middle : IntKind → Result ℤ Trap → State
-  middle k r = run q 2 (perform q (left (outcome r w) u) f g (Works (Computes (number k (pos 1))) ∷ Works (AppliesBinary (Arith Sub) (Some k) (Some k)) ∷ ks) cs)
+  middle k r = run q 2 (perform q (left (outcome r w) u) f g
+      (Works (Computes (number k (pos 1))) ∷ Works (AppliesBinary (Arith Sub) (Some k) (Some k)) ∷ ks) cs)
 
   -- `-max - 1`
   least_int_comes : run q 6 (from (least_constant Int)) ≡ to (negsuc 2147483647)
@@ -121,19 +123,35 @@ module _ (q : Code) (f : List ℕ) (g : Guards) (cs : List Frame) (w : World) (k
   int_comes n h true e =
       let p = h.from_least in
       let n_is : n ≡ 2147483647 = grind (arith, ints, nat_tests) in
-      record { steps = 5; is = ap (λ x. run q 6 (from x)) (take_true (nat_le 2147483647 n) (least_constant Int) (minus Int n) e) ∙ least_int_comes ∙ ap (λ m. to (negsuc m)) (sym n_is) }
+      record {
+        steps = 5;
+        is = ap (λ x. run q 6 (from x)) (take_true (nat_le 2147483647 n) (least_constant Int) (minus Int n) e) ∙ least_int_comes ∙
+            ap (λ m. to (negsuc m)) (sym n_is);
+      }
   int_comes n h false e =
       let small : suc n ≤ 2147483647 = grind (arith, nat_tests) in
-      record { steps = 2; is = ap (λ x. run q 3 (from x)) (take_false (nat_le 2147483647 n) (least_constant Int) (minus Int n) e) ∙ ap after (minus_int n small) }
+      record {
+        steps = 2;
+        is = ap (λ x. run q 3 (from x)) (take_false (nat_le 2147483647 n) (least_constant Int) (minus Int n) e) ∙
+            ap after (minus_int n small);
+      }
 
   long_comes : (n : ℕ) → IsInRange Long (negsuc n) → (b : Bool) → nat_le 9223372036854775807 n ≡ b → Come Long (negsuc n)
   long_comes n h true e =
       let p = h.from_least in
       let n_is : n ≡ 9223372036854775807 = grind (arith, ints, nat_tests) in
-      record { steps = 5; is = ap (λ x. run q 6 (from x)) (take_true (nat_le 9223372036854775807 n) (least_constant Long) (minus Long n) e) ∙ least_long_comes ∙ ap (λ m. to (negsuc m)) (sym n_is) }
+      record {
+        steps = 5;
+        is = ap (λ x. run q 6 (from x)) (take_true (nat_le 9223372036854775807 n) (least_constant Long) (minus Long n) e) ∙
+            least_long_comes ∙ ap (λ m. to (negsuc m)) (sym n_is);
+      }
   long_comes n h false e =
       let small : suc n ≤ 9223372036854775807 = grind (arith, nat_tests) in
-      record { steps = 2; is = ap (λ x. run q 3 (from x)) (take_false (nat_le 9223372036854775807 n) (least_constant Long) (minus Long n) e) ∙ ap after (minus_long n small) }
+      record {
+        steps = 2;
+        is = ap (λ x. run q 3 (from x)) (take_false (nat_le 9223372036854775807 n) (least_constant Long) (minus Long n) e) ∙
+            ap after (minus_long n small);
+      }
 
   pub constant_comes : (k : IntKind) (z : ℤ) → IsPromoted k → IsInRange k z → Come k z
   constant_comes k (pos n) i h = record { steps = 0; is = ap (λ x. run q 1 (from x)) (constant_pos k n) }

@@ -46,27 +46,33 @@ module _ (q : Code) (m : List ℕ) (cs : List Frame) (c base end cells : ℕ) (i
     pub zeros : Zeros c base end after
     pub outside : SameOutside c base v after
 
-  one_set : (x : ℕ) (k : List Task) (v : Variables) → IsBit (v (OfCall c x)) false → run q 3 (standing (Runs (Local x (Some (number Int (pos 0) ∷ []))) ∷ k) v) ≡ standing k (set_variable c x false v)
+  one_set : (x : ℕ) (k : List Task) (v : Variables) → IsBit (v (OfCall c x)) false →
+      run q 3 (standing (Runs (Local x (Some (number Int (pos 0) ∷ []))) ∷ k) v) ≡ standing k (set_variable c x false v)
   one_set x k v h =
       let o = OfCall c x in
       let u = put o (with_number 0 (pos 0) (v o)) v in
       let i : IsBit (u o) false = subst (λ z. IsBit z false) (sym (put_here o (with_number 0 (pos 0) (v o)) v)) (bit_stored false false (v o) h) in
-      ap (λ a. standing (works (cond (is_array (put a (with_number 0 (pos 0) (v a)) v o)) (Clears x 1 ∷ []) []) k) (put a (with_number 0 (pos 0) (v a)) v)) (holder_is c x (v o) false h)
+      ap (λ a. standing (works (cond (is_array (put a (with_number 0 (pos 0) (v a)) v o)) (Clears x 1 ∷ []) []) k)
+      (put a (with_number 0 (pos 0) (v a)) v)) (holder_is c x (v o) false h)
       ∙ ap (λ b. standing (works (cond b (Clears x 1 ∷ []) []) k) u) (no_array (u o) false i)
 
   still_zero : (x : ℕ) (v : Variables) → Zeros c base end v → IsBit (v (OfCall c x)) false → Zeros c base end (set_variable c x false v)
   still_zero x v z h y i j =
-      chosen (λ u. IsBit u false) (same_owner (OfCall c x) (OfCall c y)) (with_number 0 (pos 0) (v (OfCall c x))) (v (OfCall c y)) (λ e. bit_stored false false (v (OfCall c x)) h) (λ e. z y i j)
+      chosen (λ u. IsBit u false) (same_owner (OfCall c x) (OfCall c y)) (with_number 0 (pos 0) (v (OfCall c x))) (v (OfCall c y))
+      (λ e. bit_stored false false (v (OfCall c x)) h) (λ e. z y i j)
 
   outside_set : (x : ℕ) (v w : Variables) → base ≤ x → SameOutside c base (set_variable c x false v) w → SameOutside c base v w
   outside_set x v w h r = record {
     files = λ m. r.files m ∙ put_beside (OfCall c x) (OfFile m) (with_number 0 (pos 0) (v (OfCall c x))) v (λ e. true≢false (ap is_of_call e));
-    calls = λ d y n. r.calls d y n ∙ put_beside (OfCall c x) (OfCall d y) (with_number 0 (pos 0) (v (OfCall c x))) v (λ e. n (ap call_of e) (subst (λ z. base ≤ z) (ap slot_of e) h));
+    calls = λ d y n. r.calls d y n ∙ put_beside (OfCall c x) (OfCall d y) (with_number 0 (pos 0) (v (OfCall c x))) v
+        (λ e. n (ap call_of e) (subst (λ z. base ≤ z) (ap slot_of e) h));
   }
 
-  pub declares : (ds : Forest) → AreDeclarations base end ds → (b : Forest) (v : Variables) → Zeros c base end v → Declares (items (join ds b) []) (items b []) v
+  pub declares : (ds : Forest) → AreDeclarations base end ds → (b : Forest) (v : Variables) → Zeros c base end v →
+      Declares (items (join ds b) []) (items b []) v
   declares Nil none b v z = record { steps = 0; after = v; comes = refl; zeros = z; outside = record { files = λ r. refl; calls = λ d y h. refl } }
-  declares (Then x ds) (one_more (variable y) r) b v z = let i = declares ds r b v z in record { steps = suc i.steps; after = i.after; comes = i.comes; zeros = i.zeros; outside = i.outside }
+  declares (Then x ds) (one_more (variable y) r) b v z = let i = declares ds r b v z in
+      record { steps = suc i.steps; after = i.after; comes = i.comes; zeros = i.zeros; outside = i.outside }
   declares (Then x ds) (one_more (guarding y h j) r) b v z =
       let k = items (join ds b) [] in
       let u = set_variable c y false v in

@@ -31,7 +31,8 @@ entry_int [] x i h = absurd (omega (arith, h))
 entry_int (s ∷ more) zero i h = (i.0, i.1)
 entry_int (s ∷ more) (suc x) i h = entry_int more x i.2 (omega (arith, h))
 
-entry_behind : (ss more : List Slot) (x : ℕ) → AreInts more → length ss ≤ x → x < length ss + length more → ((entry_or no_slot (ss ++ more) x).kind ≡ Int) × ((entry_or no_slot (ss ++ more) x).cells ≡ None)
+entry_behind : (ss more : List Slot) (x : ℕ) → AreInts more → length ss ≤ x → x < length ss + length more →
+    ((entry_or no_slot (ss ++ more) x).kind ≡ Int) × ((entry_or no_slot (ss ++ more) x).cells ≡ None)
 entry_behind [] more x i g h = entry_int more x i (omega (arith, h))
 entry_behind (s ∷ ss) more zero i g h = absurd (omega (arith, g))
 entry_behind (s ∷ ss) more (suc x) i g h = entry_behind ss more x i (omega (arith, g)) (omega (arith, h))
@@ -49,11 +50,13 @@ chosen_variable : (P : Variable → Type 0) (b : Bool) (x y : Variable) → P x 
 chosen_variable P true x y h g = h
 chosen_variable P false x y h g = g
 
-pub start_bit : (f : FunctionTree) (g : Guarding) (vs : List Value) (x : ℕ) → f.params ≤ length f.slots → AreInts g.more → length f.slots ≤ x → x < length f.slots + length g.more → IsBit (slot_at_start (slotted g f) vs x) false
+pub start_bit : (f : FunctionTree) (g : Guarding) (vs : List Value) (x : ℕ) → f.params ≤ length f.slots → AreInts g.more → length f.slots ≤ x →
+    x < length f.slots + length g.more → IsBit (slot_at_start (slotted g f) vs x) false
 start_bit f g vs x h i j k =
     let e : nat_lt x f.params ≡ false = grind (arith, nat_tests) in
     let s = entry_behind f.slots g.more x i j k in
-    subst (λ b. IsBit (cond b (parameter (entry_or no_slot (f.slots ++ g.more) x) (entry_or Missing vs x)) (zeros (entry_or no_slot (f.slots ++ g.more) x))) false) (sym e) (bit_zero (entry_or no_slot (f.slots ++ g.more) x) s.0 s.1)
+    subst (λ b. IsBit (cond b (parameter (entry_or no_slot (f.slots ++ g.more) x) (entry_or Missing vs x))
+    (zeros (entry_or no_slot (f.slots ++ g.more) x))) false) (sym e) (bit_zero (entry_or no_slot (f.slots ++ g.more) x) s.0 s.1)
 
 start_same : (f : FunctionTree) (g : Guarding) (vs : List Value) (x : ℕ) → x < length f.slots → slot_at_start (slotted g f) vs x ≡ slot_at_start f vs x
 start_same f g vs x h = ap (λ s. cond (nat_lt x f.params) (parameter s (entry_or Missing vs x)) (zeros s)) (entry_before f.slots g.more x h)
@@ -87,7 +90,8 @@ module _ (p : Code) (sh : Shapes) (n : ℕ) (f : FunctionTree) (vs : List Value)
   agree = shapes_agree p n (start_shape f vs) sh
 
   good_parameter : (s : Slot) (v : Value) → HasSort p sh n (ForSlot s.kind) v → Good p grown (suc n) s.kind (is_own (parameter s v)) (parameter s v)
-  good_parameter s (Lends o) h = let t = target_grows p n sh grown agree n o (omega arith) h.0 in (below o t, kind_grows p n sh grown agree n o (omega arith) h.0 ∙ h.1, refl)
+  good_parameter s (Lends o) h = let t = target_grows p n sh grown agree n o (omega arith) h.0 in
+      (below o t, kind_grows p n sh grown agree n o (omega arith) h.0 ∙ h.1, refl)
     where
       below : (o : Owner) → Target p grown n o → Target p grown (suc n) o
       below (OfFile m) t = tt
@@ -122,8 +126,11 @@ module _ (p : Code) (sh : Shapes) (n : ℕ) (f : FunctionTree) (vs : List Value)
         same d x h true e i = start_same f g vs x i
         same d x h false e i = m.call_same d x (older d h e) i
 
-        good : (d x : ℕ) → d ≤ suc n → (b : Bool) → eqb (suc n) d ≡ b → (let z = cond b (start_shape f vs) (sh d) in x < length z.slots → Good p grown d (entry_or no_slot z.slots x).kind (z.own x) (cond b (slot_at_start f vs x) (s (OfCall d x))))
-        good d x h true e i = subst (λ z. Good p grown z (entry_or no_slot f.slots x).kind (is_own (slot_at_start f vs x)) (slot_at_start f vs x)) (eqb-true (suc n) d e) (good_start x)
+        good : (d x : ℕ) → d ≤ suc n → (b : Bool) → eqb (suc n) d ≡ b →
+            (let z = cond b (start_shape f vs) (sh d) in x < length z.slots → Good p grown d (entry_or no_slot z.slots x).kind (z.own x)
+            (cond b (slot_at_start f vs x) (s (OfCall d x))))
+        good d x h true e i = subst (λ z. Good p grown z (entry_or no_slot f.slots x).kind (is_own (slot_at_start f vs x)) (slot_at_start f vs x))
+            (eqb-true (suc n) d e) (good_start x)
         good d x h false e i = good_grows p n sh grown agree d _ _ (s (OfCall d x)) (older d h e) (m.call_good d x (older d h e) i)
 
     -- memory of earlier calls stays

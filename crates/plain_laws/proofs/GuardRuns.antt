@@ -36,11 +36,13 @@ module _ (q : Code) (f : List ℕ) (g : Guards) (cs : List Frame) (v : Variables
   found x b h = holder_is c x (v (OfCall c x)) b h
 
   -- a guard is read in three steps
-  pub reads : (x : ℕ) (b : Bool) (k : List Task) (u : List Value) → IsBit (v (OfCall c x)) b → run q 3 (there (Works (Computes (guard x)) ∷ k) u) ≡ there k (Integer (truth b) ∷ u)
+  pub reads : (x : ℕ) (b : Bool) (k : List Task) (u : List Value) → IsBit (v (OfCall c x)) b →
+      run q 3 (there (Works (Computes (guard x)) ∷ k) u) ≡ there k (Integer (truth b) ∷ u)
   reads x b k u h = ap (λ o. there k (Integer (number_held (v o) 0) ∷ u)) (found x b h) ∙ ap (λ z. there k (Integer z ∷ u)) (number_is (v (OfCall c x)) b h)
 
   -- and turned round in five
-  pub reads_off : (x : ℕ) (b : Bool) (k : List Task) (u : List Value) → IsBit (v (OfCall c x)) b → run q 5 (there (Works (Computes (guard_off x)) ∷ k) u) ≡ there k (Integer (truth (not b)) ∷ u)
+  pub reads_off : (x : ℕ) (b : Bool) (k : List Task) (u : List Value) → IsBit (v (OfCall c x)) b →
+      run q 5 (there (Works (Computes (guard_off x)) ∷ k) u) ≡ there k (Integer (truth (not b)) ∷ u)
   reads_off x b k u h =
       ap (λ o. there k (Integer (truth (is_zero (number_held (v o) 0))) ∷ u)) (found x b h)
       ∙ ap (λ z. there k (Integer (truth (is_zero z)) ∷ u)) (number_is (v (OfCall c x)) b h)

@@ -21,7 +21,8 @@ use Rattle.plain_laws.specs.GuardSlots as G
 use Rattle.plain_laws.specs.Plain.{number, guard_set, plain_test, plain_selector, armed, item_step, section_step, plain_item, plain_section, plain_items}
 use Rattle.plain_laws.proofs.PlainTrees.{number_tree, set_tree, armed_tree, test_same, selector_same}
 
-pub section_rolled : (z : Section-F Item Section) → section_tree (roll-Section z) ≡ record { cases = expression_trees z.cases; default = z.default; list = trees_of z.list; ends = z.ends }
+pub section_rolled : (z : Section-F Item Section) → section_tree
+    (roll-Section z) ≡ record { cases = expression_trees z.cases; default = z.default; list = trees_of z.list; ends = z.ends }
 unfolding section_tree trees_of tree_of
 section_rolled z = fold-roll-Section Tree SectionTree layer section_layer z
 
@@ -51,7 +52,8 @@ module _ (slot : ℕ → ℕ) where
 
   list_same : (a : List I) → trees_of (map (plain_item slot) (map item a)) ≡ G.plain_list slot (trees_of (map item a))
   list_same [] = trees-none ∙ ap (G.plain_list slot) (sym trees-none)
-  list_same (e ∷ a) = trees-more (plain_item slot e.0) _ ∙ ap₂ (λ x xs. P.Then x xs) e.1 (list_same a) ∙ ap (G.plain_list slot) (sym (trees-more e.0 (map item a)))
+  list_same (e ∷ a) = trees-more (plain_item slot e.0) _ ∙ ap₂ (λ x xs. P.Then x xs) e.1 (list_same a) ∙
+      ap (G.plain_list slot) (sym (trees-more e.0 (map item a)))
 
   sections_same : (a : List C) → sections_of (map (plain_section slot) (map section a)) ≡ G.plain_sections slot (sections_of (map section a))
   sections_same [] = sections-none ∙ ap (G.plain_sections slot) (sym sections-none)
@@ -76,10 +78,13 @@ module _ (slot : ℕ → ℕ) where
   becomes : (y : Tree) (x t z : Tree) → x ≡ z → y ≡ t → G.plain_item slot t ≡ z → x ≡ G.plain_item slot y
   becomes y x t z a b c = a ∙ sym c ∙ ap (G.plain_item slot) (sym b)
 
-  layer_same : (y : Item-F I C) → tree_of (item_step slot (map-Item Item Section Item Section (plain_item slot) (plain_section slot) (plain y))) ≡ G.plain_item slot (tree_of (roll-Item (plain y)))
+  layer_same : (y : Item-F I C) → tree_of
+      (item_step slot (map-Item Item Section Item Section (plain_item slot) (plain_section slot) (plain y))) ≡ G.plain_item slot (tree_of (roll-Item (plain y)))
   layer_same (If t a b) =
       becomes _ _ _ (P.If (Q.Source (G.plain_test slot (test_tree t))) (G.plain_list slot (trees_of (map item a))) (G.plain_list slot (trees_of (map item b))))
-      (tree-If (T.Source (plain_test slot t)) _ _ ∙ ap (λ z. P.If z (trees_of (map (plain_item slot) (map item a))) (trees_of (map (plain_item slot) (map item b)))) (source_test t) ∙ ap₂ (P.If (Q.Source (G.plain_test slot (test_tree t)))) (list_same a) (list_same b))
+      (tree-If (T.Source (plain_test slot t)) _ _ ∙ ap (λ z. P.If z (trees_of (map (plain_item slot) (map item a)))
+      (trees_of (map (plain_item slot) (map item b)))) (source_test t) ∙
+      ap₂ (P.If (Q.Source (G.plain_test slot (test_tree t)))) (list_same a) (list_same b))
       (ap tree_of (rolls-If t (map item a) (map item b)) ∙ tree-If t (map item a) (map item b)) refl
   layer_same (While t a) =
       becomes _ _ _ (P.While (Q.Source (G.plain_test slot (test_tree t))) (G.plain_list slot (trees_of (map item a))))
@@ -100,11 +105,14 @@ module _ (slot : ℕ → ℕ) where
       (tree-Switch (S.Source (plain_selector slot s)) _ ∙ ap₂ P.Switch (source_selector s) (sections_same cs))
       (ap tree_of (rolls-Switch s (map section cs)) ∙ tree-Switch s (map section cs)) refl
   layer_same (Block a) =
-      becomes _ _ _ (P.Block (G.plain_list slot (trees_of (map item a)))) (ap tree_of (rolls-Block _) ∙ tree-Block _ ∙ ap P.Block (list_same a)) (ap tree_of (rolls-Block (map item a)) ∙ tree-Block (map item a)) refl
+      becomes _ _ _ (P.Block (G.plain_list slot (trees_of (map item a)))) (ap tree_of (rolls-Block _) ∙ tree-Block _ ∙ ap P.Block (list_same a))
+      (ap tree_of (rolls-Block (map item a)) ∙ tree-Block (map item a)) refl
   layer_same (Arm l e) =
-      becomes _ _ _ (G.guard_set (slot l) (G.armed (option_map expression_tree e))) (set_same (slot l) (armed e) _ (armed_tree e)) (ap tree_of (rolls-Arm l e) ∙ tree-Arm l e) refl
+      becomes _ _ _ (G.guard_set (slot l) (G.armed (option_map expression_tree e))) (set_same (slot l) (armed e) _ (armed_tree e))
+      (ap tree_of (rolls-Arm l e) ∙ tree-Arm l e) refl
   layer_same (Land l) =
-      becomes _ _ _ (G.guard_set (slot l) (Numerals.number Int (pos 0))) (set_same (slot l) (number Int (pos 0)) _ (number_tree Int (pos 0))) (ap tree_of (rolls-Land l) ∙ tree-Land l) refl
+      becomes _ _ _ (G.guard_set (slot l) (Numerals.number Int (pos 0))) (set_same (slot l) (number Int (pos 0)) _ (number_tree Int (pos 0)))
+      (ap tree_of (rolls-Land l) ∙ tree-Land l) refl
   layer_same (Evaluate e) = let h = ap tree_of (rolls-Evaluate e) ∙ tree-Evaluate e in becomes _ _ _ _ h h refl
   layer_same (Return e) = let h = ap tree_of (rolls-Return e) ∙ tree-Return e in becomes _ _ _ _ h h refl
   layer_same (Local k e) = let h = ap tree_of (rolls-Local k e) ∙ tree-Local k e in becomes _ _ _ _ h h refl
@@ -118,7 +126,8 @@ module _ (slot : ℕ → ℕ) where
 
   item_same : (x : Item) → ItemSame x
   item_same = ind-Item ItemSame SectionSame
-      (λ x y e. subst (λ (z : Item-F Item Section). ItemSame (roll-Item z)) e (ap tree_of (fold-roll-Item Item Section (item_step slot) section_step _) ∙ layer_same y))
+      (λ x y e. subst (λ (z : Item-F Item Section). ItemSame (roll-Item z)) e
+      (ap tree_of (fold-roll-Item Item Section (item_step slot) section_step _) ∙ layer_same y))
       (λ x y e. subst (λ (z : Section-F Item Section). SectionSame (roll-Section z)) e (
       ap section_tree (fold-roll-Section Item Section (item_step slot) section_step _)
       ∙ section_rolled _
@@ -128,4 +137,5 @@ module _ (slot : ℕ → ℕ) where
   -- the trees of a list whose guards are variables
   pub plain_trees : (xs : List Item) → trees_of (plain_items slot xs) ≡ G.plain_list slot (trees_of xs)
   plain_trees [] = trees-none ∙ ap (G.plain_list slot) (sym trees-none)
-  plain_trees (x ∷ xs) = trees-more (plain_item slot x) (plain_items slot xs) ∙ ap₂ (λ y ys. P.Then y ys) (item_same x) (plain_trees xs) ∙ ap (G.plain_list slot) (sym (trees-more x xs))
+  plain_trees (x ∷ xs) = trees-more (plain_item slot x) (plain_items slot xs) ∙ ap₂ (λ y ys. P.Then y ys) (item_same x) (plain_trees xs) ∙
+      ap (G.plain_list slot) (sym (trees-more x xs))

@@ -61,10 +61,13 @@ module _ (p q : Code) (ss ss' : List Slot) (same : SameKinds p q) (grown : Grown
     kept _ (k_binary op a b i j) = k_binary op a b (kept a i) (kept b j)
     kept _ (k_conditional kind a b c i j l) = k_conditional kind a b c (kept a i) (kept b j) (kept c l)
     kept _ (k_assign at a i j) = subst (λ k. Kinded q ss' (Typed (Some k) (Assign at a))) (place_kind_kept at i) (k_assign at a (place_kept at i) (kept a j))
-    kept _ (k_update op at a i j) = subst (λ k. Kinded q ss' (Typed (Some k) (Update op at a))) (place_kind_kept at i) (k_update op at a (place_kept at i) (kept a j))
-    kept _ (k_count at up after i) = subst (λ k. Kinded q ss' (Typed (Some k) (Count at up after))) (place_kind_kept at i) (k_count at up after (place_kept at i))
+    kept _ (k_update op at a i j) = subst (λ k. Kinded q ss' (Typed (Some k) (Update op at a))) (place_kind_kept at i)
+        (k_update op at a (place_kept at i) (kept a j))
+    kept _ (k_count at up after i) = subst (λ k. Kinded q ss' (Typed (Some k) (Count at up after))) (place_kind_kept at i)
+        (k_count at up after (place_kept at i))
     kept _ (k_comma a b i j) = k_comma a b (kept a i) (kept b j)
-    kept _ (k_call m xs i) = subst (λ k. Kinded q ss' (Typed k (Call m xs))) (same.calls m) (k_call m xs (arguments_kept (p.functions m).slots (q.functions m).slots xs (same.slots m) i))
+    kept _ (k_call m xs i) = subst (λ k. Kinded q ss' (Typed k (Call m xs))) (same.calls m)
+        (k_call m xs (arguments_kept (p.functions m).slots (q.functions m).slots xs (same.slots m) i))
 
     place_kept : (at : PlaceTree) → KindedPlace p ss at → KindedPlace q ss' at
     place_kept _ (k_var h i) = k_var h (home_kept h i)
@@ -72,9 +75,11 @@ module _ (p q : Code) (ss ss' : List Slot) (same : SameKinds p q) (grown : Grown
 
     arguments_kept : (ts us : List Slot) (xs : Arguments) → Grown ts us → KindedArguments p ss ts xs → KindedArguments q ss' us xs
     arguments_kept ts us _ g (k_none ts') = k_none us
-    arguments_kept ts us _ g (k_argument ts' x xs i j) = k_argument us x xs (kept x i) (arguments_kept (later_slots ts) (later_slots us) xs (grown_later ts us g) j)
+    arguments_kept ts us _ g (k_argument ts' x xs i j) = k_argument us x xs (kept x i)
+        (arguments_kept (later_slots ts) (later_slots us) xs (grown_later ts us g) j)
     arguments_kept ts us _ g (k_array ts' kind h xs i z e j) =
-        k_array us kind h xs (home_kept h i) (grown_length ts us 0 g z) (kind_kept h i ∙ (e ∙ sym (grown_first ts us g z))) (arguments_kept (later_slots ts) (later_slots us) xs (grown_later ts us g) j)
+        k_array us kind h xs (home_kept h i) (grown_length ts us 0 g z) (kind_kept h i ∙ (e ∙ sym (grown_first ts us g z)))
+        (arguments_kept (later_slots ts) (later_slots us) xs (grown_later ts us g) j)
 
   optional_kept : (o : Option ExpressionTree) → IfSome o (Kinded p ss) → IfSome o (Kinded q ss')
   optional_kept None h = h

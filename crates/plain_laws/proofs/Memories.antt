@@ -114,7 +114,8 @@ module _ (p : Code) (sh : Shapes) where
     abbrev pub reached : Home → Owner
     reached h = holder (called h) (s (called h))
 
-    file_reached : (f : List ℕ) (u : Variable) → Good 0 (kind_held (p.globals f)) true u → Target n (holder (OfFile f) u) × (owner_kind (holder (OfFile f) u) ≡ kind_held (p.globals f))
+    file_reached : (f : List ℕ) (u : Variable) → Good 0 (kind_held (p.globals f)) true u →
+        Target n (holder (OfFile f) u) × (owner_kind (holder (OfFile f) u) ≡ kind_held (p.globals f))
     file_reached f (Holds j i cells) g = (tt, refl)
     file_reached f (Lent o) g = absurd (true≢false g.2)
 
@@ -150,22 +151,33 @@ module _ (p : Code) (sh : Shapes) where
 
         put_good : (q : Owner) (c : ℕ) (k : IntKind) (b : Bool) → Good c k b (s q) → Good c k b (put o (f (s o)) s q)
         put_good q c k b g =
-            chosen (Good c k b) (same_owner o q) (f (s o)) (s q) (λ e. let i = (same_owner_decides o q).0 e in subst (λ r. Good c k b (f (s r))) (sym i) (keeps c k b (s q) g)) (λ e. g)
+            chosen (Good c k b) (same_owner o q) (f (s o)) (s q)
+            (λ e. let i = (same_owner_decides o q).0 e in subst (λ r. Good c k b (f (s r))) (sym i) (keeps c k b (s q) g)) (λ e. g)
 
     pub put_kept : (f : Variable → Variable) (o : Owner) → Target n o → Kept v (put o (f (v o)) v)
     put_kept f o t d x h =
-        chosen (λ u. u ≡ v (OfCall d x)) (same_owner o (OfCall d x)) (f (v o)) (v (OfCall d x)) (λ e. absurd (past o t ((same_owner_decides o (OfCall d x)).0 e))) (λ e. refl)
+        chosen (λ u. u ≡ v (OfCall d x)) (same_owner o (OfCall d x)) (f (v o)) (v (OfCall d x))
+        (λ e. absurd (past o t ((same_owner_decides o (OfCall d x)).0 e))) (λ e. refl)
       where
         past : (q : Owner) → Target n q → q ≡ OfCall d x → ⊥
         past q i e = let j = subst (Target n) e i in let k = j.1 in omega (arith, k, h)
 
     number_keeps : (i : ℕ) (z : ℤ) → Keeps (with_number i z)
-    number_keeps i z c k b (Holds j r cells) g =
-        (g.0, (λ x. chosen_in_kind k (eqb i x) (converted j z) (cells x) (subst (λ y. IsInRange k (converted y z)) (sym g.0) (converted-in_range k z)) (g.1 x)), g.2)
+    number_keeps i z c k b (Holds j r cells) g = (
+      g.0,
+      (λ x. chosen_in_kind k (eqb i x) (converted j z) (cells x) (subst (λ y. IsInRange k (converted y z)) (sym g.0) (converted-in_range k z))
+          (g.1 x)),
+      g.2,
+    )
     number_keeps i z c k b (Lent o) g = g
 
     zeros_keeps : (i : ℕ) → Keeps (with_zeros i)
-    zeros_keeps i c k b (Holds j r cells) g = (g.0, (λ x. chosen_in_kind k (nat_lt x i) (cells x) (cond (nat_lt x (cells_held (Holds j r cells))) (pos 0) (cells x)) (g.1 x) (chosen_in_kind k (nat_lt x (cells_held (Holds j r cells))) (pos 0) (cells x) (zero_in_range k) (g.1 x))), g.2)
+    zeros_keeps i c k b (Holds j r cells) g = (
+      g.0,
+      (λ x. chosen_in_kind k (nat_lt x i) (cells x) (cond (nat_lt x (cells_held (Holds j r cells))) (pos 0) (cells x)) (g.1 x)
+          (chosen_in_kind k (nat_lt x (cells_held (Holds j r cells))) (pos 0) (cells x) (zero_in_range k) (g.1 x))),
+      g.2,
+    )
     zeros_keeps i c k b (Lent o) g = g
 
     -- a number is stored

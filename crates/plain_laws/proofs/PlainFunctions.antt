@@ -57,7 +57,8 @@ tidy_declared base end (Then x a) b (one_more (guarding y h i) r) = ap (Then (Lo
 variables_declared : (base end : ℕ) (ks : List ℕ) → AreDeclarations base end (trees_of (map variable_declared ks))
 variables_declared base end [] = subst (AreDeclarations base end) (sym trees-none) none
 variables_declared base end (k ∷ ks) =
-    subst (AreDeclarations base end) (sym (trees-more (variable_declared k) (map variable_declared ks) ∙ ap (λ x. Then x (trees_of (map variable_declared ks))) (tree-Local k None)))
+    subst (AreDeclarations base end) (sym (trees-more (variable_declared k) (map variable_declared ks) ∙
+    ap (λ x. Then x (trees_of (map variable_declared ks))) (tree-Local k None)))
     (one_more (variable k) (variables_declared base end ks))
 
 pub guard_local : (k : ℕ) → tree_of (guard_declared k) ≡ Local k (Some (Numerals.number Int (pos 0) ∷ []))
@@ -66,7 +67,8 @@ guard_local k = tree-Local k (Some (number Int (pos 0) ∷ [])) ∙ ap (λ z. Lo
 guards_declared : (base end n m : ℕ) → base ≤ n → n + m ≤ end → AreDeclarations base end (trees_of (map guard_declared (numbers_from n m)))
 guards_declared base end n zero h i = subst (AreDeclarations base end) (sym trees-none) none
 guards_declared base end n (suc m) h i =
-    subst (AreDeclarations base end) (sym (trees-more (guard_declared n) (map guard_declared (numbers_from (n + 1) m)) ∙ ap (λ x. Then x (trees_of (map guard_declared (numbers_from (n + 1) m)))) (guard_local n)))
+    subst (AreDeclarations base end) (sym (trees-more (guard_declared n) (map guard_declared (numbers_from (n + 1) m)) ∙
+    ap (λ x. Then x (trees_of (map guard_declared (numbers_from (n + 1) m)))) (guard_local n)))
     (one_more (guarding n h (omega (arith, i))) (guards_declared base end (n + 1) m (omega (arith, h)) (omega (arith, i))))
 
 pub are_declared : (f : Function) (ls : List ℕ) → AreDeclarations (length f.slots) (length f.slots + length ls) (trees_of (declared f ls))
@@ -75,7 +77,8 @@ are_declared f ls =
     let end = length f.slots + length ls in
     let vs = map variable_declared (numbers_from f.params (length f.slots - f.params)) in
     subst (AreDeclarations base end) (sym (trees-append vs (map guard_declared (numbers_from (length f.slots) (length ls)))))
-    (declarations_join base end (trees_of vs) _ (variables_declared base end (numbers_from f.params (length f.slots - f.params))) (guards_declared base end (length f.slots) (length ls) (omega arith) (omega arith)))
+    (declarations_join base end (trees_of vs) _ (variables_declared base end (numbers_from f.params (length f.slots - f.params)))
+    (guards_declared base end (length f.slots) (length ls) (omega arith) (omega arith)))
 
 -- ---- a body without guards stays
 
@@ -94,7 +97,8 @@ module _ (slot : ℕ → ℕ) where
     unguarded_same (Then x a) h = ap₂ (λ y b. Then y b) (unguarded_item x h.0) (unguarded_same a h.1)
 
     unguarded_item : (x : Tree) → EverywhereOf IsUnguarded x → G.plain_item slot x ≡ x
-    unguarded_item (If t a b) h = ap (λ z. If z (G.plain_list slot a) (G.plain_list slot b)) (source_test slot t h.0) ∙ ap₂ (λ y z. If t y z) (unguarded_same a h.1) (unguarded_same b h.2)
+    unguarded_item (If t a b) h = ap (λ z. If z (G.plain_list slot a) (G.plain_list slot b)) (source_test slot t h.0) ∙
+        ap₂ (λ y z. If t y z) (unguarded_same a h.1) (unguarded_same b h.2)
     unguarded_item (While t a) h = ap₂ (λ y z. While y z) (source_test slot t h.0) (unguarded_same a h.1)
     unguarded_item (Do a t) h = ap₂ (λ y z. Do z y) (source_test slot t h.0) (unguarded_same a h.1)
     unguarded_item (For first t u a) h = ap₂ (λ y z. For y t u z) (unguarded_same first h.1) (unguarded_same a h.2)
@@ -116,7 +120,8 @@ tree_by f b = record { result = f.result; params = f.params; slots = f.slots; bo
 abbrev tree_with : Function → List Slot → Option Forest → FunctionTree
 tree_with f s b = record { result = f.result; params = f.params; slots = s; body = b }
 
-pub flat_body : (names : List (List ℕ)) (f : Function) (xs : List Item) → (let g = guarding_left names f xs in trees_of (guarded_body f (labels_left xs 0 names) xs) ≡ tidy (join g.declarations (G.plain_list g.slot (trees_of xs))))
+pub flat_body : (names : List (List ℕ)) (f : Function) (xs : List Item) →
+    (let g = guarding_left names f xs in trees_of (guarded_body f (labels_left xs 0 names) xs) ≡ tidy (join g.declarations (G.plain_list g.slot (trees_of xs))))
 flat_body names f xs =
     let ls = labels_left xs 0 names in
     let slot = slot_among (length f.slots) ls in
@@ -124,7 +129,8 @@ flat_body names f xs =
     ∙ ap (join (trees_of (declared f ls))) (tidied_trees (plain_items slot xs) ∙ ap tidy (plain_trees slot xs))
     ∙ sym (tidy_declared _ _ (trees_of (declared f ls)) (G.plain_list slot (trees_of xs)) (are_declared f ls))
 
-plain_by : (flat : Bool) (b : Option (List Item)) (names : List (List ℕ)) (f : Function) → f.flat ≡ flat → f.body ≡ b → (flat ≡ false → Everywhere IsUnguarded (option_map_or trees_of b Nil))
+plain_by : (flat : Bool) (b : Option (List Item)) (names : List (List ℕ)) (f : Function) → f.flat ≡ flat → f.body ≡ b →
+    (flat ≡ false → Everywhere IsUnguarded (option_map_or trees_of b Nil))
     → function_tree (plain_body names f b) ≡ tidy_function (slotted (guarding_by flat b names f) (tree_by f b))
 plain_by flat None names f q e h = ap₂ (tree_with f) (sym (append-nil f.slots)) (ap (option_map trees_of) e)
 plain_by true (Some xs) names f q e h =
@@ -135,5 +141,6 @@ plain_by false (Some xs) names f q e h =
     ∙ ap₂ (λ s z. tree_with f s (Some z)) (sym (append-nil f.slots)) (tidied_trees xs ∙ ap tidy (sym (unguarded_same (λ l. l) (trees_of xs) (h refl))))
 
 -- the tree of the plain form of a function
-pub plain_tree : (names : List (List ℕ)) (f : Function) → (f.flat ≡ false → Everywhere IsUnguarded (body_of f)) → function_tree (plain_function names f) ≡ tidy_function (slotted (guarding_of names f) (function_tree f))
+pub plain_tree : (names : List (List ℕ)) (f : Function) → (f.flat ≡ false → Everywhere IsUnguarded (body_of f)) →
+    function_tree (plain_function names f) ≡ tidy_function (slotted (guarding_of names f) (function_tree f))
 plain_tree names f h = plain_by f.flat f.body names f refl refl h

@@ -56,28 +56,33 @@ map_choice h false x y = refl
 
 found_tree : (r : Function → Bool) (m : List ℕ) (ts : List Top) → function_in r m ts ≡ option_map function_tree (found r m ts)
 found_tree r m [] = refl
-found_tree r m (T.Function f ∷ ts) = ap (cond (bytes_eq f.name m && r f) (Some (function_tree f))) (found_tree r m ts) ∙ sym (map_choice function_tree (bytes_eq f.name m && r f) (Some f) (found r m ts))
+found_tree r m (T.Function f ∷ ts) = ap (cond (bytes_eq f.name m && r f) (Some (function_tree f))) (found_tree r m ts) ∙
+    sym (map_choice function_tree (bytes_eq f.name m && r f) (Some f) (found r m ts))
 found_tree r m (T.Include b ∷ ts) = found_tree r m ts
 found_tree r m (T.Enum es ∷ ts) = found_tree r m ts
 found_tree r m (T.Global g ∷ ts) = found_tree r m ts
 found_tree r m (T.Note b ∷ ts) = found_tree r m ts
 
-first_tree : (o p : Option Function) → first_of (option_map function_tree o) (option_map function_tree p) undeclared ≡ option_map_or function_tree (first o p) undeclared
+first_tree : (o p : Option Function) → first_of (option_map function_tree o) (option_map function_tree p) undeclared ≡ option_map_or function_tree
+    (first o p) undeclared
 first_tree (Some f) p = refl
 first_tree None (Some f) = refl
 first_tree None None = refl
 
 pub named_tree : (m : List ℕ) (ts : List Top) → function_named m ts ≡ option_map_or function_tree (picked m ts) undeclared
 named_tree m ts =
-    ap₂ (λ o p. first_of o p undeclared) (found_tree (λ f. is_some f.body) m ts) (found_tree (λ f. true) m ts) ∙ first_tree (found (λ f. is_some f.body) m ts) (found (λ f. true) m ts)
+    ap₂ (λ o p. first_of o p undeclared) (found_tree (λ f. is_some f.body) m ts) (found_tree (λ f. true) m ts) ∙
+    first_tree (found (λ f. is_some f.body) m ts) (found (λ f. true) m ts)
 
 -- ---- of the plain form
 
-name_by : (flat : Bool) (ns : List (List ℕ)) (f : Function) (xs : List Item) → (cond flat (with_guard_variables ns f xs) (record f { body = Some (tidied xs) })).name ≡ f.name
+name_by : (flat : Bool) (ns : List (List ℕ)) (f : Function) (xs : List Item) →
+    (cond flat (with_guard_variables ns f xs) (record f { body = Some (tidied xs) })).name ≡ f.name
 name_by true ns f xs = refl
 name_by false ns f xs = refl
 
-body_by : (flat : Bool) (ns : List (List ℕ)) (f : Function) (xs : List Item) → is_some (cond flat (with_guard_variables ns f xs) (record f { body = Some (tidied xs) })).body ≡ true
+body_by : (flat : Bool) (ns : List (List ℕ)) (f : Function) (xs : List Item) →
+    is_some (cond flat (with_guard_variables ns f xs) (record f { body = Some (tidied xs) })).body ≡ true
 body_by true ns f xs = refl
 body_by false ns f xs = refl
 
@@ -136,18 +141,21 @@ module _ (names : Names) where
   first_ready p None q h g = g
 
   picked_ready : (p : Code) (m : List ℕ) (ts : List Top) → AllByRecursion (IsTopReady p names) ts → IsFound p (picked m ts)
-  picked_ready p m ts h = first_ready p (found (λ f. is_some f.body) m ts) (found (λ f. true) m ts) (found_ready p (λ f. is_some f.body) m ts h) (found_ready p (λ f. true) m ts h)
+  picked_ready p m ts h = first_ready p (found (λ f. is_some f.body) m ts) (found (λ f. true) m ts) (found_ready p (λ f. is_some f.body) m ts h)
+      (found_ready p (λ f. true) m ts h)
 
   -- what stands for the guards of the function of a name
   abbrev pub guarding : List Top → List ℕ → Guarding
   guarding ts m = option_map_or (λ f. guarding_of (names f) f) (picked m ts) no_guarding
 
   tree_of_found : (p : Code) (o : Option Function) → IsFound p o
-      → option_map_or function_tree (option_map (plain names) o) undeclared ≡ tidy_function (slotted (option_map_or (λ f. guarding_of (names f) f) o no_guarding) (option_map_or function_tree o undeclared))
+      → option_map_or function_tree (option_map (plain names) o) undeclared ≡ tidy_function
+      (slotted (option_map_or (λ f. guarding_of (names f) f) o no_guarding) (option_map_or function_tree o undeclared))
   tree_of_found p (Some f) h = plain_tree (names f) f h.ranged.unguarded
   tree_of_found p None h = refl
 
-  slotted_of_found : (p : Code) (o : Option Function) → IsFound p o → IsSlotted p (option_map_or function_tree o undeclared) (option_map_or (λ f. guarding_of (names f) f) o no_guarding)
+  slotted_of_found : (p : Code) (o : Option Function) → IsFound p o → IsSlotted p (option_map_or function_tree o undeclared)
+      (option_map_or (λ f. guarding_of (names f) f) o no_guarding)
   slotted_of_found p (Some f) h = function_slotted p names f h
   slotted_of_found p None h = record {
     parameters = omega arith;
@@ -184,7 +192,8 @@ entries_in k [] i = zero_in_range k
 entries_in k (e ∷ es) zero = converted-in_range k (constant_or_zero e)
 entries_in k (e ∷ es) (suc i) = entries_in k es i
 
-initial_in : (k : IntKind) (o : Option (List Expression)) (i : ℕ) → IsInRange k (entry_or (pos 0) (option_map_or (λ es. map (λ e. converted k (constant_or_zero e)) (expression_trees es)) o []) i)
+initial_in : (k : IntKind) (o : Option (List Expression)) (i : ℕ) → IsInRange k
+    (entry_or (pos 0) (option_map_or (λ es. map (λ e. converted k (constant_or_zero e)) (expression_trees es)) o []) i)
 initial_in k None i = zero_in_range k
 initial_in k (Some es) i = entries_in k (expression_trees es) i
 
@@ -194,7 +203,8 @@ chosen_variable false x y h g = g
 
 globals_in : (m : List ℕ) (ts : List Top) → HoldsInKind (global_named m ts)
 globals_in m [] = λ i. zero_in_range _
-globals_in m (T.Global g ∷ ts) = chosen_variable (bytes_eq g.slot.name m) (initial_variable g) (global_named m ts) (initial_in g.slot.kind g.init) (globals_in m ts)
+globals_in m (T.Global g ∷ ts) = chosen_variable (bytes_eq g.slot.name m) (initial_variable g) (global_named m ts) (initial_in g.slot.kind g.init)
+    (globals_in m ts)
 globals_in m (T.Function f ∷ ts) = globals_in m ts
 globals_in m (T.Include b ∷ ts) = globals_in m ts
 globals_in m (T.Enum es ∷ ts) = globals_in m ts
@@ -214,17 +224,24 @@ module _ (names : Names) (p : Program) (ready : IsProgramReady names p) where
 
   code_same : code_of (plain_with names p) ≡ tidy_code (slotted_code (guarding names p.tops) (code_of p))
   code_same =
-      ap₂ (λ fs (g : List ℕ → Variable). record { functions = fs; globals = g; cells = global_cells (map (plain_top names) p.tops) }) (fun_ext functions_same) (fun_ext (λ m. global_plain names m p.tops))
-      ∙ ap (λ n. record { functions = λ m. tidy_function (slotted (guarding names p.tops m) (function_named m p.tops)); globals = λ m. global_named m p.tops; cells = n }) (cells_plain names p.tops)
+      ap₂ (λ fs (g : List ℕ → Variable). record { functions = fs; globals = g; cells = global_cells (map (plain_top names) p.tops) })
+      (fun_ext functions_same) (fun_ext (λ m. global_plain names m p.tops))
+      ∙ ap (λ n. record {
+        functions = λ m. tidy_function (slotted (guarding names p.tops m) (function_named m p.tops));
+        globals = λ m. global_named m p.tops;
+        cells = n;
+      }) (cells_plain names p.tops)
 
   is_slotted : IsSlottedCode (code_of p) (guarding names p.tops)
   is_slotted = record {
-    functions = λ m. subst (λ t. IsSlotted (code_of p) t (guarding names p.tops m)) (sym (named_tree m p.tops)) (slotted_of_found names (code_of p) (picked m p.tops) (picked_ready names (code_of p) m p.tops tops));
+    functions = λ m. subst (λ t. IsSlotted (code_of p) t (guarding names p.tops m)) (sym (named_tree m p.tops))
+        (slotted_of_found names (code_of p) (picked m p.tops) (picked_ready names (code_of p) m p.tops tops));
     globals = λ m. globals_in m p.tops;
   }
 
   pub plain_same : BehaveTheSame p (plain_with names p)
   plain_same = record {
     codes = subst (SameBehaviour (code_of p)) (sym code_same)
-        (same_trans (code_of p) (slotted_code (guarding names p.tops) (code_of p)) (tidy_code (slotted_code (guarding names p.tops) (code_of p))) (slotted_same (code_of p) (guarding names p.tops) is_slotted) (tidy_same (slotted_code (guarding names p.tops) (code_of p))));
+        (same_trans (code_of p) (slotted_code (guarding names p.tops) (code_of p)) (tidy_code (slotted_code (guarding names p.tops) (code_of p)))
+        (slotted_same (code_of p) (guarding names p.tops) is_slotted) (tidy_same (slotted_code (guarding names p.tops) (code_of p))));
   }

@@ -134,7 +134,12 @@ unguarded_picks (Switch s c) h = unguarded_selects s h
 unguarded_picks _ h = tt
 
 unguarded_fits : (p : Code) (ss : List Slot) (left : ℕ → Bool) (x : Tree) → both (KindedItem p ss) IsUnguarded x → Fits p ss left true x
-unguarded_fits p ss left x h = record { kinded = h.0; labels = unguarded_labels (λ l. left l ≡ true) x h.1; form = unguarded_form x h.1; picks = unguarded_picks x h.1 }
+unguarded_fits p ss left x h = record {
+  kinded = h.0;
+  labels = unguarded_labels (λ l. left l ≡ true) x h.1;
+  form = unguarded_form x h.1;
+  picks = unguarded_picks x h.1;
+}
 
 -- ---- functions
 
@@ -166,11 +171,13 @@ module _ (n : ℕ) (A : ℕ → Type 0) where
   arm_labels _ h = tt
 
 -- labels that are named are those of the function
-pub among_labels : (names : List (List ℕ)) (n : ℕ) (xs : List Item) → length names ≡ n → Everywhere (ItemLabels (λ l. l < n)) (trees_of xs) → Everywhere (ArmLabels (λ l. is_among l (labels_left xs 0 names) ≡ true)) (trees_of xs)
+pub among_labels : (names : List (List ℕ)) (n : ℕ) (xs : List Item) → length names ≡ n → Everywhere (ItemLabels (λ l. l < n)) (trees_of xs) →
+    Everywhere (ArmLabels (λ l. is_among l (labels_left xs 0 names) ≡ true)) (trees_of xs)
 among_labels names n xs e h =
     let A = λ (l : ℕ). is_among l (labels_left xs 0 names) ≡ true in
     everywhere_map (both (ArmLabels (λ l. l < n → A l)) (ItemLabels (λ l. l < n))) (ArmLabels A) (arm_labels n A) (trees_of xs)
-    (everywhere_both (ArmLabels (λ l. l < n → A l)) (ItemLabels (λ l. l < n)) (trees_of xs) (body_named (λ l. l < n → A l) xs (λ l i j. left_among xs 0 names l i (omega arith) (omega (arith, j, e)))) h)
+    (everywhere_both (ArmLabels (λ l. l < n → A l)) (ItemLabels (λ l. l < n)) (trees_of xs)
+    (body_named (λ l. l < n → A l) xs (λ l i j. left_among xs 0 names l i (omega arith) (omega (arith, j, e)))) h)
 
 abbrev tree_by : Function → Option (List Item) → FunctionTree
 tree_by f b = record { result = f.result; params = f.params; slots = f.slots; body = option_map trees_of b }
@@ -178,8 +185,10 @@ tree_by f b = record { result = f.result; params = f.params; slots = f.slots; bo
 some_none : {A : Type 0} (x : A) → Some x ≡ None → ⊥
 some_none x e = cc
 
-fits_by : (flat : Bool) (b : Option (List Item)) (p : Code) (names : List (List ℕ)) (f : Function) → f.flat ≡ flat → f.body ≡ b → Range.IsInRange f → Everywhere (KindedItem p f.slots) (body_of f)
-    → (f.flat ≡ true → IsWellMade (body_of f)) → (f.flat ≡ true → Everywhere IsNoLeap (body_of f)) → length names ≡ length f.labels → IsSlotted p (tree_by f b) (guarding_by flat b names f)
+fits_by : (flat : Bool) (b : Option (List Item)) (p : Code) (names : List (List ℕ)) (f : Function) → f.flat ≡ flat → f.body ≡ b → Range.IsInRange f →
+    Everywhere (KindedItem p f.slots) (body_of f)
+    → (f.flat ≡ true → IsWellMade (body_of f)) → (f.flat ≡ true → Everywhere IsNoLeap (body_of f)) → length names ≡ length f.labels →
+    IsSlotted p (tree_by f b) (guarding_by flat b names f)
 fits_by flat None p names f q e ranged kinded made leapless named = record {
   parameters = ranged.parameters;
   ints = tt;
@@ -205,11 +214,14 @@ fits_by true (Some xs) p names f q e ranged kinded made leapless named =
       beyond = λ l i. slot_below (length f.slots) ls l;
       within = λ l i. let h = slot_within (length f.slots) ls l i in let c = slots_left xs 0 names in omega (arith, h, c);
       apart = λ l k i j z. slot_apart (length f.slots) ls l k i j z;
-      declared = subst (λ z. AreDeclarations (length f.slots) (length f.slots + z) (trees_of (declared f ls))) (sym (slots_left xs 0 names)) (are_declared f ls);
+      declared = subst (λ z. AreDeclarations (length f.slots) (length f.slots + z) (trees_of (declared f ls))) (sym (slots_left xs 0 names))
+          (are_declared f ls);
       jumping = false;
       fits = everywhere_map (Flat p ss left) (Fits p ss left false) (flat_fits p ss left) (trees_of xs)
-          (everywhere_both (both (KindedItem p ss) (ArmLabels (λ l. left l ≡ true))) (both (both IsConverted IsNoLeap) (both HasSelectorKind HasPicks)) (trees_of xs)
-          (everywhere_both (KindedItem p ss) (ArmLabels (λ l. left l ≡ true)) (trees_of xs) (at (KindedItem p ss) kinded) (among_labels names (length f.labels) xs named (at (ItemLabels (λ l. l < length f.labels)) ranged.labels)))
+          (everywhere_both (both (KindedItem p ss) (ArmLabels (λ l. left l ≡ true)))
+          (both (both IsConverted IsNoLeap) (both HasSelectorKind HasPicks)) (trees_of xs)
+          (everywhere_both (KindedItem p ss) (ArmLabels (λ l. left l ≡ true)) (trees_of xs) (at (KindedItem p ss) kinded)
+          (among_labels names (length f.labels) xs named (at (ItemLabels (λ l. l < length f.labels)) ranged.labels)))
           (everywhere_both (both IsConverted IsNoLeap) (both HasSelectorKind HasPicks) (trees_of xs)
           (everywhere_both IsConverted IsNoLeap (trees_of xs) (at IsConverted m.converted) (at IsNoLeap (leapless q)))
           (everywhere_both HasSelectorKind HasPicks (trees_of xs) (at HasSelectorKind m.selectors) (at HasPicks m.picks))));
@@ -227,8 +239,10 @@ fits_by false (Some xs) p names f q e ranged kinded made leapless named =
       declared = none;
       jumping = true;
       fits = everywhere_map (both (KindedItem p f.slots) IsUnguarded) (Fits p f.slots left true) (unguarded_fits p f.slots left) (trees_of xs)
-          (everywhere_both (KindedItem p f.slots) IsUnguarded (trees_of xs) (subst (Everywhere (KindedItem p f.slots)) body kinded) (subst (Everywhere IsUnguarded) body (ranged.unguarded q)));
+          (everywhere_both (KindedItem p f.slots) IsUnguarded (trees_of xs) (subst (Everywhere (KindedItem p f.slots)) body kinded)
+          (subst (Everywhere IsUnguarded) body (ranged.unguarded q)));
     }
 
-pub function_slotted : (p : Code) (names : Function → List (List ℕ)) (f : Function) → IsReady p names f → IsSlotted p (function_tree f) (guarding_of (names f) f)
+pub function_slotted : (p : Code) (names : Function → List (List ℕ)) (f : Function) → IsReady p names f →
+    IsSlotted p (function_tree f) (guarding_of (names f) f)
 function_slotted p names f h = fits_by f.flat f.body p (names f) f refl refl h.ranged h.finished.kinded h.finished.made h.finished.leapless h.finished.named

@@ -29,13 +29,15 @@ without_everywhere P Nil h = tt
 without_everywhere P (Then x Nil) h = tt
 without_everywhere P (Then x (Then y ys)) h = (h.0, without_everywhere P (Then y ys) h.1)
 
-give_everywhere : (P : Tree → Type 0) (cases : List ExpressionTree) (default : Bool) (a : Forest) (ends : Bool) (c : Sections) → Everywhere P a → EverywhereIn P c → EverywhereIn P (give cases default a ends c)
+give_everywhere : (P : Tree → Type 0) (cases : List ExpressionTree) (default : Bool) (a : Forest) (ends : Bool) (c : Sections) → Everywhere P a →
+    EverywhereIn P c → EverywhereIn P (give cases default a ends c)
 give_everywhere P cases default Nil false NoSection h g = (h, g)
 give_everywhere P cases default Nil false (Section cases' default' b ends c) h g = g
 give_everywhere P cases default Nil true c h g = (h, g)
 give_everywhere P cases default (Then x a) ends c h g = (h, g)
 
-put_everywhere : (P : Tree → Type 0) (b : Bool) (cases : List ExpressionTree) (default : Bool) (a : Forest) (ends : Bool) (c : Sections) → Everywhere P a → EverywhereIn P c
+put_everywhere : (P : Tree → Type 0) (b : Bool) (cases : List ExpressionTree) (default : Bool) (a : Forest) (ends : Bool) (c : Sections) →
+    Everywhere P a → EverywhereIn P c
     → EverywhereIn P (cond b (give cases default (without_last a) true c) (give cases default a ends c))
 put_everywhere P true cases default a ends c h g = give_everywhere P cases default (without_last a) true c (without_everywhere P a h) g
 put_everywhere P false cases default a ends c h g = give_everywhere P cases default a ends c h g
@@ -58,7 +60,8 @@ module _ (P : Tree → Type 0) (keeps : (x : Tree) → P x → P (tidy_item x)) 
 
     tidy_everywhere_in : (c : Sections) → EverywhereIn P c → EverywhereIn P (tidy_sections c)
     tidy_everywhere_in NoSection h = tt
-    tidy_everywhere_in (Section cases default a ends c) h = put_everywhere P (not ends && last_break (tidy a)) cases default (tidy a) ends (tidy_sections c) (tidy_everywhere a h.0) (tidy_everywhere_in c h.1)
+    tidy_everywhere_in (Section cases default a ends c) h = put_everywhere P (not ends && last_break (tidy a)) cases default (tidy a) ends
+        (tidy_sections c) (tidy_everywhere a h.0) (tidy_everywhere_in c h.1)
 
 -- ---- what holds of the items of a plain list
 
@@ -200,19 +203,22 @@ all_join P xs ys h g = All-from_recursion P (xs ++ ys) (joined xs (recursion_fro
     joined (x ∷ xs) h = (h.0, joined xs h.1)
 
 module _ (P : ℕ → Type 0) where
-  give_cases : (cases : List ExpressionTree) (default : Bool) (a : Forest) (ends : Bool) (c : Sections) → All (ExpressionSlots P) cases → CaseSlots P c → CaseSlots P (give cases default a ends c)
+  give_cases : (cases : List ExpressionTree) (default : Bool) (a : Forest) (ends : Bool) (c : Sections) → All (ExpressionSlots P) cases →
+      CaseSlots P c → CaseSlots P (give cases default a ends c)
   give_cases cases default Nil false NoSection h g = (h, g)
   give_cases cases default Nil false (Section cases' default' b ends c) h g = (all_join (ExpressionSlots P) cases cases' h g.0, g.1)
   give_cases cases default Nil true c h g = (h, g)
   give_cases cases default (Then x a) ends c h g = (h, g)
 
-  put_cases : (b : Bool) (cases : List ExpressionTree) (default : Bool) (a : Forest) (ends : Bool) (c : Sections) → All (ExpressionSlots P) cases → CaseSlots P c → CaseSlots P (cond b (give cases default (without_last a) true c) (give cases default a ends c))
+  put_cases : (b : Bool) (cases : List ExpressionTree) (default : Bool) (a : Forest) (ends : Bool) (c : Sections) → All (ExpressionSlots P) cases →
+      CaseSlots P c → CaseSlots P (cond b (give cases default (without_last a) true c) (give cases default a ends c))
   put_cases true cases default a ends c h g = give_cases cases default (without_last a) true c h g
   put_cases false cases default a ends c h g = give_cases cases default a ends c h g
 
   cases_tidy : (c : Sections) → CaseSlots P c → CaseSlots P (tidy_sections c)
   cases_tidy NoSection h = tt
-  cases_tidy (Section cases default a ends c) h = put_cases (not ends && last_break (tidy a)) cases default (tidy a) ends (tidy_sections c) h.0 (cases_tidy c h.1)
+  cases_tidy (Section cases default a ends c) h = put_cases (not ends && last_break (tidy a)) cases default (tidy a) ends (tidy_sections c) h.0
+      (cases_tidy c h.1)
 
   pub slots_tidy : (x : Tree) → ItemSlots P x → ItemSlots P (tidy_item x)
   slots_tidy (Switch s c) h = (h.0, cases_tidy c h.1)

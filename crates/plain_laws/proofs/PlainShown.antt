@@ -86,10 +86,13 @@ variables_shown (k ∷ ks) = both_true (shown (variable_declared k)) (is_plain (
 
 guards_shown : (ks : List ℕ) → is_plain (map guard_declared ks) ≡ true
 guards_shown [] = refl
-guards_shown (k ∷ ks) = both_true (shown (guard_declared k)) (is_plain (map guard_declared ks)) (shown-Local k (Some (number Int (pos 0) ∷ []))) (guards_shown ks)
+guards_shown (k ∷ ks) = both_true (shown (guard_declared k)) (is_plain (map guard_declared ks)) (shown-Local k (Some (number Int (pos 0) ∷ [])))
+    (guards_shown ks)
 
 declared_shown : (f : Function) (ls : List ℕ) → is_plain (declared f ls) ≡ true
-declared_shown f ls = all_true_append shown (map variable_declared (numbers_from f.params _)) (map guard_declared (numbers_from (length f.slots) (length ls))) (variables_shown (numbers_from f.params _)) (guards_shown (numbers_from (length f.slots) (length ls)))
+declared_shown f ls = all_true_append shown (map variable_declared (numbers_from f.params _))
+    (map guard_declared (numbers_from (length f.slots) (length ls))) (variables_shown (numbers_from f.params _))
+    (guards_shown (numbers_from (length f.slots) (length ls)))
 
 -- ---- guards as variables
 
@@ -119,7 +122,8 @@ module _ (slot : ℕ → ℕ) where
       (e.1 (first_true (free e.0) (all_true (map free (map item_of a))) p))
       (list_shown a (second_true (free e.0) (all_true (map free (map item_of a))) p))
 
-  sections_shown : (a : List C) → all_true (map section_free (map section_of a)) ≡ true → all_true (map section_shown (map (plain_section slot) (map section_of a))) ≡ true
+  sections_shown : (a : List C) → all_true (map section_free (map section_of a)) ≡ true →
+      all_true (map section_shown (map (plain_section slot) (map section_of a))) ≡ true
   sections_shown [] p = p
   sections_shown (e ∷ a) p =
       both_true (section_shown (plain_section slot e.0)) (all_true (map section_shown (map (plain_section slot) (map section_of a))))
@@ -128,7 +132,8 @@ module _ (slot : ℕ → ℕ) where
 
   layer : (y : Item-F I C)
       → throughout_step is_jump_free_layer (map-Item Item Section Bool Bool free section_free (map-Item I C Item Section item_of section_of y)) ≡ true
-      → shown (item_step slot (map-Item Item Section Item Section (plain_item slot) (plain_section slot) (map-Item I C Item Section item_of section_of y))) ≡ true
+      → shown (item_step slot (map-Item Item Section Item Section (plain_item slot) (plain_section slot)
+      (map-Item I C Item Section item_of section_of y))) ≡ true
   layer (If t a b) p =
       shown-If (plain_test slot t) _ _
       ∙ both_true _ _ (list_shown a (first_true _ _ p)) (list_shown b (second_true _ _ p))
@@ -155,7 +160,8 @@ module _ (slot : ℕ → ℕ) where
   item_shown : (x : Item) → P x
   item_shown = ind-Item P Q
       (λ x y e. subst (λ (z : Item-F Item Section). P (roll-Item z)) e (λ p.
-      ap shown (fold-roll-Item Item Section (item_step slot) section_step _) ∙ layer y (sym (fold-roll-Item Bool Bool (throughout_step is_jump_free_layer) section_throughout_step _) ∙ p)))
+      ap shown (fold-roll-Item Item Section (item_step slot) section_step _) ∙
+      layer y (sym (fold-roll-Item Bool Bool (throughout_step is_jump_free_layer) section_throughout_step _) ∙ p)))
       (λ x y e. subst (λ (z : Section-F Item Section). Q (roll-Section z)) e (λ p.
       ap section_shown (fold-roll-Section Item Section (item_step slot) section_step _)
       ∙ section_roll _
@@ -173,7 +179,8 @@ without_shown : (xs : List Item) → all_true (map shown xs) ≡ true → all_tr
 without_shown [] p = refl
 without_shown (x ∷ []) p = refl
 without_shown (x ∷ y ∷ ys) p =
-    both_true (shown x) (all_true (map shown (without_last (y ∷ ys)))) (first_true (shown x) (all_true (map shown (y ∷ ys))) p) (without_shown (y ∷ ys) (second_true (shown x) (all_true (map shown (y ∷ ys))) p))
+    both_true (shown x) (all_true (map shown (without_last (y ∷ ys)))) (first_true (shown x) (all_true (map shown (y ∷ ys))) p)
+    (without_shown (y ∷ ys) (second_true (shown x) (all_true (map shown (y ∷ ys))) p))
 
 ended_by : (b : Bool) (c : Section-F Item Section) → all_true (map shown c.list) ≡ true
     → section_shown (cond b (roll-Section (record { cases = c.cases; default = c.default; list = without_last c.list; ends = true })) (roll-Section c)) ≡ true
@@ -183,12 +190,16 @@ ended_by false c p = section_roll c ∙ p
 out_shown : (c : Section) → section_shown c ≡ true → (let o = out-Section c in all_true (map shown o.list) ≡ true)
 out_shown c p = sym (section_roll (out-Section c)) ∙ ap section_shown (roll-out-Section c) ∙ p
 
-give_by : (b : Bool) (c d : Section) (ds : List Section) → section_shown c ≡ true → all_true (map section_shown (d ∷ ds)) ≡ true → all_true (map section_shown (cond b (with_entries (out-Section c) d ∷ ds) (c ∷ d ∷ ds))) ≡ true
+give_by : (b : Bool) (c d : Section) (ds : List Section) → section_shown c ≡ true → all_true (map section_shown (d ∷ ds)) ≡ true →
+    all_true (map section_shown (cond b (with_entries (out-Section c) d ∷ ds) (c ∷ d ∷ ds))) ≡ true
 give_by true c d ds p q =
-    both_true (section_shown (with_entries (out-Section c) d)) (all_true (map section_shown ds)) (section_roll _ ∙ out_shown d (first_true (section_shown d) (all_true (map section_shown ds)) q)) (second_true (section_shown d) (all_true (map section_shown ds)) q)
+    both_true (section_shown (with_entries (out-Section c) d)) (all_true (map section_shown ds))
+    (section_roll _ ∙ out_shown d (first_true (section_shown d) (all_true (map section_shown ds)) q))
+    (second_true (section_shown d) (all_true (map section_shown ds)) q)
 give_by false c d ds p q = both_true (section_shown c) (all_true (map section_shown (d ∷ ds))) p q
 
-give_shown : (c : Section) (ds : List Section) → section_shown c ≡ true → all_true (map section_shown ds) ≡ true → all_true (map section_shown (give_to c ds)) ≡ true
+give_shown : (c : Section) (ds : List Section) → section_shown c ≡ true → all_true (map section_shown ds) ≡ true →
+    all_true (map section_shown (give_to c ds)) ≡ true
 give_shown c [] p q = both_true (section_shown c) true p refl
 give_shown c (d ∷ ds) p q = let o = out-Section c in give_by (is_empty o.list && not o.ends) c d ds p q
 
@@ -213,20 +224,25 @@ tc e = e.0
 tidy_list : (a : List TI) → all_true (map shown (map ti a)) ≡ true → all_true (map shown (map tidied_item (map ti a))) ≡ true
 tidy_list [] p = p
 tidy_list (e ∷ a) p =
-    both_true (shown (tidied_item e.0)) (all_true (map shown (map tidied_item (map ti a)))) (e.1 (first_true (shown e.0) (all_true (map shown (map ti a))) p)) (tidy_list a (second_true (shown e.0) (all_true (map shown (map ti a))) p))
+    both_true (shown (tidied_item e.0)) (all_true (map shown (map tidied_item (map ti a))))
+    (e.1 (first_true (shown e.0) (all_true (map shown (map ti a))) p)) (tidy_list a (second_true (shown e.0) (all_true (map shown (map ti a))) p))
 
 tidy_sections : (a : List TC) → all_true (map section_shown (map tc a)) ≡ true → all_true (map section_shown (given (map tidied_section (map tc a)))) ≡ true
 tidy_sections [] p = p
 tidy_sections (e ∷ a) p =
-    give_shown (tidied_section e.0) (given (map tidied_section (map tc a))) (e.1 (first_true (section_shown e.0) (all_true (map section_shown (map tc a))) p)) (tidy_sections a (second_true (section_shown e.0) (all_true (map section_shown (map tc a))) p))
+    give_shown (tidied_section e.0) (given (map tidied_section (map tc a)))
+    (e.1 (first_true (section_shown e.0) (all_true (map section_shown (map tc a))) p))
+    (tidy_sections a (second_true (section_shown e.0) (all_true (map section_shown (map tc a))) p))
 
-tidy_layer : (y : Item-F TI TC) → shown_layer (map-Item TI TC Item Section ti tc y) ≡ true → shown (tidied_step (map-Item Item Section Item Section tidied_item tidied_section (map-Item TI TC Item Section ti tc y))) ≡ true
+tidy_layer : (y : Item-F TI TC) → shown_layer (map-Item TI TC Item Section ti tc y) ≡ true →
+    shown (tidied_step (map-Item Item Section Item Section tidied_item tidied_section (map-Item TI TC Item Section ti tc y))) ≡ true
 tidy_layer (If t a b) p =
     shown_roll (If t (map tidied_item (map ti a)) (map tidied_item (map ti b)))
     ∙ both_true _ _ (first_true _ _ p) (both_true _ _ (tidy_list a (first_true _ _ (second_true _ _ p))) (tidy_list b (second_true _ _ (second_true _ _ p))))
 tidy_layer (While t a) p = shown_roll (While t (map tidied_item (map ti a))) ∙ both_true _ _ (first_true _ _ p) (tidy_list a (second_true _ _ p))
 tidy_layer (Do a t) p = shown_roll (Do (map tidied_item (map ti a)) t) ∙ both_true _ _ (first_true _ _ p) (tidy_list a (second_true _ _ p))
-tidy_layer (For f t u a) p = shown_roll (For (map tidied_item (map ti f)) t u (map tidied_item (map ti a))) ∙ both_true _ _ (tidy_list f (first_true _ _ p)) (tidy_list a (second_true _ _ p))
+tidy_layer (For f t u a) p = shown_roll (For (map tidied_item (map ti f)) t u (map tidied_item (map ti a))) ∙
+    both_true _ _ (tidy_list f (first_true _ _ p)) (tidy_list a (second_true _ _ p))
 tidy_layer (Switch s cs) p = shown-Switch s (given (map tidied_section (map tc cs))) ∙ both_true _ _ (first_true _ _ p) (tidy_sections cs (second_true _ _ p))
 tidy_layer (Block a) p = shown_roll (Block (map tidied_item (map ti a))) ∙ tidy_list a p
 tidy_layer (Goto l) p = cc
@@ -244,26 +260,32 @@ tidy_layer (Note bs) p = shown_roll (Note bs)
 
 tidy_item : (x : Item) → TidyP x
 tidy_item = ind-Item TidyP TidyQ
-    (λ x y e. subst (λ (z : Item-F Item Section). TidyP (roll-Item z)) e (λ p. ap shown (fold-roll-Item Item Section tidied_step ended _) ∙ tidy_layer y (sym (shown_roll _) ∙ p)))
+    (λ x y e. subst (λ (z : Item-F Item Section). TidyP (roll-Item z)) e
+    (λ p. ap shown (fold-roll-Item Item Section tidied_step ended _) ∙ tidy_layer y (sym (shown_roll _) ∙ p)))
     (λ x y e. subst (λ (z : Section-F Item Section). TidyQ (roll-Section z)) e (λ p.
     ap section_shown (fold-roll-Section Item Section tidied_step ended _)
-    ∙ (let l = map tidied_item (map ti y.list) in ended_by (not y.ends && last_is_break l) (record { cases = y.cases; default = y.default; list = l; ends = y.ends }) (tidy_list y.list (sym (section_roll _) ∙ p)))))
+    ∙ (let l = map tidied_item (map ti y.list) in ended_by (not y.ends && last_is_break l)
+    (record { cases = y.cases; default = y.default; list = l; ends = y.ends }) (tidy_list y.list (sym (section_roll _) ∙ p)))))
 
 tidied_shown : (xs : List Item) → is_plain xs ≡ true → is_plain (tidied xs) ≡ true
 tidied_shown [] p = refl
-tidied_shown (x ∷ xs) p = both_true (shown (tidied_item x)) (is_plain (tidied xs)) (tidy_item x (first_true (shown x) (is_plain xs) p)) (tidied_shown xs (second_true (shown x) (is_plain xs) p))
+tidied_shown (x ∷ xs) p = both_true (shown (tidied_item x)) (is_plain (tidied xs)) (tidy_item x (first_true (shown x) (is_plain xs) p))
+    (tidied_shown xs (second_true (shown x) (is_plain xs) p))
 
 -- ---- functions and programs
 
 body_shown : (f : Function) (ls : List ℕ) (xs : List Item) → is_jump_free xs ≡ true → is_plain (guarded_body f ls xs) ≡ true
-body_shown f ls xs p = all_true_append shown (declared f ls) (tidied (plain_items (slot_among (length f.slots) ls) xs)) (declared_shown f ls) (tidied_shown (plain_items (slot_among (length f.slots) ls) xs) (items_shown (slot_among (length f.slots) ls) xs p))
+body_shown f ls xs p = all_true_append shown (declared f ls) (tidied (plain_items (slot_among (length f.slots) ls) xs)) (declared_shown f ls)
+    (tidied_shown (plain_items (slot_among (length f.slots) ls) xs) (items_shown (slot_among (length f.slots) ls) xs p))
 
 some_shown : (ns : List (List ℕ)) (f : Function) (xs : List Item) (b : Bool) → f.flat ≡ b
-    → (if b then is_jump_free else is_plain) xs ≡ true → is_plain_function (if b then with_guard_variables ns f xs else record f { body = Some (tidied xs) }) ≡ true
+    → (if b then is_jump_free else is_plain) xs ≡ true → is_plain_function
+    (if b then with_guard_variables ns f xs else record f { body = Some (tidied xs) }) ≡ true
 some_shown ns f xs true e p = body_shown f (labels_left xs 0 ns) xs p
 some_shown ns f xs false e p = tidied_shown xs p
 
-function_shown : (ns : List (List ℕ)) (f : Function) (o : Option (List Item)) → f.body ≡ o → body_holds (if f.flat then is_jump_free else is_plain) o ≡ true → is_plain_function (plain_body ns f o) ≡ true
+function_shown : (ns : List (List ℕ)) (f : Function) (o : Option (List Item)) → f.body ≡ o →
+    body_holds (if f.flat then is_jump_free else is_plain) o ≡ true → is_plain_function (plain_body ns f o) ≡ true
 function_shown ns f None s p = ap (body_holds is_plain) s
 function_shown ns f (Some xs) s p = some_shown ns f xs f.flat refl p
 
@@ -274,7 +296,8 @@ top_shown names (Y.Enum es) p = refl
 top_shown names (Y.Global g) p = refl
 top_shown names (Y.Note b) p = refl
 
-tops_shown : (names : Function → List (List ℕ)) (ts : List Top) → all_true (map (top_holds is_jump_free_function) ts) ≡ true → all_true (map (top_holds is_plain_function) (map (plain_top names) ts)) ≡ true
+tops_shown : (names : Function → List (List ℕ)) (ts : List Top) → all_true (map (top_holds is_jump_free_function) ts) ≡ true →
+    all_true (map (top_holds is_plain_function) (map (plain_top names) ts)) ≡ true
 tops_shown names [] p = refl
 tops_shown names (t ∷ ts) p =
     both_true (top_holds is_plain_function (plain_top names t)) (all_true (map (top_holds is_plain_function) (map (plain_top names) ts)))

@@ -39,14 +39,16 @@ none_everywhere P = subst (Everywhere P) (sym trees-none) tt
 abbrev Below : ℕ → Tree → Type 0
 Below end = ItemSlots (λ x. x < end)
 
-local_everywhere : (end : ℕ) (x : ℕ) (es : Option (List ExpressionTree)) (a : Forest) (z : Tree) → z ≡ Local x es → Below end (Local x es) → Everywhere (Below end) a → Everywhere (Below end) (Then z a)
+local_everywhere : (end : ℕ) (x : ℕ) (es : Option (List ExpressionTree)) (a : Forest) (z : Tree) → z ≡ Local x es → Below end (Local x es) →
+    Everywhere (Below end) a → Everywhere (Below end) (Then z a)
 local_everywhere end x es a z e h g = subst (λ y. Everywhere (Below end) (Then y a)) (sym e) (h, g)
 
 variables_below : (end n m : ℕ) → n + m ≤ end → Everywhere (Below end) (trees_of (map variable_declared (numbers_from n m)))
 variables_below end n zero h = none_everywhere (Below end)
 variables_below end n (suc m) h =
     subst (Everywhere (Below end)) (sym (trees-more (variable_declared n) (map variable_declared (numbers_from (n + 1) m))))
-    (local_everywhere end n None (trees_of (map variable_declared (numbers_from (n + 1) m))) (tree_of (variable_declared n)) (tree-Local n None) (omega (arith, h), tt) (variables_below end (n + 1) m (omega (arith, h))))
+    (local_everywhere end n None (trees_of (map variable_declared (numbers_from (n + 1) m))) (tree_of (variable_declared n)) (tree-Local n None)
+    (omega (arith, h), tt) (variables_below end (n + 1) m (omega (arith, h))))
 
 zero_slots : (P : ℕ → Type 0) → All (ExpressionSlots P) (Numerals.number Int (pos 0) ∷ [])
 zero_slots P = All-from_recursion (ExpressionSlots P) (Numerals.number Int (pos 0) ∷ []) (tt, tt)
@@ -55,20 +57,24 @@ guards_below : (end n m : ℕ) → n + m ≤ end → Everywhere (Below end) (tre
 guards_below end n zero h = none_everywhere (Below end)
 guards_below end n (suc m) h =
     subst (Everywhere (Below end)) (sym (trees-more (guard_declared n) (map guard_declared (numbers_from (n + 1) m))))
-    (local_everywhere end n (Some (Numerals.number Int (pos 0) ∷ [])) (trees_of (map guard_declared (numbers_from (n + 1) m))) (tree_of (guard_declared n)) (guard_local n) (omega (arith, h), zero_slots (λ x. x < end)) (guards_below end (n + 1) m (omega (arith, h))))
+    (local_everywhere end n (Some (Numerals.number Int (pos 0) ∷ [])) (trees_of (map guard_declared (numbers_from (n + 1) m)))
+    (tree_of (guard_declared n)) (guard_local n) (omega (arith, h), zero_slots (λ x. x < end)) (guards_below end (n + 1) m (omega (arith, h))))
 
-declared_below : (f : Function) (ls : List ℕ) (end : ℕ) → f.params ≤ length f.slots → length f.slots + length ls ≤ end → Everywhere (Below end) (trees_of (declared f ls))
+declared_below : (f : Function) (ls : List ℕ) (end : ℕ) → f.params ≤ length f.slots → length f.slots + length ls ≤ end →
+    Everywhere (Below end) (trees_of (declared f ls))
 declared_below f ls end h g =
     let vs = map variable_declared (numbers_from f.params (length f.slots - f.params)) in
     subst (Everywhere (Below end)) (sym (trees-append vs (map guard_declared (numbers_from (length f.slots) (length ls)))))
-    (join_everywhere (Below end) (trees_of vs) _ (variables_below end f.params (length f.slots - f.params) (omega (arith, h, g))) (guards_below end (length f.slots) (length ls) g))
+    (join_everywhere (Below end) (trees_of vs) _ (variables_below end f.params (length f.slots - f.params) (omega (arith, h, g)))
+    (guards_below end (length f.slots) (length ls) g))
 
 -- ---- functions
 
 abbrev both : (Tree → Type 0) → (Tree → Type 0) → Tree → Type 0
 both P R x = P x × R x
 
-module _ (names : List (List ℕ)) (f : Function) (xs : List Item) (ranged : IsInRange f) (named : length names ≡ length f.labels) (is_body : f.body ≡ Some xs) where
+module _ (names : List (List ℕ)) (f : Function) (xs : List Item) (ranged : IsInRange f) (named : length names ≡ length f.labels)
+    (is_body : f.body ≡ Some xs) where
   abbrev ls : List ℕ
   ls = labels_left xs 0 names
 
@@ -97,8 +103,11 @@ module _ (names : List (List ℕ)) (f : Function) (xs : List Item) (ranged : IsI
   fresh l h = let e = enough in let i = slot_within (length f.slots) ls l h in omega (arith, e, i)
 
   -- a fact of the declarations and of the items is one of the whole body
-  of_body : (P : Tree → Type 0) → ((x : Tree) → P x → P (tidy_item x)) → Everywhere P (trees_of (declared f ls)) → Everywhere P (G.plain_list (slot_among (length f.slots) ls) (trees_of xs)) → Everywhere P (trees_of (guarded_body f ls xs))
-  of_body P keeps h g = subst (Everywhere P) (sym (flat_body names f xs)) (tidy_everywhere P keeps (join (trees_of (declared f ls)) (G.plain_list (slot_among (length f.slots) ls) (trees_of xs))) (join_everywhere P (trees_of (declared f ls)) _ h g))
+  of_body : (P : Tree → Type 0) → ((x : Tree) → P x → P (tidy_item x)) → Everywhere P (trees_of (declared f ls)) →
+      Everywhere P (G.plain_list (slot_among (length f.slots) ls) (trees_of xs)) → Everywhere P (trees_of (guarded_body f ls xs))
+  of_body P keeps h g = subst (Everywhere P) (sym (flat_body names f xs))
+      (tidy_everywhere P keeps (join (trees_of (declared f ls)) (G.plain_list (slot_among (length f.slots) ls) (trees_of xs)))
+      (join_everywhere P (trees_of (declared f ls)) _ h g))
 
   flat_ranged : Everywhere IsConverted (body_of f) → Everywhere IsNoLeap (body_of f) → IsInRange (with_guard_variables names f xs)
   flat_ranged converted leapless =
@@ -110,9 +119,11 @@ module _ (names : List (List ℕ)) (f : Function) (xs : List Item) (ranged : IsI
         parameters = (let h = ranged.parameters in omega (arith, h, e));
         slots = of_body (ItemSlots New) (slots_tidy New) (declared_below f ls (length (f.slots ++ more)) ranged.parameters (omega (arith, e)))
             (plain_everywhere slot (both (ItemSlots Old) (ArmLabels Left)) (ItemSlots New) (slots_plain Old New wider slot Left fresh) (trees_of xs)
-            (everywhere_both (ItemSlots Old) (ArmLabels Left) (trees_of xs) (at (ItemSlots Old) ranged.slots) (among_labels names (length f.labels) xs named (at (ItemLabels (λ l. l < length f.labels)) ranged.labels))));
+            (everywhere_both (ItemSlots Old) (ArmLabels Left) (trees_of xs) (at (ItemSlots Old) ranged.slots)
+            (among_labels names (length f.labels) xs named (at (ItemLabels (λ l. l < length f.labels)) ranged.labels))));
         labels = of_body (ItemLabels (λ l. l < 0)) (labels_tidy (λ l. l < 0)) ((slots_declared (λ l. l < 0) _ _ (trees_of (declared f ls)) decls).0)
-            (plain_everywhere slot (both IsConverted IsNoLeap) (ItemLabels (λ l. l < 0)) (labels_plain slot (λ l. l < 0)) (trees_of xs) (everywhere_both IsConverted IsNoLeap (trees_of xs) (at IsConverted converted) (at IsNoLeap leapless)));
+            (plain_everywhere slot (both IsConverted IsNoLeap) (ItemLabels (λ l. l < 0)) (labels_plain slot (λ l. l < 0)) (trees_of xs)
+            (everywhere_both IsConverted IsNoLeap (trees_of xs) (at IsConverted converted) (at IsNoLeap leapless)));
         unguarded = λ z. of_body IsUnguarded unguarded_tidy ((slots_declared (λ l. l < 0) _ _ (trees_of (declared f ls)) decls).1)
             (plain_everywhere slot IsNoLeap IsUnguarded (unguarded_plain slot) (trees_of xs) (at IsNoLeap leapless));
       }
@@ -132,14 +143,17 @@ chosen_function : (P : Function → Type 0) (b : Bool) (x y : Function) → (b �
 chosen_function P true x y h g = h refl
 chosen_function P false x y h g = g refl
 
-function_by : (o : Option (List Item)) (names : List (List ℕ)) (f : Function) → f.body ≡ o → IsInRange f → length names ≡ length f.labels → (f.flat ≡ true → Everywhere IsConverted (body_of f)) → (f.flat ≡ true → Everywhere IsNoLeap (body_of f)) → IsInRange (plain_body names f o)
+function_by : (o : Option (List Item)) (names : List (List ℕ)) (f : Function) → f.body ≡ o → IsInRange f → length names ≡ length f.labels →
+    (f.flat ≡ true → Everywhere IsConverted (body_of f)) → (f.flat ≡ true → Everywhere IsNoLeap (body_of f)) → IsInRange (plain_body names f o)
 function_by None names f e h n c l = h
 function_by (Some xs) names f e h n c l =
-    chosen_function IsInRange f.flat (with_guard_variables names f xs) (record f { body = Some (tidied xs) }) (λ q. flat_ranged names f xs h n e (c q) (l q)) (λ q. tidy_ranged names f xs h n e)
+    chosen_function IsInRange f.flat (with_guard_variables names f xs) (record f { body = Some (tidied xs) })
+    (λ q. flat_ranged names f xs h n e (c q) (l q)) (λ q. tidy_ranged names f xs h n e)
 
 module _ (names : Function → List (List ℕ)) where
   top_ranged : (p : Program) (t : Top) → IsTopReady (code_of p) names t → IsTopInRange (plain_top names t)
-  top_ranged p (T.Function f) h = function_by f.body (names f) f refl h.ranged h.finished.named (λ q. let m = h.finished.made q in m.converted) h.finished.leapless
+  top_ranged p (T.Function f) h = function_by f.body (names f) f refl h.ranged h.finished.named (λ q. let m = h.finished.made q in m.converted)
+      h.finished.leapless
   top_ranged p (T.Include b) h = tt
   top_ranged p (T.Enum es) h = tt
   top_ranged p (T.Global g) h = tt
@@ -151,4 +165,5 @@ module _ (names : Function → List (List ℕ)) where
 
 -- the plain form of a program that is ready is in range
 pub plain_ranged : (names : Function → List (List ℕ)) (p : Program) → IsProgramReady names p → IsProgramInRange (plain_with names p)
-plain_ranged names p h = All-from_recursion IsTopInRange (map (plain_top names) p.tops) (tops_ranged names p p.tops (recursion_from_All (IsTopReady (code_of p) names) p.tops h))
+plain_ranged names p h = All-from_recursion IsTopInRange (map (plain_top names) p.tops)
+    (tops_ranged names p p.tops (recursion_from_All (IsTopReady (code_of p) names) p.tops h))

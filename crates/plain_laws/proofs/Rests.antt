@@ -103,7 +103,8 @@ module _ (p : Code) (gs : List ℕ → Guarding) (is : (m : List ℕ) → IsSlot
     rest_seek l s Nil i h = found_none
     rest_seek l s (Then x xs) {k = k} {k' = k'} i h =
         found_or
-        (subst (λ b. Found (cond (is_goal l x) (Some (Runs x ∷ items xs k)) (seek_in l x (items xs k))) (cond b (Some (Runs (item x) ∷ items (list xs) k')) (seek_in l (item x) (items (list xs) k')))) (sym (goal_same l x s i.0))
+        (subst (λ b. Found (cond (is_goal l x) (Some (Runs x ∷ items xs k)) (seek_in l x (items xs k)))
+        (cond b (Some (Runs (item x) ∷ items (list xs) k')) (seek_in l (item x) (items (list xs) k')))) (sym (goal_same l x s i.0))
         (found_cond (is_goal l x) (found_some (r_runs x i.0 (rest_items xs i.1 h))) (rest_seek_in l s x i.0 (rest_items xs i.1 h))))
         (rest_seek l s xs i.1 h)
 
@@ -111,16 +112,19 @@ module _ (p : Code) (gs : List ℕ → Guarding) (is : (m : List ℕ) → IsSlot
     rest_seek_in l s (If t a b) i h = found_or (rest_seek l s a i.1 h) (rest_seek l s b i.2 h)
     rest_seek_in l s (While t a) i h = rest_seek l s a i.1 (r_loops (WhileLoop t a) i h)
     rest_seek_in l s (Do a t) i h = rest_seek l s a i.1 (r_loops (DoLoop a t) i h)
-    rest_seek_in l s (For first t u a) i h = rest_seek l s a i.2 (r_loops (ForLoop t u a) (record { kinded = i.0.kinded; labels = tt; form = tt; picks = tt }, tt, i.2) h)
+    rest_seek_in l s (For first t u a) i h = rest_seek l s a i.2
+        (r_loops (ForLoop t u a) (record { kinded = i.0.kinded; labels = tt; form = tt; picks = tt }, tt, i.2) h)
     rest_seek_in l s (Switch t c) i h = found_cond (enters_switches l) (rest_seek_sections l s c i.1 h) found_none
     rest_seek_in l s (Block a) i h = rest_seek l s a i.1 h
     rest_seek_in l s _ i h = found_none
 
-    rest_seek_sections : (l : Goal) → IsSought l → (c : Sections) {k k' : List Task} → AllIn c → R k k' → Found (seek_sections l c k) (seek_sections l (sections c) k')
+    rest_seek_sections : (l : Goal) → IsSought l → (c : Sections) {k k' : List Task} → AllIn c → R k k' →
+        Found (seek_sections l c k) (seek_sections l (sections c) k')
     rest_seek_sections l s NoSection i h = found_none
     rest_seek_sections l s (Section cases default a ends c) i h =
         let after = rest_end ends (rest_tail c i.1 h) in
-        found_or (found_cond (is_section_goal l cases default) (found_some (rest_items a i.0 after)) (rest_seek l s a i.0 after)) (rest_seek_sections l s c i.1 h)
+        found_or (found_cond (is_section_goal l cases default) (found_some (rest_items a i.0 after)) (rest_seek l s a i.0 after))
+        (rest_seek_sections l s c i.1 h)
 
   pub rest_find : (l : ℕ) → (is f).jumping ≡ true → (a : Forest) → All a → R (find l a) (find l (list a))
   rest_find l s a i = found_first (rest_seek (ToLabel l) s a i r_none) found_none r_none

@@ -26,12 +26,14 @@ choice_alike true false f g o p e s h = cc
 choice_alike false true f g o p e s h = cc
 choice_alike false false f g o p e s h = h
 
-found_alike : (r : Function → Bool) → ((f g : Function) → SameSignature f g → r g ≡ r f) → (m : List ℕ) (ts us : List Top) → SameTops ts us → Alike (found r m ts) (found r m us)
+found_alike : (r : Function → Bool) → ((f g : Function) → SameSignature f g → r g ≡ r f) → (m : List ℕ) (ts us : List Top) → SameTops ts us →
+    Alike (found r m ts) (found r m us)
 found_alike r h m [] [] s = tt
 found_alike r h m [] (y ∷ us) s = absurd s
 found_alike r h m (x ∷ ts) [] s = absurd s
 found_alike r h m (T.Function f ∷ ts) (T.Function g ∷ us) s =
-    choice_alike (bytes_eq f.name m && r f) (bytes_eq g.name m && r g) f g (found r m ts) (found r m us) (ap₂ (λ n b. bytes_eq n m && b) s.0.name (h f g s.0)) s.0 (found_alike r h m ts us s.1)
+    choice_alike (bytes_eq f.name m && r f) (bytes_eq g.name m && r g) f g (found r m ts) (found r m us)
+    (ap₂ (λ n b. bytes_eq n m && b) s.0.name (h f g s.0)) s.0 (found_alike r h m ts us s.1)
 found_alike r h m (T.Function f ∷ ts) (T.Include b ∷ us) s = absurd s.0
 found_alike r h m (T.Function f ∷ ts) (T.Enum es ∷ us) s = absurd s.0
 found_alike r h m (T.Function f ∷ ts) (T.Global g ∷ us) s = absurd s.0
@@ -67,12 +69,17 @@ trees_same : (o p : Option Function) → Alike o p → SameTrees (option_map_or 
 trees_same None None h = record { result = refl; body = refl; slots = tt }
 trees_same None (Some g) h = absurd h
 trees_same (Some f) None h = absurd h
-trees_same (Some f) (Some g) h = record { result = h.result; body = some_mapped trees_of g.body ∙ (h.body ∙ sym (some_mapped trees_of f.body)); slots = h.slots }
+trees_same (Some f) (Some g) h = record {
+  result = h.result;
+  body = some_mapped trees_of g.body ∙ (h.body ∙ sym (some_mapped trees_of f.body));
+  slots = h.slots;
+}
 
 named_same : (m : List ℕ) (ts us : List Top) → SameTops ts us → SameTrees (function_named m ts) (function_named m us)
 named_same m ts us s =
     subst (λ a. SameTrees a (function_named m us)) (sym (named_tree m ts))
-    (subst (λ b. SameTrees (option_map_or function_tree (picked m ts) undeclared) b) (sym (named_tree m us)) (trees_same (picked m ts) (picked m us) (picked_alike m ts us s)))
+    (subst (λ b. SameTrees (option_map_or function_tree (picked m ts) undeclared) b) (sym (named_tree m us))
+    (trees_same (picked m ts) (picked m us) (picked_alike m ts us s)))
 
 called_same : (m : List ℕ) (a b : Option Forest) (r : Option IntKind) → is_some b ≡ is_some a → kind_called m b r ≡ kind_called m a r
 called_same m None None r e = refl
@@ -92,7 +99,8 @@ global_same m (T.Function f ∷ ts) (T.Note b ∷ us) s = absurd s.0
 global_same m (T.Include b ∷ ts) (y ∷ us) s = subst (λ z. global_named m (z ∷ us) ≡ global_named m ts) s.0 (global_same m ts us s.1)
 global_same m (T.Enum es ∷ ts) (y ∷ us) s = subst (λ z. global_named m (z ∷ us) ≡ global_named m ts) s.0 (global_same m ts us s.1)
 global_same m (T.Global g ∷ ts) (y ∷ us) s =
-    subst (λ z. global_named m (z ∷ us) ≡ global_named m (T.Global g ∷ ts)) s.0 (ap (λ v. cond (bytes_eq g.slot.name m) (initial_variable g) v) (global_same m ts us s.1))
+    subst (λ z. global_named m (z ∷ us) ≡ global_named m (T.Global g ∷ ts)) s.0
+    (ap (λ v. cond (bytes_eq g.slot.name m) (initial_variable g) v) (global_same m ts us s.1))
 global_same m (T.Note b ∷ ts) (y ∷ us) s = subst (λ z. global_named m (z ∷ us) ≡ global_named m ts) s.0 (global_same m ts us s.1)
 
 pub signatures_same : (p q : Program) → SameTops p.tops q.tops → SameKinds (code_of p) (code_of q)

@@ -27,7 +27,11 @@ use Rattle.plain_laws.proofs.Simulation.{joint, alike}
 after_steps : (q : Code) (R : ℕ → Shown) (k : ℕ) (d : State) → AreSameRuns R (λ n. shows (run q n (run q k d))) → AreSameRuns R (λ n. shows (run q n d))
 after_steps q R k d h = record {
   forth = λ n. (k + (h.forth n).0, subst (λ z. Covers (R n) (shows z)) (sym (run_add q k (h.forth n).0 d)) (h.forth n).1);
-  back = λ n. ((h.back n).0, covers_trans (shows (run q n d)) (shows (run q n (run q k d))) (R (h.back n).0) (subst (λ z. Covers (shows (run q n d)) (shows z)) (run_add q k n d) (run_grows q n (k + n) d (omega arith))) (h.back n).1);
+  back = λ n. (
+    (h.back n).0,
+    covers_trans (shows (run q n d)) (shows (run q n (run q k d))) (R (h.back n).0)
+        (subst (λ z. Covers (shows (run q n d)) (shows z)) (run_add q k n d) (run_grows q n (k + n) d (omega arith))) (h.back n).1,
+  );
 }
 
 no_shapes : Shapes
@@ -61,25 +65,38 @@ module _ (p : Code) (gs : List ℕ → Guarding) (is : IsSlottedCode p gs) where
 
   entries : (m : List ℕ) (arguments : List ℤ) → IsEntry p m arguments ↔ IsEntry q m arguments
   entries m arguments = (
-    (λ e. record { defined = (some_slotted (p.functions m).body m).0 e.defined; numbers = subst (λ (s : List Slot). All (λ s. IsNone s.cells) s) (sym (same_parameters m)) e.numbers; given = e.given }),
-    (λ e. record { defined = (some_slotted (p.functions m).body m).1 e.defined; numbers = subst (λ (s : List Slot). All (λ s. IsNone s.cells) s) (same_parameters m) e.numbers; given = e.given }),
+    (λ e. record {
+      defined = (some_slotted (p.functions m).body m).0 e.defined;
+      numbers = subst (λ (s : List Slot). All (λ s. IsNone s.cells) s) (sym (same_parameters m)) e.numbers;
+      given = e.given;
+    }),
+    (λ e. record {
+      defined = (some_slotted (p.functions m).body m).1 e.defined;
+      numbers = subst (λ (s : List Slot). All (λ s. IsNone s.cells) s) (same_parameters m) e.numbers;
+      given = e.given;
+    }),
   )
 
   -- ---- runs
 
   started : (m : List ℕ) (arguments : List ℤ) (input : List ℕ) (answers : List ℤ) (b : Option Forest) → (p.functions m).body ≡ b → IsSome b
-      → Later p gs is.functions (begin_call m (option_map_or (λ a. a) b Nil) (push (p.functions m) (map Integer arguments) (world_at_start p input answers)) [] (world_at_start p input answers))
-      (begin_call m (option_map_or (λ a. a) (option_map (λ a. join (gs m).declarations (plain_list (gs m).slot a)) b) Nil) (push (slotted (gs m) (p.functions m)) (map Integer arguments) (world_at_start q input answers)) [] (world_at_start q input answers))
+      → Later p gs is.functions (begin_call m (option_map_or (λ a. a) b Nil)
+      (push (p.functions m) (map Integer arguments) (world_at_start p input answers)) [] (world_at_start p input answers))
+      (begin_call m (option_map_or (λ a. a) (option_map (λ a. join (gs m).declarations (plain_list (gs m).slot a)) b) Nil)
+      (push (slotted (gs m) (p.functions m)) (map Integer arguments) (world_at_start q input answers)) [] (world_at_start q input answers))
   started m arguments input answers (Some a) e h =
-      begun p gs is.functions no_shapes 0 p.cells (variables_at_start p) (variables_at_start p) input answers [] at_start m (f_none m) (map Integer arguments) (numbers_fit p no_shapes 0 (p.functions m) arguments) a
+      begun p gs is.functions no_shapes 0 p.cells (variables_at_start p) (variables_at_start p) input answers [] at_start m (f_none m)
+      (map Integer arguments) (numbers_fit p no_shapes 0 (p.functions m) arguments) a
       (subst (λ b. Everywhere (Fit p gs is.functions m) (option_map_or (λ z. z) b Nil)) e (is.functions m).fits)
   started m arguments input answers None e h = cc
 
-  same_runs : (m : List ℕ) (arguments : List ℤ) → IsEntry p m arguments → (input : List ℕ) (answers : List ℤ) → AreSameRuns (jump_run p m arguments input answers) (jump_run q m arguments input answers)
+  same_runs : (m : List ℕ) (arguments : List ℤ) → IsEntry p m arguments → (input : List ℕ) (answers : List ℤ) →
+      AreSameRuns (jump_run p m arguments input answers) (jump_run q m arguments input answers)
   same_runs m arguments e input answers =
       let l = started m arguments input answers (p.functions m).body refl e.defined in
       after_steps q (jump_run p m arguments input answers) l.steps (start q m arguments input answers)
-      (same (step p) (step q) shows shows (Related p gs is.functions) (λ x. Unit {0}) (λ x. Unit {0}) (λ x. 0) (λ c d h ok. joint p gs is.functions c d h) (alike p gs is.functions) (step_covers p) (step_covers q)
+      (same (step p) (step q) shows shows (Related p gs is.functions) (λ x. Unit {0}) (λ x. Unit {0}) (λ x. 0)
+      (λ c d h ok. joint p gs is.functions c d h) (alike p gs is.functions) (step_covers p) (step_covers q)
       (start p m arguments input answers) (run q l.steps (start q m arguments input answers)) l.related (λ n. tt))
 
   pub slotted_same : SameBehaviour p (slotted_code gs p)

@@ -170,7 +170,8 @@ module _ (p : Code) (sh : Shapes) (c : ℕ) where
   unary_has Flip j a = (tt, converted-in_range (promoted j) _)
 
   pub binary_has : (op : BinaryOp) (i j : IntKind) (a b : ℤ) → ResultHas (mark_sort op (Some (binary_kind op i j))) (binary_result op i j a b)
-  binary_has (Arith op) i j a b = in_sort (arith_kind op i j) _ (arith_in op (arith_kind op i j) (converted (arith_kind op i j) a) (right_operand op i j b) (converted-in_range (arith_kind op i j) a))
+  binary_has (Arith op) i j a b = in_sort (arith_kind op i j)
+      _ (arith_in op (arith_kind op i j) (converted (arith_kind op i j) a) (right_operand op i j b) (converted-in_range (arith_kind op i j) a))
   binary_has Less i j a b = (_, refl)
   binary_has Greater i j a b = (_, refl)
   binary_has AtMost i j a b = (_, refl)

@@ -82,7 +82,8 @@ module _ (p : Code) (gs : List ℕ → Guarding) (is : (m : List ℕ) → IsSlot
   abbrev pub Next : State → State → Type 0
   Next c d = Later p gs is (step p c) (step R d)
 
-  here : (ss : List Sort) (u v v' : List Value) {k k' : List Task} → HaveSorts p sh (suc n) ss u → Stack p gs is f (suc n) ss v v' k k' → Later p gs is (lefts k (u ++ v)) (rights k' (u ++ v'))
+  here : (ss : List Sort) (u v v' : List Value) {k k' : List Task} → HaveSorts p sh (suc n) ss u → Stack p gs is f (suc n) ss v v' k k' →
+      Later p gs is (lefts k (u ++ v)) (rights k' (u ++ v'))
   here ss u v v' hs sk = now p gs is _ _ (on p gs is sh s vs n cells input answers events f g me st fr ss u v v' hs sk)
 
   -- one step of the right side comes first
@@ -95,36 +96,47 @@ module _ (p : Code) (gs : List ℕ → Guarding) (is : (m : List ℕ) → IsSlot
   -- ---- guards
 
   guard_here : (l : ℕ) (b : Bool) (v : List Value) {k k' : List Task} → IsLeft p gs is f l → Rest p gs is f k k'
-      → Related p gs is (At f (with_guard l b g) k v cs (world s (suc n) cells input answers events)) (At f no_guards k' v cs' (world (set_variable (suc n) (slot p gs is f l) b vs) (suc n) cells input answers events))
+      → Related p gs is (At f (with_guard l b g) k v cs (world s (suc n) cells input answers events))
+      (At f no_guards k' v cs' (world (set_variable (suc n) (slot p gs is f l) b vs) (suc n) cells input answers events))
   guard_here l b v i h =
-      x_at sh s (set_variable (suc n) (slot p gs is f l) b vs) n cells input answers events f (with_guard l b g) [] [] v v (set_memories p gs is sh s vs n (slot p gs is f l) b f st.shape ((is f).beyond l i) me)
+      x_at sh s (set_variable (suc n) (slot p gs is f l) b vs) n cells input answers events f (with_guard l b g) [] [] v v
+      (set_memories p gs is sh s vs n (slot p gs is f l) b f st.shape ((is f).beyond l i) me)
       (set_sits p gs is sh vs (suc n) f g l b i st) tt (s_rest v h) (set_frames p gs is sh vs n (slot p gs is f l) b f fr)
 
   set_here : (l : ℕ) (b : Bool) (v : List Value) {k k' : List Task} → IsLeft p gs is f l → Rest p gs is f k k'
-      → Later p gs is (At f (with_guard l b g) k v cs (world s (suc n) cells input answers events)) (step R (rights (Runs (guard_set (slot p gs is f l) (number Int (truth b))) ∷ k') v))
+      → Later p gs is (At f (with_guard l b g) k v cs (world s (suc n) cells input answers events))
+      (step R (rights (Runs (guard_set (slot p gs is f l) (number Int (truth b))) ∷ k') v))
   set_here l b v {k = k} {k' = k'} i h = record {
     steps = 5;
-    related = subst (λ z. Related p gs is (At f (with_guard l b g) k v cs (world s (suc n) cells input answers events)) z) (sym (sets R f no_guards cs' vs (suc n) cells input answers events (slot p gs is f l) b (g l) k' v (st.guards l i))) (guard_here l b v i h);
+    related = subst (λ z. Related p gs is (At f (with_guard l b g) k v cs (world s (suc n) cells input answers events)) z)
+        (sym (sets R f no_guards cs' vs (suc n) cells input answers events (slot p gs is f l) b (g l) k' v (st.guards l i))) (guard_here l b v i h);
   }
 
-  armed_by : (y : Bool) (l : ℕ) (e : ExpressionTree) (v : List Value) {k k' : List Task} → is_truth e ≡ y → IsLeft p gs is f l → Kinded p (slots p gs is f) e → (kind : Option IntKind) → kind_of e ≡ kind → HasKind kind → Rest p gs is f k k'
-      → Later p gs is (lefts (Works (Computes e) ∷ Arms l ∷ k) v) (rights (Works (Computes (cond y e (unequal_zero e))) ∷ Works Stores ∷ Works Drops ∷ k') (Designates (OfCall (suc n) (slot p gs is f l)) 0 ∷ v))
-  armed_by true l e v q i ke kind qk hk h = here [] [] v (Designates (OfCall (suc n) (slot p gs is f l)) 0 ∷ v) tt (s_computes e Bit ke (truth_sort e q) (s_arms_bit l v i h))
+  armed_by : (y : Bool) (l : ℕ) (e : ExpressionTree) (v : List Value) {k k' : List Task} → is_truth e ≡ y → IsLeft p gs is f l →
+      Kinded p (slots p gs is f) e → (kind : Option IntKind) → kind_of e ≡ kind → HasKind kind → Rest p gs is f k k'
+      → Later p gs is (lefts (Works (Computes e) ∷ Arms l ∷ k) v)
+      (rights (Works (Computes (cond y e (unequal_zero e))) ∷ Works Stores ∷ Works Drops ∷ k') (Designates (OfCall (suc n) (slot p gs is f l)) 0 ∷ v))
+  armed_by true l e v q i ke kind qk hk h = here [] [] v (Designates (OfCall (suc n) (slot p gs is f l)) 0 ∷ v) tt
+      (s_computes e Bit ke (truth_sort e q) (s_arms_bit l v i h))
   armed_by false l e v {k = k} {k' = k'} q i ke (Some kind) qk hk h =
       let at = Designates (OfCall (suc n) (slot p gs is f l)) 0 in
       one_later _ _
-      (subst (λ z. Later p gs is (lefts (Works (Computes e) ∷ Arms l ∷ k) v) (rights (Works (Computes e) ∷ Works (Computes (number Int (pos 0))) ∷ Works (AppliesBinary Unequal z (Some Int)) ∷ Works Stores ∷ Works Drops ∷ k') (at ∷ v))) (sym qk)
+      (subst (λ z. Later p gs is (lefts (Works (Computes e) ∷ Arms l ∷ k) v)
+      (rights (Works (Computes e) ∷ Works (Computes (number Int (pos 0))) ∷ Works (AppliesBinary Unequal z (Some Int)) ∷ Works Stores ∷ Works
+      Drops ∷ k') (at ∷ v))) (sym qk)
       (here [] [] v (at ∷ v) tt (s_computes e (Num (Some kind)) ke (under_expression e (Num (Some kind)) qk) (s_arms l kind v i h))))
   armed_by false l e v q i ke None qk hk h = absurd hk
 
   after_run : (m : ℕ) (c d : State) → Later p gs is c (run R m d) → Later p gs is c d
   after_run m c d h = record { steps = m + h.steps; related = subst (λ z. Related p gs is c z) (sym (run_add R m h.steps d)) h.related }
 
-  arm_next : (l : ℕ) (e : ExpressionTree) (v : List Value) {k k' : List Task} → IsLeft p gs is f l → Kinded p (slots p gs is f) e → HasKind (kind_of e) → Rest p gs is f k k'
+  arm_next : (l : ℕ) (e : ExpressionTree) (v : List Value) {k k' : List Task} → IsLeft p gs is f l → Kinded p (slots p gs is f) e →
+      HasKind (kind_of e) → Rest p gs is f k k'
       → Next (lefts (Runs (Arm l (Some e)) ∷ k) v) (rights (Runs (guard_set (slot p gs is f l) (made_truth e)) ∷ k') v)
   arm_next l e v {k = k} {k' = k'} i ke hk h =
       after_run 2 _ _
-      (subst (λ z. Later p gs is (lefts (Works (Computes e) ∷ Arms l ∷ k) v) z) (sym (sets_by R f no_guards cs' vs (suc n) cells input answers events (slot p gs is f l) (g l) (made_truth e) k' v (st.guards l i)))
+      (subst (λ z. Later p gs is (lefts (Works (Computes e) ∷ Arms l ∷ k) v) z)
+      (sym (sets_by R f no_guards cs' vs (suc n) cells input answers events (slot p gs is f l) (g l) (made_truth e) k' v (st.guards l i)))
       (armed_by (is_truth e) l e v refl i ke (kind_of e) refl hk h))
 
   -- ---- items
@@ -134,30 +146,36 @@ module _ (p : Code) (gs : List ℕ → Guarding) (is : (m : List ℕ) → IsSlot
   switch_next t c v {k = k} {k' = k'} i h =
       one_later _ _
       (subst (λ z. Later p gs is (lefts (AsksSelector t ∷ Enters (switch_kind t) c ∷ k) v)
-      (rights (Works (Computes (plain_selector (slot p gs is f) t)) ∷ Works (Converts z) ∷ Enters z (plain_sections (slot p gs is f) c) ∷ k') v)) (sym (picked_kind (slot p gs is f) t))
+      (rights (Works (Computes (plain_selector (slot p gs is f) t)) ∷ Works (Converts z) ∷ Enters z (plain_sections (slot p gs is f) c) ∷ k') v))
+      (sym (picked_kind (slot p gs is f) t))
       (here [] [] v v tt (s_selector t 0 c (switch_kind t) v refl i.0.kinded i.0.labels i.0.picks i.1 h)))
 
   find_slotted : (l : ℕ) (b : Option Forest)
-      → find l (option_map_or (λ a. a) (option_map (λ a. join (gs f).declarations (plain_list (gs f).slot a)) b) Nil) ≡ find l (plain_list (gs f).slot (option_map_or (λ a. a) b Nil))
+      → find l (option_map_or (λ a. a) (option_map (λ a. join (gs f).declarations (plain_list (gs f).slot a)) b) Nil) ≡ find l
+      (plain_list (gs f).slot (option_map_or (λ a. a) b Nil))
   find_slotted l (Some a) = ap (λ o. first_of_three o None []) (find_behind l _ _ (gs f).declarations (plain_list (gs f).slot a) (is f).declared)
   find_slotted l None = refl
 
-  item_next : (x : Tree) (v : List Value) {k k' : List Task} → EverywhereOf (Fit p gs is f) x → Rest p gs is f k k' → Next (lefts (Runs x ∷ k) v) (rights (Runs (plain_item (slot p gs is f) x) ∷ k') v)
+  item_next : (x : Tree) (v : List Value) {k k' : List Task} → EverywhereOf (Fit p gs is f) x → Rest p gs is f k k' →
+      Next (lefts (Runs x ∷ k) v) (rights (Runs (plain_item (slot p gs is f) x) ∷ k') v)
   item_next (Evaluate e) v i h = here [] [] v v tt (s_computes e (sort_of e) i.kinded (under_self _) (s_drops (sort_of e) (s_rest v h)))
   item_next (Return None) v i h = here [] [] v v tt (s_ends v v _ _)
   item_next (Return (Some e)) v i h = here [] [] v v tt (s_computes e (sort_of e) i.kinded (under_self _) (s_ends_with (sort_of e) v v _ _))
   item_next (If t a b) v i h = one_later _ _ (here [] [] v v tt (s_asks t v i.0.kinded i.0.labels (t_branches a b i.1 i.2 h)))
   item_next (While t a) v i h = one_later _ _ (here [] [] v v tt (s_asks t v i.0.kinded i.0.labels (t_turns (WhileLoop t a) i h)))
   item_next (Do a t) v i h = rest_here v (rest_items p gs is f a i.1 (r_loops (DoLoop a t) i h))
-  item_next (For first t u a) v i h = rest_here v (rest_items p gs is f first i.1 (r_heads t u a (record { kinded = i.0.kinded; labels = tt; form = tt; picks = tt }, tt, i.2) h))
+  item_next (For first t u a) v i h = rest_here v
+      (rest_items p gs is f first i.1 (r_heads t u a (record { kinded = i.0.kinded; labels = tt; form = tt; picks = tt }, tt, i.2) h))
   item_next (Switch t c) v i h = switch_next t c v i h
   item_next (Block a) v i h = rest_here v (rest_items p gs is f a i.1 h)
   item_next (Local x None) v i h = rest_here v h
-  item_next (Local x (Some es)) v i h = now p gs is _ _ (initialise_on p gs is sh s vs n cells input answers events f g me st fr x 0 es v i.kinded.0 i.kinded.1 h)
+  item_next (Local x (Some es)) v i h = now p gs is _ _ (initialise_on p gs is sh s vs n cells input answers events f g me st fr x 0 es v i.kinded.0
+      i.kinded.1 h)
   item_next Break v i h = rest_here v (rest_cut p gs is f h)
   item_next Continue v i h = rest_here v (rest_cut_to p gs is f h)
   item_next (Goto l) v i h =
-      rest_here v (subst (λ z. Rest p gs is f (find l (items_of (p.functions f))) z) (sym (find_slotted l (p.functions f).body)) (rest_find p gs is f l i.form (items_of (p.functions f)) (is f).fits))
+      rest_here v (subst (λ z. Rest p gs is f (find l (items_of (p.functions f))) z) (sym (find_slotted l (p.functions f).body))
+      (rest_find p gs is f l i.form (items_of (p.functions f)) (is f).fits))
   item_next (Mark l) v i h = rest_here v h
   item_next (Arm l None) v i h = set_here l true v i.labels h
   item_next (Arm l (Some e)) v i h = arm_next l e v i.labels i.kinded.0 i.kinded.1 h
@@ -168,18 +186,23 @@ module _ (p : Code) (gs : List ℕ → Guarding) (is : (m : List ℕ) → IsSlot
 
   -- ---- the other tasks of statements
 
-  loop_next : (x : Loop) (v : List Value) {k k' : List Task} → FitLoop p gs is f x → Rest p gs is f k k' → Next (lefts (Loops x ∷ k) v) (rights (Loops (plain_loop (slot p gs is f) x) ∷ k') v)
+  loop_next : (x : Loop) (v : List Value) {k k' : List Task} → FitLoop p gs is f x → Rest p gs is f k k' →
+      Next (lefts (Loops x ∷ k) v) (rights (Loops (plain_loop (slot p gs is f) x) ∷ k') v)
   loop_next (WhileLoop t a) v i h = rest_here v (r_runs (While t a) i h)
   loop_next (DoLoop a t) v i h = one_later _ _ (here [] [] v v tt (s_asks t v i.0.kinded i.0.labels (t_turns (DoLoop a t) i h)))
   loop_next (ForLoop t None a) v i h = rest_here v (r_heads t None a i h)
-  loop_next (ForLoop t (Some e) a) v i h = here [] [] v v tt (s_computes e (sort_of e) i.0.kinded.1 (under_self _) (s_drops (sort_of e) (s_rest v (r_heads t (Some e) a i h))))
+  loop_next (ForLoop t (Some e) a) v i h = here [] [] v v tt
+      (s_computes e (sort_of e) i.0.kinded.1 (under_self _) (s_drops (sort_of e) (s_rest v (r_heads t (Some e) a i h))))
 
-  head_next : (t u : Option ExpressionTree) (a : Forest) (v : List Value) {k k' : List Task} → FitLoop p gs is f (ForLoop t u a) → Rest p gs is f k k' → Next (lefts (Heads t u a ∷ k) v) (rights (Heads t u (plain_list (slot p gs is f) a) ∷ k') v)
+  head_next : (t u : Option ExpressionTree) (a : Forest) (v : List Value) {k k' : List Task} → FitLoop p gs is f (ForLoop t u a) →
+      Rest p gs is f k k' → Next (lefts (Heads t u a ∷ k) v) (rights (Heads t u (plain_list (slot p gs is f) a) ∷ k') v)
   head_next None u a v i h = rest_here v (rest_items p gs is f a i.2 (r_loops (ForLoop None u a) i h))
-  head_next (Some e) u a v i h = here [] [] v v tt (s_computes e (sort_of e) i.0.kinded.0 (under_self _) (s_truthy (sort_of e) v (t_turns (ForLoop (Some e) u a) i h)))
+  head_next (Some e) u a v i h = here [] [] v v tt (s_computes e (sort_of e) i.0.kinded.0 (under_self _)
+      (s_truthy (sort_of e) v (t_turns (ForLoop (Some e) u a) i h)))
 
   pub rest_next : (v : List Value) {k k' : List Task} → Rest p gs is f k k' → Next (lefts k v) (rights k' v)
-  rest_next v r_none = let e = fall_sort p gs is f (p.functions f) in now p gs is _ _ (left_behind p gs is sh cells s vs input answers events n f _ e.0 e.1 me fr)
+  rest_next v r_none = let e = fall_sort p gs is f (p.functions f) in now p gs is
+      _ _ (left_behind p gs is sh cells s vs input answers events n f _ e.0 e.1 me fr)
   rest_next v (r_runs x i h) = item_next x v i h
   rest_next v (r_loops x i h) = loop_next x v i h
   rest_next v (r_heads t u a i h) = head_next t u a v i h
@@ -192,14 +215,16 @@ module _ (p : Code) (gs : List ℕ → Guarding) (is : (m : List ℕ) → IsSlot
   holds_truth true = refl
   holds_truth false = refl
 
-  either_rest : (y : Bool) (v : List Value) {j j' k k' : List Task} → Rest p gs is f j j' → Rest p gs is f k k' → Later p gs is (lefts (cond y j k) v) (rights (cond y j' k') v)
+  either_rest : (y : Bool) (v : List Value) {j j' k k' : List Task} → Rest p gs is f j j' → Rest p gs is f k k' →
+      Later p gs is (lefts (cond y j k) v) (rights (cond y j' k') v)
   either_rest true v h i = rest_here v h
   either_rest false v h i = rest_here v i
 
   pub truthy_next : (v : List Value) (x y : Value) {k k' : List Task} → holds y ≡ holds x → Truthy p gs is f k k' → Next (lefts k (x ∷ v)) (rights k' (y ∷ v))
   truthy_next v x y e (t_judges h) = one_later _ _ (truthy_next v x (truth_value y) (holds_truth (holds y) ∙ e) h)
   truthy_next v x y e (t_branches a b {k = k} {k' = k'} i j h) =
-      subst (λ z. Later p gs is (lefts (cond (holds x) (items a k) (items b k)) v) (rights (cond z (items (plain_list (slot p gs is f) a) k') (items (plain_list (slot p gs is f) b) k')) v)) (sym e)
+      subst (λ z. Later p gs is (lefts (cond (holds x) (items a k) (items b k)) v)
+      (rights (cond z (items (plain_list (slot p gs is f) a) k') (items (plain_list (slot p gs is f) b) k')) v)) (sym e)
       (either_rest (holds x) v (rest_items p gs is f a i h) (rest_items p gs is f b j h))
   truthy_next v x y e (t_turns l {k = k} {k' = k'} i h) =
       subst (λ z. Later p gs is (lefts (cond (holds x) (turn l k) k) v) (rights (cond z (turn (plain_loop (slot p gs is f) l) k') k') v)) (sym e)

@@ -26,7 +26,8 @@ use Rattle.plain_laws.proofs.KindsKept.{item_kept}
 use Rattle.plain_laws.proofs.KindsMoved.{kinds_moved}
 use Rattle.plain_laws.proofs.SignaturesSame.{signatures_same}
 
-meanings : (names : Function → List (List ℕ)) (p : Program) → IsProgramReady names p → is_jump_free_program p ≡ true → BehavesAsStructured p (plain_with names p)
+meanings : (names : Function → List (List ℕ)) (p : Program) → IsProgramReady names p → is_jump_free_program p ≡ true →
+    BehavesAsStructured p (plain_with names p)
 meanings names p ready free =
     let q = plain_with names p in
     let same = plain_same names p ready in
@@ -34,11 +35,13 @@ meanings names p ready free =
     record {
       entries = same.codes.entries;
       runs = λ m arguments e input answers.
-          same_runs_trans (jump_run (code_of p) m arguments input answers) (jump_run (code_of q) m arguments input answers) (structural_run (code_of q) m arguments input answers)
+          same_runs_trans (jump_run (code_of p) m arguments input answers) (jump_run (code_of q) m arguments input answers)
+          (structural_run (code_of q) m arguments input answers)
           (same.codes.runs m arguments e input answers) (agree.runs m arguments input answers);
     }
 
-ready_tops : (p : Code) (names : Function → List (List ℕ)) (ts : List Top) → AllByRecursion IsTopInRange ts → AllByRecursion (IsTopFinished p names) ts → AllByRecursion (IsTopReady p names) ts
+ready_tops : (p : Code) (names : Function → List (List ℕ)) (ts : List Top) → AllByRecursion IsTopInRange ts →
+    AllByRecursion (IsTopFinished p names) ts → AllByRecursion (IsTopReady p names) ts
 ready_tops p names [] h g = tt
 ready_tops p names (T.Function f ∷ ts) h g = (record { ranged = h.0; finished = g.0 }, ready_tops p names ts h.1 g.1)
 ready_tops p names (T.Include b ∷ ts) h g = (tt, ready_tops p names ts h.1 g.1)
@@ -52,4 +55,16 @@ of_steady names p s h =
     (ready_tops (code_of p) names p.tops (recursion_from_All IsTopInRange p.tops s.ranged) (recursion_from_All (IsTopFinished (code_of p) names) p.tops h))
 
 pub plain_laws : PlainLaws
-plain_laws = record { of_guards = slotted_same; of_sections = tidy_same; of_programs = plain_same; ranged = plain_ranged; few = few_names; plain = program_shown; meanings = meanings; of_steady = of_steady; of_kinds = item_kept; of_moves = kinds_moved; of_signatures = signatures_same }
+plain_laws = record {
+  of_guards = slotted_same;
+  of_sections = tidy_same;
+  of_programs = plain_same;
+  ranged = plain_ranged;
+  few = few_names;
+  plain = program_shown;
+  meanings = meanings;
+  of_steady = of_steady;
+  of_kinds = item_kept;
+  of_moves = kinds_moved;
+  of_signatures = signatures_same;
+}

@@ -92,14 +92,17 @@ module _ (b : Forest) (g : Guards) where
 
 data TidyFrames : List Frame → List Frame → Type 0 where
   tf_none : TidyFrames [] []
-  tf_more : (f : List ℕ) (g : Guards) (v : List Value) {k k' : List Task} {cs cs' : List Frame} → Tidies k k' → TidyFrames cs cs' → TidyFrames (Waits f g k v ∷ cs) (Waits f g k' v ∷ cs')
+  tf_more : (f : List ℕ) (g : Guards) (v : List Value) {k k' : List Task} {cs cs' : List Frame} → Tidies k k' → TidyFrames cs cs' →
+      TidyFrames (Waits f g k v ∷ cs) (Waits f g k' v ∷ cs')
 
 data TidyState : State → State → Type 0 where
-  ts_at : (f : List ℕ) (g : Guards) (v : List Value) (w : World) {k k' : List Task} {cs cs' : List Frame} → Tidies k k' → TidyFrames cs cs' → TidyState (At f g k v cs w) (At f g k' v cs' w)
+  ts_at : (f : List ℕ) (g : Guards) (v : List Value) (w : World) {k k' : List Task} {cs cs' : List Frame} → Tidies k k' → TidyFrames cs cs' →
+      TidyState (At f g k v cs w) (At f g k' v cs' w)
   ts_ended : (n : ℤ) (es : List Event) → TidyState (HasEnded n es) (HasEnded n es)
   ts_trapped : (t : Trap) (es : List Event) → TidyState (HasTrapped t es) (HasTrapped t es)
 
-settle_tidy : (o : Outcome) (f : List ℕ) (g : Guards) (v : List Value) {k k' : List Task} {cs cs' : List Frame} → Tidies k k' → TidyFrames cs cs' → TidyState (settle o f g k v cs) (settle o f g k' v cs')
+settle_tidy : (o : Outcome) (f : List ℕ) (g : Guards) (v : List Value) {k k' : List Task} {cs cs' : List Frame} → Tidies k k' → TidyFrames cs cs' →
+    TidyState (settle o f g k v cs) (settle o f g k' v cs')
 settle_tidy (Gives x w) f g v q r = ts_at f g (x ∷ v) w q r
 settle_tidy (Traps t w) f g v q r = ts_trapped t w.events
 settle_tidy (Exits n w) f g v q r = ts_ended n w.events
@@ -107,13 +110,16 @@ settle_tidy (Exits n w) f g v q r = ts_ended n w.events
 leave_tidy : (h : FunctionTree) (x : Value) (w : World) {cs cs' : List Frame} → TidyFrames cs cs' → TidyState (leave h x cs w) (leave (tidy_function h) x cs' w)
 leave_tidy h x w tf_none = settle_tidy (leave_entry h x w) [] no_guards [] ti_none tf_none
 leave_tidy h x w (tf_more m g v {k = k} {k' = k'} {cs = cs} {cs' = cs'} p q) =
-    subst (λ d. TidyState (settle (leave_call (is_dropped k) h x w) m g k v cs) (settle (leave_call d h x w) m g k' v cs')) (sym (drops_tidy p)) (settle_tidy (leave_call (is_dropped k) h x w) m g v p q)
+    subst (λ d. TidyState (settle (leave_call (is_dropped k) h x w) m g k v cs) (settle (leave_call d h x w) m g k' v cs')) (sym (drops_tidy p))
+    (settle_tidy (leave_call (is_dropped k) h x w) m g v p q)
 
-begin_tidy : (m : List ℕ) (a : Forest) (r : Result World Trap) (w : World) {cs cs' : List Frame} → TidyFrames cs cs' → TidyState (begin_call m a r cs w) (begin_call m (tidy a) r cs' w)
+begin_tidy : (m : List ℕ) (a : Forest) (r : Result World Trap) (w : World) {cs cs' : List Frame} → TidyFrames cs cs' →
+    TidyState (begin_call m a r cs w) (begin_call m (tidy a) r cs' w)
 begin_tidy m a (Ok w) w' q = ts_at m no_guards [] w (items_tidy a ti_none) q
 begin_tidy m a (Err t) w' q = ts_trapped t w'.events
 
-invoke_tidy : (b : Option Forest) (h : FunctionTree) (m : List ℕ) (vs : List Value) (f : List ℕ) (g : Guards) (v : List Value) (w : World) {k k' : List Task} {cs cs' : List Frame} → Tidies k k' → TidyFrames cs cs'
+invoke_tidy : (b : Option Forest) (h : FunctionTree) (m : List ℕ) (vs : List Value) (f : List ℕ) (g : Guards) (v : List Value) (w : World)
+    {k k' : List Task} {cs cs' : List Frame} → Tidies k k' → TidyFrames cs cs'
     → TidyState (invoke b h m vs f g k v cs w) (invoke (option_map tidy b) (tidy_function h) m vs f g k' v cs' w)
 invoke_tidy (Some a) h m vs f g v w p q = begin_tidy m a (push h vs w) w (tf_more f g v p q)
 invoke_tidy None h m vs f g v w p q = settle_tidy (call_without_body m h vs w) f g v p q
@@ -123,7 +129,8 @@ items_of_tidy (Some a) = refl
 items_of_tidy None = refl
 
 module _ (p : Code) where
-  perform_tidy : (x : Effect) (f : List ℕ) (g : Guards) {k k' : List Task} {cs cs' : List Frame} → Tidies k k' → TidyFrames cs cs' → TidyState (perform p x f g k cs) (perform (tidy_code p) x f g k' cs')
+  perform_tidy : (x : Effect) (f : List ℕ) (g : Guards) {k k' : List Task} {cs cs' : List Frame} → Tidies k k' → TidyFrames cs cs' →
+      TidyState (perform p x f g k cs) (perform (tidy_code p) x f g k' cs')
   perform_tidy (Does os v w) f g r s = ts_at f g v w (works_tidy os r) s
   perform_tidy (Fails t w) f g r s = ts_trapped t w.events
   perform_tidy (Stops n w) f g r s = ts_ended n w.events
@@ -131,7 +138,8 @@ module _ (p : Code) where
   perform_tidy (Leaves (Some x) w) f g r s = leave_tidy (p.functions f) (returned (p.functions f) x) w s
   perform_tidy (Leaves None w) f g r s = leave_tidy (p.functions f) (fallen f) w s
 
-  move_tidy : {x x' : View} → TidyView x x' → (f : List ℕ) (g : Guards) (v : List Value) (w : World) {cs cs' : List Frame} → TidyFrames cs cs' → TidyState (move p x f g v cs w) (move (tidy_code p) x' f g v cs' w)
+  move_tidy : {x x' : View} → TidyView x x' → (f : List ℕ) (g : Guards) (v : List Value) (w : World) {cs cs' : List Frame} → TidyFrames cs cs' →
+      TidyState (move p x f g v cs w) (move (tidy_code p) x' f g v cs' w)
   move_tidy tv_finishes f g v w s = leave_tidy (p.functions f) (fallen f) w s
   move_tidy (tv_goes r) f g v w s = ts_at f g v w r s
   move_tidy (tv_guarding l b r) f g v w s = ts_at f (with_guard l b g) v w r s
@@ -142,7 +150,8 @@ module _ (p : Code) where
 
   step_tidy : {c d : State} → TidyState c d → TidyState (step p c) (step (tidy_code p) d)
   step_tidy (ts_at f g v w {k = k} {k' = k'} {cs = cs} {cs' = cs'} r s) =
-      subst (λ b. TidyState (move p (view (items_of (p.functions f)) g k) f g v cs w) (move (tidy_code p) (view b g k') f g v cs' w)) (sym (items_of_tidy (p.functions f).body))
+      subst (λ b. TidyState (move p (view (items_of (p.functions f)) g k) f g v cs w) (move (tidy_code p) (view b g k') f g v cs' w))
+      (sym (items_of_tidy (p.functions f).body))
       (move_tidy (view_tidy (items_of (p.functions f)) g r) f g v w s)
   step_tidy (ts_ended n es) = ts_ended n es
   step_tidy (ts_trapped t es) = ts_trapped t es
@@ -156,11 +165,13 @@ module _ (p : Code) where
   shows_tidy (ts_ended n es) = refl
   shows_tidy (ts_trapped t es) = refl
 
-  start_tidy : (m : List ℕ) (arguments : List ℤ) (input : List ℕ) (answers : List ℤ) → TidyState (start p m arguments input answers) (start (tidy_code p) m arguments input answers)
+  start_tidy : (m : List ℕ) (arguments : List ℤ) (input : List ℕ) (answers : List ℤ) →
+      TidyState (start p m arguments input answers) (start (tidy_code p) m arguments input answers)
   start_tidy m arguments input answers =
       let w = world_at_start p input answers in
       let r = push (p.functions m) (map Integer arguments) w in
-      subst (λ b. TidyState (start p m arguments input answers) (begin_call m b r [] w)) (sym (items_of_tidy (p.functions m).body)) (begin_tidy m (items_of (p.functions m)) r w tf_none)
+      subst (λ b. TidyState (start p m arguments input answers) (begin_call m b r [] w)) (sym (items_of_tidy (p.functions m).body))
+      (begin_tidy m (items_of (p.functions m)) r w tf_none)
 
   some_tidy : (b : Option Forest) → IsSome b ↔ IsSome (option_map tidy b)
   some_tidy (Some a) = ((λ h. refl), (λ h. refl))
@@ -176,6 +187,10 @@ module _ (p : Code) where
         let same = λ (n : ℕ). shows_tidy (run_tidy n (start_tidy m arguments input answers)) in
         record {
           forth = λ n. (n, subst (λ z. Covers (jump_run p m arguments input answers n) z) (same n) (covers_refl (jump_run p m arguments input answers n)));
-          back = λ n. (n, subst (λ z. Covers (jump_run (tidy_code p) m arguments input answers n) z) (sym (same n)) (covers_refl (jump_run (tidy_code p) m arguments input answers n)));
+          back = λ n. (
+            n,
+            subst (λ z. Covers (jump_run (tidy_code p) m arguments input answers n) z) (sym (same n))
+                (covers_refl (jump_run (tidy_code p) m arguments input answers n)),
+          );
         };
   }

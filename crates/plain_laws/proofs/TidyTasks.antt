@@ -56,21 +56,26 @@ items_ended Nil e h = absurd (true≢false (sym e))
 items_ended (Then x Nil) e h = break_only x e h
 items_ended (Then x (Then y ys)) e h = ti_runs x (items_ended (Then y ys) e h)
 
-tail_give : (cases : List ExpressionTree) (default : Bool) (a : Forest) (ends : Bool) (c : Sections) (k : List Task) → tail_tasks (give cases default a ends c) k ≡ items a (end_of ends (tail_tasks c k))
+tail_give : (cases : List ExpressionTree) (default : Bool) (a : Forest) (ends : Bool) (c : Sections) (k : List Task) →
+    tail_tasks (give cases default a ends c) k ≡ items a (end_of ends (tail_tasks c k))
 tail_give cases default Nil false NoSection k = refl
 tail_give cases default Nil false (Section cases' default' b ends c) k = refl
 tail_give cases default Nil true c k = refl
 tail_give cases default (Then x a) ends c k = refl
 
 -- the tasks from a section on, by whether it gets an end
-put_tidy : (b : Bool) (cases : List ExpressionTree) (default : Bool) (a : Forest) (c : Sections) (j k' : List Task) → last_break (tidy a) ≡ b → Tidies j (tail_tasks (tidy_sections c) k')
-    → Tidies (items a j) (tail_tasks (cond b (give cases default (without_last (tidy a)) true (tidy_sections c)) (give cases default (tidy a) false (tidy_sections c))) k')
-put_tidy true cases default a c j k' e h = subst (Tidies (items a j)) (sym (tail_give cases default (without_last (tidy a)) true (tidy_sections c) k')) (items_ended a e h)
+put_tidy : (b : Bool) (cases : List ExpressionTree) (default : Bool) (a : Forest) (c : Sections) (j k' : List Task) → last_break (tidy a) ≡ b →
+    Tidies j (tail_tasks (tidy_sections c) k')
+    → Tidies (items a j) (tail_tasks (cond b (give cases default (without_last (tidy a)) true (tidy_sections c))
+    (give cases default (tidy a) false (tidy_sections c))) k')
+put_tidy true cases default a c j k' e h = subst (Tidies (items a j))
+    (sym (tail_give cases default (without_last (tidy a)) true (tidy_sections c) k')) (items_ended a e h)
 put_tidy false cases default a c j k' e h = subst (Tidies (items a j)) (sym (tail_give cases default (tidy a) false (tidy_sections c) k')) (items_tidy a h)
 
 tail_tidy : (c : Sections) {k k' : List Task} → Tidies k k' → Tidies (tail_tasks c k) (tail_tasks (tidy_sections c) k')
 tail_tidy NoSection h = ti_out h
-tail_tidy (Section cases default a true c) {k = k} {k' = k'} h = subst (Tidies (items a (EndsSection ∷ tail_tasks c k))) (sym (tail_give cases default (tidy a) true (tidy_sections c) k')) (items_tidy a (ti_ends (tail_tidy c h)))
+tail_tidy (Section cases default a true c) {k = k} {k' = k'} h = subst (Tidies (items a (EndsSection ∷ tail_tasks c k)))
+    (sym (tail_give cases default (tidy a) true (tidy_sections c) k')) (items_tidy a (ti_ends (tail_tidy c h)))
 tail_tidy (Section cases default a false c) {k = k} {k' = k'} h = put_tidy (last_break (tidy a)) cases default a c (tail_tasks c k) k' refl (tail_tidy c h)
 
 pub turn_tidy : (x : Loop) {k k' : List Task} → Tidies k k' → Tidies (turn x k) (turn (tidy_loop x) k')
@@ -145,7 +150,8 @@ found_cond : (c : Bool) {a a' b b' : Option (List Task)} → TidyFound a a' → 
 found_cond true p q = p
 found_cond false p q = q
 
-found_first : {a a' b b' : Option (List Task)} {k k' : List Task} → TidyFound a a' → TidyFound b b' → Tidies k k' → Tidies (first_of_three a b k) (first_of_three a' b' k')
+found_first : {a a' b b' : Option (List Task)} {k k' : List Task} → TidyFound a a' → TidyFound b b' → Tidies k k' →
+    Tidies (first_of_three a b k) (first_of_three a' b' k')
 found_first (tf_some h) q i = h
 found_first tf_none (tf_some h) i = h
 found_first tf_none tf_none i = i
@@ -171,16 +177,19 @@ goal_join (ToLabel l) xs ys a b = refl
 goal_join (ToCase kind n) xs ys a b = any_append (is_case kind n) xs ys
 goal_join ToDefault xs ys a b = refl
 
-joined_choice : (a b : Bool) (t : List Task) (o r : Option (List Task)) → or_else (cond (a || b) (Some t) o) r ≡ or_else (cond a (Some t) None) (or_else (cond b (Some t) o) r)
+joined_choice : (a b : Bool) (t : List Task) (o r : Option (List Task)) →
+    or_else (cond (a || b) (Some t) o) r ≡ or_else (cond a (Some t) None) (or_else (cond b (Some t) o) r)
 joined_choice true b t o r = refl
 joined_choice false b t o r = refl
 
 -- a section that is given to the next is found there
 seek_give : (l : Goal) (cases : List ExpressionTree) (default : Bool) (a : Forest) (ends : Bool) (c : Sections) (k : List Task)
-    → seek_sections l (give cases default a ends c) k ≡ or_else (cond (is_section_goal l cases default) (Some (items a (end_of ends (tail_tasks c k)))) (seek l a (end_of ends (tail_tasks c k)))) (seek_sections l c k)
+    → seek_sections l (give cases default a ends c) k ≡ or_else
+    (cond (is_section_goal l cases default) (Some (items a (end_of ends (tail_tasks c k)))) (seek l a (end_of ends (tail_tasks c k)))) (seek_sections l c k)
 seek_give l cases default Nil false NoSection k = refl
 seek_give l cases default Nil false (Section cases' default' b ends c) k =
-    ap (λ z. or_else (cond z (Some (items b (end_of ends (tail_tasks c k)))) (seek l b (end_of ends (tail_tasks c k)))) (seek_sections l c k)) (goal_join l cases cases' default default')
+    ap (λ z. or_else (cond z (Some (items b (end_of ends (tail_tasks c k)))) (seek l b (end_of ends (tail_tasks c k)))) (seek_sections l c k))
+    (goal_join l cases cases' default default')
     ∙ joined_choice (is_section_goal l cases default) (is_section_goal l cases' default') _ _ _
 seek_give l cases default Nil true c k = refl
 seek_give l cases default (Then x a) ends c k = refl
@@ -188,21 +197,26 @@ seek_give l cases default (Then x a) ends c k = refl
 -- the search among sections, by whether the first gets an end
 abbrev FirstFound : Goal → List ExpressionTree → Bool → Forest → Bool → List Task → Forest → Bool → List Task → Type 0
 FirstFound l cases default a ends j b end k =
-    TidyFound (cond (is_section_goal l cases default) (Some (items a (end_of ends j))) (seek l a (end_of ends j))) (cond (is_section_goal l cases default) (Some (items b (end_of end k))) (seek l b (end_of end k)))
+    TidyFound (cond (is_section_goal l cases default) (Some (items a (end_of ends j))) (seek l a (end_of ends j)))
+    (cond (is_section_goal l cases default) (Some (items b (end_of end k))) (seek l b (end_of end k)))
 
 give_found : (l : Goal) (cases : List ExpressionTree) (default : Bool) (a : Forest) (ends : Bool) (c : Sections) (b : Forest) (end : Bool) (k k' : List Task)
-    → FirstFound l cases default a ends (tail_tasks c k) b end (tail_tasks (tidy_sections c) k') → TidyFound (seek_sections l c k) (seek_sections l (tidy_sections c) k')
+    → FirstFound l cases default a ends (tail_tasks c k) b end (tail_tasks (tidy_sections c) k') →
+    TidyFound (seek_sections l c k) (seek_sections l (tidy_sections c) k')
     → TidyFound (seek_sections l (Section cases default a ends c) k) (seek_sections l (give cases default b end (tidy_sections c)) k')
 give_found l cases default a ends c b end k k' p q =
     subst (TidyFound (seek_sections l (Section cases default a ends c) k)) (sym (seek_give l cases default b end (tidy_sections c) k')) (found_or p q)
 
-put_found : (y : Bool) (l : Goal) (cases : List ExpressionTree) (default : Bool) (a : Forest) (c : Sections) (k k' : List Task) → last_break (tidy a) ≡ y → Tidies k k'
+put_found : (y : Bool) (l : Goal) (cases : List ExpressionTree) (default : Bool) (a : Forest) (c : Sections) (k k' : List Task) →
+    last_break (tidy a) ≡ y → Tidies k k'
     → TidyFound (seek l a (tail_tasks c k)) (seek l (tidy a) (tail_tasks (tidy_sections c) k'))
     → (last_break (tidy a) ≡ true → TidyFound (seek l a (tail_tasks c k)) (seek l (without_last (tidy a)) (EndsSection ∷ tail_tasks (tidy_sections c) k')))
     → TidyFound (seek_sections l c k) (seek_sections l (tidy_sections c) k')
-    → TidyFound (seek_sections l (Section cases default a false c) k) (seek_sections l (cond y (give cases default (without_last (tidy a)) true (tidy_sections c)) (give cases default (tidy a) false (tidy_sections c))) k')
+    → TidyFound (seek_sections l (Section cases default a false c) k)
+    (seek_sections l (cond y (give cases default (without_last (tidy a)) true (tidy_sections c)) (give cases default (tidy a) false (tidy_sections c))) k')
 put_found true l cases default a c k k' e h p q r =
-    give_found l cases default a false c (without_last (tidy a)) true k k' (found_cond (is_section_goal l cases default) (tf_some (items_ended a e (tail_tidy c h))) (q e)) r
+    give_found l cases default a false c (without_last (tidy a)) true k k'
+    (found_cond (is_section_goal l cases default) (tf_some (items_ended a e (tail_tidy c h))) (q e)) r
 put_found false l cases default a c k k' e h p q r =
     give_found l cases default a false c (tidy a) false k k' (found_cond (is_section_goal l cases default) (tf_some (items_tidy a (tail_tidy c h))) p) r
 
@@ -217,7 +231,8 @@ mutual
   seek_tidy l Nil h = tf_none
   seek_tidy l (Then x xs) {k = k} {k' = k'} h =
       found_or
-      (subst (λ b. TidyFound (cond (is_goal l x) (Some (Runs x ∷ items xs k)) (seek_in l x (items xs k))) (cond b (Some (Runs (tidy_item x) ∷ items (tidy xs) k')) (seek_in l (tidy_item x) (items (tidy xs) k')))) (sym (goal_tidy l x))
+      (subst (λ b. TidyFound (cond (is_goal l x) (Some (Runs x ∷ items xs k)) (seek_in l x (items xs k)))
+      (cond b (Some (Runs (tidy_item x) ∷ items (tidy xs) k')) (seek_in l (tidy_item x) (items (tidy xs) k')))) (sym (goal_tidy l x))
       (found_cond (is_goal l x) (tf_some (ti_runs x (items_tidy xs h))) (seek_in_tidy l x (items_tidy xs h))))
       (seek_tidy l xs h)
 
@@ -233,19 +248,24 @@ mutual
   seek_sections_tidy : (l : Goal) (c : Sections) {k k' : List Task} → Tidies k k' → TidyFound (seek_sections l c k) (seek_sections l (tidy_sections c) k')
   seek_sections_tidy l NoSection h = tf_none
   seek_sections_tidy l (Section cases default a true c) {k = k} {k' = k'} h =
-      give_found l cases default a true c (tidy a) true k k' (found_cond (is_section_goal l cases default) (tf_some (items_tidy a (ti_ends (tail_tidy c h)))) (seek_tidy l a (ti_ends (tail_tidy c h)))) (seek_sections_tidy l c h)
+      give_found l cases default a true c (tidy a) true k k'
+      (found_cond (is_section_goal l cases default) (tf_some (items_tidy a (ti_ends (tail_tidy c h)))) (seek_tidy l a (ti_ends (tail_tidy c h))))
+      (seek_sections_tidy l c h)
   seek_sections_tidy l (Section cases default a false c) {k = k} {k' = k'} h =
-      put_found (last_break (tidy a)) l cases default a c k k' refl h (seek_tidy l a (tail_tidy c h)) (λ e. seek_ended l a e (tail_tidy c h)) (seek_sections_tidy l c h)
+      put_found (last_break (tidy a)) l cases default a c k k' refl h (seek_tidy l a (tail_tidy c h)) (λ e. seek_ended l a e (tail_tidy c h))
+      (seek_sections_tidy l c h)
 
   -- a list that loses its last `break`
-  seek_ended : (l : Goal) (a : Forest) → last_break (tidy a) ≡ true → {k k' : List Task} → Tidies k k' → TidyFound (seek l a k) (seek l (without_last (tidy a)) (EndsSection ∷ k'))
+  seek_ended : (l : Goal) (a : Forest) → last_break (tidy a) ≡ true → {k k' : List Task} → Tidies k k' →
+      TidyFound (seek l a k) (seek l (without_last (tidy a)) (EndsSection ∷ k'))
   seek_ended l Nil e h = absurd (true≢false (sym e))
   seek_ended l (Then x Nil) e {k = k} {k' = k'} h = break_found l x k (EndsSection ∷ k') e
   seek_ended l (Then x (Then y ys)) e {k = k} {k' = k'} h =
       let i = items_ended (Then y ys) e h in
       found_or
       (subst (λ b. TidyFound (cond (is_goal l x) (Some (Runs x ∷ items (Then y ys) k)) (seek_in l x (items (Then y ys) k)))
-      (cond b (Some (Runs (tidy_item x) ∷ items (without_last (tidy (Then y ys))) (EndsSection ∷ k'))) (seek_in l (tidy_item x) (items (without_last (tidy (Then y ys))) (EndsSection ∷ k'))))) (sym (goal_tidy l x))
+      (cond b (Some (Runs (tidy_item x) ∷ items (without_last (tidy (Then y ys))) (EndsSection ∷ k')))
+      (seek_in l (tidy_item x) (items (without_last (tidy (Then y ys))) (EndsSection ∷ k'))))) (sym (goal_tidy l x))
       (found_cond (is_goal l x) (tf_some (ti_runs x i)) (seek_in_tidy l x i)))
       (seek_ended l (Then y ys) e h)
 

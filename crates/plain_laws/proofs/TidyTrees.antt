@@ -18,7 +18,8 @@ use Rattle.plain_laws.proofs.ItemTrees.{section_rolled}
 
 -- ---- the last item
 
-break_layer : (f : Item → Tree) (g : Section → SectionTree) (y : Item-F Item Section) → is_break_layer y ≡ D.is_break (layer (map-Item Item Section Tree SectionTree f g y))
+break_layer : (f : Item → Tree) (g : Section → SectionTree) (y : Item-F Item Section) →
+    is_break_layer y ≡ D.is_break (layer (map-Item Item Section Tree SectionTree f g y))
 break_layer f g Break = refl
 break_layer f g _ = refl
 
@@ -32,7 +33,8 @@ break_same x = break_rolled (out-Item x) ∙ ap (λ z. D.is_break (tree_of z)) (
 last_same : (xs : List Item) → last_is_break xs ≡ D.last_break (trees_of xs)
 last_same [] = ap D.last_break (sym trees-none)
 last_same (x ∷ []) = break_same x ∙ ap D.last_break (sym (trees-more x [] ∙ ap (P.Then (tree_of x)) trees-none))
-last_same (x ∷ y ∷ ys) = last_same (y ∷ ys) ∙ ap D.last_break (trees-more y ys) ∙ ap D.last_break (sym (trees-more x (y ∷ ys) ∙ ap (P.Then (tree_of x)) (trees-more y ys)))
+last_same (x ∷ y ∷ ys) = last_same (y ∷ ys) ∙ ap D.last_break (trees-more y ys) ∙
+    ap D.last_break (sym (trees-more x (y ∷ ys) ∙ ap (P.Then (tree_of x)) (trees-more y ys)))
 
 without_same : (xs : List Item) → trees_of (without_last xs) ≡ D.without_last (trees_of xs)
 without_same [] = trees-none ∙ ap D.without_last (sym trees-none)
@@ -62,13 +64,19 @@ ended_by false c = section_rolled c
 ended_tree : (c : Section-F Item Section) → section_tree (ended c) ≡ end_tree (parts c)
 ended_tree c =
     ended_by (not c.ends && last_is_break c.list) c
-    ∙ ap (λ b. cond (not c.ends && b) (record { cases = expression_trees c.cases; default = c.default; list = D.without_last (trees_of c.list); ends = true }) (parts c)) (last_same c.list)
+    ∙ ap (λ b. cond (not c.ends && b) (record {
+      cases = expression_trees c.cases;
+      default = c.default;
+      list = D.without_last (trees_of c.list);
+      ends = true;
+    }) (parts c)) (last_same c.list)
 
 -- a section before others
 abbrev put : SectionTree → Sections → Sections
 put c ds = D.give c.cases c.default c.list c.ends ds
 
-give_none : (cases : List ExpressionTree) (default : Bool) (a : Forest) (ends : Bool) → D.give cases default a ends P.NoSection ≡ P.Section cases default a ends P.NoSection
+give_none : (cases : List ExpressionTree) (default : Bool) (a : Forest) (ends : Bool) →
+    D.give cases default a ends P.NoSection ≡ P.Section cases default a ends P.NoSection
 give_none cases default P.Nil false = refl
 give_none cases default P.Nil true = refl
 give_none cases default (P.Then x a) ends = refl
@@ -78,18 +86,21 @@ append_trees [] ys = refl
 append_trees (x ∷ xs) ys = ap (λ z. expression_tree x ∷ z) (append_trees xs ys)
 
 -- the sections of a list by its parts
-more_sections : (d : Section) (ds : List Section) → (let e = out-Section d in sections_of (d ∷ ds) ≡ P.Section (expression_trees e.cases) e.default (trees_of e.list) e.ends (sections_of ds))
+more_sections : (d : Section) (ds : List Section) → (let e = out-Section d in
+    sections_of (d ∷ ds) ≡ P.Section (expression_trees e.cases) e.default (trees_of e.list) e.ends (sections_of ds))
 more_sections d ds = sections-more d ds ∙ ap (λ (s : SectionTree). P.Section s.cases s.default s.list s.ends (sections_of ds)) (section-parts d)
 
 entries_tree : (c : Section-F Item Section) (d : Section) (ds : List Section)
-    → (let e = out-Section d in sections_of (with_entries c d ∷ ds) ≡ P.Section (expression_trees c.cases ++ expression_trees e.cases) (c.default || e.default) (trees_of e.list) e.ends (sections_of ds))
+    → (let e = out-Section d in sections_of (with_entries c d ∷ ds) ≡ P.Section (expression_trees c.cases ++ expression_trees e.cases)
+    (c.default || e.default) (trees_of e.list) e.ends (sections_of ds))
 entries_tree c d ds =
     let e = out-Section d in
     sections-more (with_entries c d) ds ∙ ap (λ (s : SectionTree). P.Section s.cases s.default s.list s.ends (sections_of ds)) (section_rolled _)
     ∙ ap (λ z. P.Section z (c.default || e.default) (trees_of e.list) e.ends (sections_of ds)) (append_trees c.cases e.cases)
 
 give_by : (xs : List Item) (ends : Bool) (c d : Section) (ds : List Section) → (let o = out-Section c in
-    o.list ≡ xs → o.ends ≡ ends → sections_of (cond (is_empty xs && not ends) (with_entries o d ∷ ds) (c ∷ d ∷ ds)) ≡ D.give (expression_trees o.cases) o.default (trees_of xs) ends (sections_of (d ∷ ds)))
+    o.list ≡ xs → o.ends ≡ ends → sections_of (cond (is_empty xs && not ends) (with_entries o d ∷ ds) (c ∷ d ∷ ds)) ≡ D.give
+    (expression_trees o.cases) o.default (trees_of xs) ends (sections_of (d ∷ ds)))
 give_by [] false c d ds e h =
     let o = out-Section c in
     let q = out-Section d in
@@ -112,7 +123,8 @@ give_tree c [] =
 give_tree c (d ∷ ds) = let o = out-Section c in give_by o.list o.ends c d ds refl refl ∙ ap (λ s. put s (sections_of (d ∷ ds))) (sym (section-parts c))
 
 put_by : (b : Bool) (cases : List ExpressionTree) (default : Bool) (a : Forest) (ends : Bool) (ds : Sections)
-    → put (cond b (record { cases = cases; default = default; list = D.without_last a; ends = true }) (record { cases = cases; default = default; list = a; ends = ends })) ds
+    → put (cond b (record { cases = cases; default = default; list = D.without_last a; ends = true })
+    (record { cases = cases; default = default; list = a; ends = ends })) ds
     ≡ cond b (D.give cases default (D.without_last a) true ds) (D.give cases default a ends ds)
 put_by true cases default a ends ds = refl
 put_by false cases default a ends ds = refl
@@ -156,23 +168,33 @@ plain y = map-Item I C Item Section item section y
 becomes : (y : Tree) (x t z : Tree) → x ≡ z → y ≡ t → D.tidy_item t ≡ z → x ≡ D.tidy_item y
 becomes y x t z a b c = a ∙ sym c ∙ ap D.tidy_item (sym b)
 
-layer_same : (y : Item-F I C) → tree_of (tidied_step (map-Item Item Section Item Section tidied_item tidied_section (plain y))) ≡ D.tidy_item (tree_of (roll-Item (plain y)))
+layer_same : (y : Item-F I C) → tree_of (tidied_step (map-Item Item Section Item Section tidied_item tidied_section (plain y))) ≡ D.tidy_item
+    (tree_of (roll-Item (plain y)))
 layer_same (If t a b) =
-    becomes _ _ _ (P.If (test_tree t) (D.tidy (trees_of (map item a))) (D.tidy (trees_of (map item b)))) (ap tree_of (rolls-If t _ _) ∙ tree-If t _ _ ∙ ap₂ (P.If (test_tree t)) (list_same a) (list_same b))
+    becomes _ _ _ (P.If (test_tree t) (D.tidy (trees_of (map item a))) (D.tidy (trees_of (map item b))))
+    (ap tree_of (rolls-If t _ _) ∙ tree-If t _ _ ∙ ap₂ (P.If (test_tree t)) (list_same a) (list_same b))
     (ap tree_of (rolls-If t (map item a) (map item b)) ∙ tree-If t (map item a) (map item b)) refl
 layer_same (While t a) =
-    becomes _ _ _ (P.While (test_tree t) (D.tidy (trees_of (map item a)))) (ap tree_of (rolls-While t _) ∙ tree-While t _ ∙ ap (P.While (test_tree t)) (list_same a)) (ap tree_of (rolls-While t (map item a)) ∙ tree-While t (map item a)) refl
+    becomes _ _ _ (P.While (test_tree t) (D.tidy (trees_of (map item a))))
+    (ap tree_of (rolls-While t _) ∙ tree-While t _ ∙ ap (P.While (test_tree t)) (list_same a))
+    (ap tree_of (rolls-While t (map item a)) ∙ tree-While t (map item a)) refl
 layer_same (Do a t) =
-    becomes _ _ _ (P.Do (D.tidy (trees_of (map item a))) (test_tree t)) (ap tree_of (rolls-Do _ t) ∙ tree-Do _ t ∙ ap (λ z. P.Do z (test_tree t)) (list_same a)) (ap tree_of (rolls-Do (map item a) t) ∙ tree-Do (map item a) t) refl
+    becomes _ _ _ (P.Do (D.tidy (trees_of (map item a))) (test_tree t))
+    (ap tree_of (rolls-Do _ t) ∙ tree-Do _ t ∙ ap (λ z. P.Do z (test_tree t)) (list_same a))
+    (ap tree_of (rolls-Do (map item a) t) ∙ tree-Do (map item a) t) refl
 layer_same (For i t u a) =
     let et = option_map expression_tree t in
     let eu = option_map expression_tree u in
     becomes _ _ _ (P.For (D.tidy (trees_of (map item i))) et eu (D.tidy (trees_of (map item a))))
-    (ap tree_of (rolls-For _ t u _) ∙ tree-For _ t u _ ∙ ap₂ (λ z y. P.For z et eu y) (list_same i) (list_same a)) (ap tree_of (rolls-For (map item i) t u (map item a)) ∙ tree-For (map item i) t u (map item a)) refl
+    (ap tree_of (rolls-For _ t u _) ∙ tree-For _ t u _ ∙ ap₂ (λ z y. P.For z et eu y) (list_same i) (list_same a))
+    (ap tree_of (rolls-For (map item i) t u (map item a)) ∙ tree-For (map item i) t u (map item a)) refl
 layer_same (Switch s cs) =
-    becomes _ _ _ (P.Switch (selector_tree s) (D.tidy_sections (sections_of (map section cs)))) (tree-Switch s _ ∙ ap (P.Switch (selector_tree s)) (sections_same cs)) (ap tree_of (rolls-Switch s (map section cs)) ∙ tree-Switch s (map section cs)) refl
+    becomes _ _ _ (P.Switch (selector_tree s) (D.tidy_sections (sections_of (map section cs))))
+    (tree-Switch s _ ∙ ap (P.Switch (selector_tree s)) (sections_same cs))
+    (ap tree_of (rolls-Switch s (map section cs)) ∙ tree-Switch s (map section cs)) refl
 layer_same (Block a) =
-    becomes _ _ _ (P.Block (D.tidy (trees_of (map item a)))) (ap tree_of (rolls-Block _) ∙ tree-Block _ ∙ ap P.Block (list_same a)) (ap tree_of (rolls-Block (map item a)) ∙ tree-Block (map item a)) refl
+    becomes _ _ _ (P.Block (D.tidy (trees_of (map item a)))) (ap tree_of (rolls-Block _) ∙ tree-Block _ ∙ ap P.Block (list_same a))
+    (ap tree_of (rolls-Block (map item a)) ∙ tree-Block (map item a)) refl
 layer_same (Evaluate e) = let h = ap tree_of (rolls-Evaluate e) ∙ tree-Evaluate e in becomes _ _ _ _ h h refl
 layer_same (Return e) = let h = ap tree_of (rolls-Return e) ∙ tree-Return e in becomes _ _ _ _ h h refl
 layer_same (Local k e) = let h = ap tree_of (rolls-Local k e) ∙ tree-Local k e in becomes _ _ _ _ h h refl

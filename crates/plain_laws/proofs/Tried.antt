@@ -82,7 +82,8 @@ switch_plain =
     (Switch (Selects (int (Conditional (read 1) (number 3) (read 0))))
     (Section (number 1 ∷ []) false (forest (set 1 got_j ∷ If (Source (off 1)) (forest (writes 97 ∷ [])) Nil ∷ [])) false
     (Section (number 2 ∷ []) false (forest (If (Source (off 1)) (forest (writes 98 ∷ [])) Nil ∷ [])) false
-    (Section (number 3 ∷ []) false (forest (If (Source (int (Binary OrElse (read 1) (off 1)))) (forest (If (Source (off 1)) (forest (writes 99 ∷ [])) Nil ∷ set 1 (number 0) ∷ writes 100 ∷ [])) Nil ∷ [])) true
+    (Section (number 3 ∷ []) false (forest (If (Source (int (Binary OrElse (read 1) (off 1))))
+    (forest (If (Source (off 1)) (forest (writes 99 ∷ [])) Nil ∷ set 1 (number 0) ∷ writes 100 ∷ [])) Nil ∷ [])) true
     (Section [] true (forest (writes 101 ∷ [])) false NoSection))))
     ∷ []))
     (Source (read 1))
@@ -101,9 +102,11 @@ slots_tried : slot_among 4 (0 ∷ 2 ∷ []) 2 ≡ 5
 slots_tried = refl
 
 -- `case 1: case 2: x; break; case 3: break; case 4: default: ;` as the moves may leave it
-sections_tried : tidy (forest (Switch (Selects (read 0)) (Section (number 1 ∷ []) false Nil false (Section (number 2 ∷ []) false (forest (writes 97 ∷ Break ∷ [])) false (Section (number 3 ∷ []) false (forest (Break ∷ [])) false
+sections_tried : tidy (forest (Switch (Selects (read 0)) (Section (number 1 ∷ []) false Nil false
+    (Section (number 2 ∷ []) false (forest (writes 97 ∷ Break ∷ [])) false (Section (number 3 ∷ []) false (forest (Break ∷ [])) false
     (Section (number 4 ∷ []) false Nil false (Section [] true Nil false NoSection))))) ∷ []))
-    ≡ forest (Switch (Selects (read 0)) (Section (number 1 ∷ number 2 ∷ []) false (forest (writes 97 ∷ [])) true (Section (number 3 ∷ []) false Nil true (Section (number 4 ∷ []) true Nil false NoSection))) ∷ [])
+    ≡ forest (Switch (Selects (read 0)) (Section (number 1 ∷ number 2 ∷ []) false (forest (writes 97 ∷ [])) true
+    (Section (number 3 ∷ []) false Nil true (Section (number 4 ∷ []) true Nil false NoSection))) ∷ [])
 sections_tried = refl
 
 -- negative numbers as constants

@@ -89,10 +89,13 @@ mutual
     k_read : (at : PlaceTree) → KindedPlace p ss at → Kinded p ss (Typed (Some (place_kind p ss at)) (Read at))
     k_unary : (op : UnaryOp) (a : ExpressionTree) → Kinded p ss a → Kinded p ss (Typed (Some (unary_kind op (operand_kind (kind_of a)))) (Unary op a))
     k_cast : (kind : Option IntKind) (a : ExpressionTree) → Kinded p ss a → Kinded p ss (Typed kind (Cast a))
-    k_binary : (op : BinaryOp) (a b : ExpressionTree) → Kinded p ss a → Kinded p ss b → Kinded p ss (Typed (Some (binary_kind op (operand_kind (kind_of a)) (operand_kind (kind_of b)))) (Binary op a b))
-    k_conditional : (kind : Option IntKind) (a b c : ExpressionTree) → Kinded p ss a → Kinded p ss b → Kinded p ss c → Kinded p ss (Typed kind (Conditional a b c))
+    k_binary : (op : BinaryOp) (a b : ExpressionTree) → Kinded p ss a → Kinded p ss b →
+        Kinded p ss (Typed (Some (binary_kind op (operand_kind (kind_of a)) (operand_kind (kind_of b)))) (Binary op a b))
+    k_conditional : (kind : Option IntKind) (a b c : ExpressionTree) → Kinded p ss a → Kinded p ss b → Kinded p ss c →
+        Kinded p ss (Typed kind (Conditional a b c))
     k_assign : (at : PlaceTree) (a : ExpressionTree) → KindedPlace p ss at → Kinded p ss a → Kinded p ss (Typed (Some (place_kind p ss at)) (Assign at a))
-    k_update : (op : ArithOp) (at : PlaceTree) (a : ExpressionTree) → KindedPlace p ss at → Kinded p ss a → Kinded p ss (Typed (Some (place_kind p ss at)) (Update op at a))
+    k_update : (op : ArithOp) (at : PlaceTree) (a : ExpressionTree) → KindedPlace p ss at → Kinded p ss a →
+        Kinded p ss (Typed (Some (place_kind p ss at)) (Update op at a))
     k_count : (at : PlaceTree) (up after : Bool) → KindedPlace p ss at → Kinded p ss (Typed (Some (place_kind p ss at)) (Count at up after))
     k_comma : (a b : ExpressionTree) → Kinded p ss a → Kinded p ss b → Kinded p ss (Typed (kind_of b) (Comma a b))
     k_call : (m : List ℕ) (xs : Arguments) → KindedArguments p ss (p.functions m).slots xs → Kinded p ss (Typed (call_kind p m) (Call m xs))
@@ -105,7 +108,8 @@ mutual
   -- arguments for these parameters: an array is handed to one of its kind
   pub data KindedArguments (p : Code) (ss : List Slot) : List Slot → Arguments → Type 0 where
     k_none : (ts : List Slot) → KindedArguments p ss ts NoArgument
-    k_argument : (ts : List Slot) (x : ExpressionTree) (xs : Arguments) → Kinded p ss x → KindedArguments p ss (later_slots ts) xs → KindedArguments p ss ts (Argument x xs)
+    k_argument : (ts : List Slot) (x : ExpressionTree) (xs : Arguments) → Kinded p ss x → KindedArguments p ss (later_slots ts) xs →
+        KindedArguments p ss ts (Argument x xs)
     k_array : (ts : List Slot) (kind : Option IntKind) (h : Home) (xs : Arguments) → IsHome ss h → 0 < length ts → home_kind p ss h ≡ (first_slot ts).kind
         → KindedArguments p ss (later_slots ts) xs → KindedArguments p ss ts (Argument (Typed kind (Array h)) xs)
 

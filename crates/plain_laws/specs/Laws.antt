@@ -84,7 +84,8 @@ pub record PlainLaws : Type 0 where
   -- where no jump is left, it is plain
   pub plain : (names : Function → List (List ℕ)) (p : Program) → is_jump_free_program p ≡ true → is_plain_program (plain_with names p) ≡ true
   -- and then the program by steps and its plain form by structure behave the same
-  pub meanings : (names : Function → List (List ℕ)) (p : Program) → IsProgramReady names p → is_jump_free_program p ≡ true → BehavesAsStructured p (plain_with names p)
+  pub meanings : (names : Function → List (List ℕ)) (p : Program) → IsProgramReady names p → is_jump_free_program p ≡ true →
+      BehavesAsStructured p (plain_with names p)
   -- a steady program is ready if its flat functions are well made and have no Leap, its kinds agree, and each label has a name
   pub of_steady : (names : Function → List (List ℕ)) (p : Program) → IsSteady p → IsFinished names p → IsProgramReady names p
   -- kinds that agree do so in each program with functions and variables of the same kinds, and with more slots

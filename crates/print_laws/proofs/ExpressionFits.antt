@@ -175,7 +175,8 @@ level_is (Typed kind _) = refl
 -- ---- counted tokens
 
 -- where a level is needed, the brackets count
-pub laid_adds : (need k : ℕ) (x : ExpressionTree) (tokens : List _ → List _) (events : List Event → List Event) → Laid need (derivation_of x) tokens events → Adds k (expression_events (derivation_of x))
+pub laid_adds : (need k : ℕ) (x : ExpressionTree) (tokens : List _ → List _) (events : List Event → List Event) →
+    Laid need (derivation_of x) tokens events → Adds k (expression_events (derivation_of x))
     → Adds (k + bracket_count (level_of x) need) events
 laid_adds need k x tokens events l a =
     adds_along (k + bracket_count (level_of x) need) (bracketed_events (nat_lt (level_of x) need) (derivation_of x)) events
@@ -211,7 +212,8 @@ adds_word = adds_uncounted 0 (λ q. q) adds_none
 adds_cast : (kind : Option IntKind) (u : Unary) (k : ℕ) → Adds k (unary_events u) → Adds (k + 1) (unary_events (cast_of kind u))
 adds_cast None u k a =
     adds_as (1 + k) (k + 1) (λ q. unary_events u (Uncounted ∷ Uncounted ∷ Counted ∷ q)) (omega arith)
-    (adds_both 1 k (λ q. Uncounted ∷ Uncounted ∷ Counted ∷ q) (unary_events u) (adds_uncounted 1 (λ q. Uncounted ∷ Counted ∷ q) (adds_uncounted 1 one adds_one)) a)
+    (adds_both 1 k (λ q. Uncounted ∷ Uncounted ∷ Counted ∷ q) (unary_events u)
+    (adds_uncounted 1 (λ q. Uncounted ∷ Counted ∷ q) (adds_uncounted 1 one adds_one)) a)
 adds_cast (Some kind) u k a =
     adds_as (1 + 0 + k) (k + 1) (λ q. unary_events u (Uncounted ∷ type_events (type_of kind) (Counted ∷ q))) (omega arith)
     (adds_both (1 + 0) k (λ q. Uncounted ∷ type_events (type_of kind) (Counted ∷ q)) (unary_events u)
@@ -221,7 +223,8 @@ adds_count : (after : Bool) (p : Target) (k : ℕ) → Adds k (target_events p) 
 adds_count false p k a = adds_as (1 + k) (k + 1) (λ q. target_events p (Counted ∷ q)) (omega arith) (adds_both 1 k one (target_events p) adds_one a)
 adds_count true p k a = adds_counted k (target_events p) a
 
-adds_followed : (e : Expression) (b : Assignment) (k m : ℕ) → Adds k (expression_events e) → Adds m (assignment_events b) → Adds (k + 1 + m) (expression_events (followed_by e b))
+adds_followed : (e : Expression) (b : Assignment) (k m : ℕ) → Adds k (expression_events e) → Adds m (assignment_events b) →
+    Adds (k + 1 + m) (expression_events (followed_by e b))
 adds_followed e b k m a c =
     adds_along (k + 1 + m) (λ q. assignment_events b (Counted ∷ expression_events e q)) (expression_events (followed_by e b)) (followed_events e)
     (adds_both (k + 1) m (λ q. Counted ∷ expression_events e q) (assignment_events b) (adds_counted k (expression_events e) a) c)
@@ -239,21 +242,27 @@ adds_all : (k m : ℕ) (x : g.Argument) (xs : List g.Argument) → Adds m (argum
 adds_all k m x [] a h = adds_as m (m + k) (argument_events x) (omega arith) a
 adds_all k m x (y ∷ xs) a (j, l, e, b, c) =
     adds_as (m + (j + l)) (m + k) (arguments_events (listed x (y ∷ xs))) (omega (arith, e))
-    (adds_both m (j + l) (λ q. Uncounted ∷ argument_events x q) (arguments_events (listed y xs)) (adds_uncounted m (argument_events x) a) (adds_all l j y xs b c))
+    (adds_both m (j + l) (λ q. Uncounted ∷ argument_events x q) (arguments_events (listed y xs)) (adds_uncounted m (argument_events x) a)
+    (adds_all l j y xs b c))
 
 adds_call : (k : ℕ) (xs : List g.Argument) → AllAdd k xs → Adds (1 + k) (unary_events (call_of xs))
-adds_call k [] h = adds_as 1 (1 + k) (λ q. Uncounted ∷ Counted ∷ Uncounted ∷ q) (omega arith) (adds_uncounted 1 (λ q. Counted ∷ Uncounted ∷ q) (adds_as (0 + 1) 1 (λ q. Counted ∷ Uncounted ∷ q) (omega arith) (adds_counted 0 word adds_word)))
+adds_call k [] h = adds_as 1 (1 + k) (λ q. Uncounted ∷ Counted ∷ Uncounted ∷ q) (omega arith)
+    (adds_uncounted 1 (λ q. Counted ∷ Uncounted ∷ q) (adds_as (0 + 1) 1 (λ q. Counted ∷ Uncounted ∷ q) (omega arith) (adds_counted 0 word adds_word)))
 adds_call k (x ∷ xs) (m, l, e, a, h) =
     adds_as (1 + (m + l)) (1 + k) (λ q. Uncounted ∷ arguments_events (listed x xs) (Counted ∷ Uncounted ∷ q)) (omega (arith, e))
     (adds_uncounted (1 + (m + l)) (λ q. arguments_events (listed x xs) (Counted ∷ Uncounted ∷ q))
-    (adds_both 1 (m + l) (λ q. Counted ∷ Uncounted ∷ q) (arguments_events (listed x xs)) (adds_as (0 + 1) 1 (λ q. Counted ∷ Uncounted ∷ q) (omega arith) (adds_counted 0 word adds_word)) (adds_all l m x xs a h)))
+    (adds_both 1 (m + l) (λ q. Counted ∷ Uncounted ∷ q) (arguments_events (listed x xs))
+    (adds_as (0 + 1) 1 (λ q. Counted ∷ Uncounted ∷ q) (omega arith) (adds_counted 0 word adds_word)) (adds_all l m x xs a h)))
 
-adds_argument : (x : ExpressionTree) → Adds (counted x) (expression_events (derivation_of x)) → Adds (counted x + bracket_count (level_of x) 2) (argument_events (argument_of x (derivation_of x)))
+adds_argument : (x : ExpressionTree) → Adds (counted x) (expression_events (derivation_of x)) →
+    Adds (counted x + bracket_count (level_of x) 2) (argument_events (argument_of x (derivation_of x)))
 adds_argument (Typed kind (t.Text bytes)) a = adds_as 0 (0 + bracket_count 14 2) (λ q. Uncounted ∷ q) (omega arith) adds_word
 adds_argument (Typed kind n) a = other kind n a
   where
-    other : (kind : Option IntKind) (n : NodeTree) → Adds (counted (Typed kind n)) (expression_events (derivation_of (Typed kind n))) → Adds (counted (Typed kind n) + bracket_count (level_of (Typed kind n)) 2) (assignment_events (as_assignment (derivation_of (Typed kind n))))
-    other kind n a = laid_adds 2 (counted (Typed kind n)) (Typed kind n) _ (assignment_events (as_assignment (derivation_of (Typed kind n)))) (lies_assigned (derivation_of (Typed kind n)) (fits (Typed kind n))) a
+    other : (kind : Option IntKind) (n : NodeTree) → Adds (counted (Typed kind n)) (expression_events (derivation_of (Typed kind n))) →
+        Adds (counted (Typed kind n) + bracket_count (level_of (Typed kind n)) 2) (assignment_events (as_assignment (derivation_of (Typed kind n))))
+    other kind n a = laid_adds 2 (counted (Typed kind n)) (Typed kind n) _ (assignment_events (as_assignment (derivation_of (Typed kind n))))
+        (lies_assigned (derivation_of (Typed kind n)) (fits (Typed kind n))) a
 
 mutual
   pub costs : (x : ExpressionTree) → Adds (counted x) (expression_events (derivation_of x))
@@ -268,29 +277,36 @@ mutual
   node_costs kind (t.Read p) = target_costs p
   node_costs kind (t.Unary op a) =
       let u = laid_adds 14 (counted a) a _ (unary_events (as_unary (derivation_of a))) (lies_tight (derivation_of a) (fits a)) (costs a) in
-      adds_as (1 + (counted a + bracket_count (level_of a) 14)) (counted a + bracket_count (level_of a) 14 + 1) (λ q. unary_events (as_unary (derivation_of a)) (Counted ∷ q)) (omega arith)
+      adds_as (1 + (counted a + bracket_count (level_of a) 14)) (counted a + bracket_count (level_of a) 14 + 1)
+      (λ q. unary_events (as_unary (derivation_of a)) (Counted ∷ q)) (omega arith)
       (adds_both 1 (counted a + bracket_count (level_of a) 14) one (unary_events (as_unary (derivation_of a))) adds_one u)
   node_costs kind (t.Cast a) =
       adds_cast kind (as_unary (derivation_of a)) (counted a + bracket_count (level_of a) 14)
       (laid_adds 14 (counted a) a _ (unary_events (as_unary (derivation_of a))) (lies_tight (derivation_of a) (fits a)) (costs a))
   node_costs kind (t.Binary op a b) =
       let h = mark_high op in
-      let x = laid_adds (binary_level op) (counted a) a _ (binary_events (as_binary (binary_level op) (derivation_of a))) (lies_bound (binary_level op) (derivation_of a) h (fits a)) (costs a) in
-      let y = laid_adds (binary_level op + 1) (counted b) b _ (binary_events (as_binary (binary_level op + 1) (derivation_of b))) (lies_bound (binary_level op + 1) (derivation_of b) (omega (arith, h)) (fits b)) (costs b) in
-      adds_both _ _ (λ q. Counted ∷ binary_events (as_binary (binary_level op) (derivation_of a)) q) (binary_events (as_binary (binary_level op + 1) (derivation_of b)))
+      let x = laid_adds (binary_level op) (counted a) a _ (binary_events (as_binary (binary_level op) (derivation_of a)))
+      (lies_bound (binary_level op) (derivation_of a) h (fits a)) (costs a) in
+      let y = laid_adds (binary_level op + 1) (counted b) b _ (binary_events (as_binary (binary_level op + 1) (derivation_of b)))
+      (lies_bound (binary_level op + 1) (derivation_of b) (omega (arith, h)) (fits b)) (costs b) in
+      adds_both _ _ (λ q. Counted ∷ binary_events (as_binary (binary_level op) (derivation_of a)) q)
+      (binary_events (as_binary (binary_level op + 1) (derivation_of b)))
       (adds_counted _ (binary_events (as_binary (binary_level op) (derivation_of a))) x) y
   node_costs kind (t.Conditional a b c) =
       let x = laid_adds 4 (counted a) a _ (binary_events (as_binary 4 (derivation_of a))) (lies_bound 4 (derivation_of a) (omega arith) (fits a)) (costs a) in
       let z = laid_adds 3 (counted c) c _ (conditional_events (as_conditional (derivation_of c))) (lies_chosen (derivation_of c) (fits c)) (costs c) in
-      adds_both _ _ (λ q. Uncounted ∷ expression_events (derivation_of b) (Counted ∷ binary_events (as_binary 4 (derivation_of a)) q)) (conditional_events (as_conditional (derivation_of c)))
+      adds_both _ _ (λ q. Uncounted ∷ expression_events (derivation_of b) (Counted ∷ binary_events (as_binary 4 (derivation_of a)) q))
+      (conditional_events (as_conditional (derivation_of c)))
       (adds_uncounted _ (λ q. expression_events (derivation_of b) (Counted ∷ binary_events (as_binary 4 (derivation_of a)) q))
       (adds_both _ _ (λ q. Counted ∷ binary_events (as_binary 4 (derivation_of a)) q) (expression_events (derivation_of b))
       (adds_counted _ (binary_events (as_binary 4 (derivation_of a))) x) (costs b))) z
   node_costs kind (t.Assign p a) =
-      adds_both _ _ (λ q. Counted ∷ target_events (target_of p) q) (assignment_events (as_assignment (derivation_of a))) (adds_counted _ (target_events (target_of p)) (target_costs p))
+      adds_both _ _ (λ q. Counted ∷ target_events (target_of p) q) (assignment_events (as_assignment (derivation_of a)))
+      (adds_counted _ (target_events (target_of p)) (target_costs p))
       (laid_adds 2 (counted a) a _ (assignment_events (as_assignment (derivation_of a))) (lies_assigned (derivation_of a) (fits a)) (costs a))
   node_costs kind (t.Update op p a) =
-      adds_both _ _ (λ q. Counted ∷ target_events (target_of p) q) (assignment_events (as_assignment (derivation_of a))) (adds_counted _ (target_events (target_of p)) (target_costs p))
+      adds_both _ _ (λ q. Counted ∷ target_events (target_of p) q) (assignment_events (as_assignment (derivation_of a)))
+      (adds_counted _ (target_events (target_of p)) (target_costs p))
       (laid_adds 2 (counted a) a _ (assignment_events (as_assignment (derivation_of a))) (lies_assigned (derivation_of a) (fits a)) (costs a))
   node_costs kind (t.Count p up after) = adds_count after (target_of p) (place_counted p) (target_costs p)
   node_costs kind (t.Comma a b) =
@@ -303,7 +319,8 @@ mutual
   target_costs (t.Cell home a) =
       adds_as (1 + counted a) (1 + counted a) (λ q. Uncounted ∷ expression_events (derivation_of a) (Counted ∷ Uncounted ∷ q)) (omega arith)
       (adds_uncounted (1 + counted a) (λ q. expression_events (derivation_of a) (Counted ∷ Uncounted ∷ q))
-      (adds_both 1 (counted a) (λ q. Counted ∷ Uncounted ∷ q) (expression_events (derivation_of a)) (adds_as (0 + 1) 1 (λ q. Counted ∷ Uncounted ∷ q) (omega arith) (adds_counted 0 word adds_word)) (costs a)))
+      (adds_both 1 (counted a) (λ q. Counted ∷ Uncounted ∷ q) (expression_events (derivation_of a))
+      (adds_as (0 + 1) 1 (λ q. Counted ∷ Uncounted ∷ q) (omega arith) (adds_counted 0 word adds_word)) (costs a)))
 
   pub arguments_cost : (xs : Arguments) → AllAdd (all_counted xs) (arguments_of xs)
   arguments_cost NoArgument = tt

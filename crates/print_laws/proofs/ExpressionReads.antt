@@ -85,7 +85,8 @@ colon_is = record { same = refl; classed = refl; spaced = refl }
 abbrev pub ReadsExpression : Leveled → ExpressionTree → Type 0
 ReadsExpression s x = (need : ℕ) → need ≤ 14 → Part (s need) (bracketed_tokens (nat_lt (level_of x) need) (derivation_of x))
 
-laid : (need : ℕ) (s : Leveled) (x : ExpressionTree) (tokens : List Class → List Class) (events : List _ → List _) → need ≤ 14 → ReadsExpression s x → Laid need (derivation_of x) tokens events → Part (s need) tokens
+laid : (need : ℕ) (s : Leveled) (x : ExpressionTree) (tokens : List Class → List Class) (events : List _ → List _) → need ≤ 14 → ReadsExpression s x →
+    Laid need (derivation_of x) tokens events → Part (s need) tokens
 laid need s x tokens events n h l =
     part_as (s need) (bracketed_tokens (nat_lt (level_of x) need) (derivation_of x)) tokens
     (λ r. l.0 r ∙ ap (λ k. bracketed_tokens (nat_lt k need) (derivation_of x) r) (level_is x)) (h need n)
@@ -99,7 +100,8 @@ assigned s x h = laid 2 s x _ _ (omega arith) h (lies_assigned (derivation_of x)
 pub chosen : (s : Leveled) (x : ExpressionTree) → ReadsExpression s x → Part (s 3) (conditional_tokens (as_conditional (derivation_of x)))
 chosen s x h = laid 3 s x _ _ (omega arith) h (lies_chosen (derivation_of x) (fits x))
 
-bound : (need : ℕ) (s : Leveled) (x : ExpressionTree) → 4 ≤ need → need ≤ 14 → ReadsExpression s x → Part (s need) (binary_tokens (as_binary need (derivation_of x)))
+bound : (need : ℕ) (s : Leveled) (x : ExpressionTree) → 4 ≤ need → need ≤ 14 → ReadsExpression s x →
+    Part (s need) (binary_tokens (as_binary need (derivation_of x)))
 bound need s x l n h = laid need s x _ _ n h (lies_bound need (derivation_of x) l (fits x))
 
 tight : (s : Leveled) (x : ExpressionTree) → ReadsExpression s x → Part (s 14) (unary_tokens (as_unary (derivation_of x)))
@@ -141,19 +143,33 @@ number_part kind n h =
     }
 
 character_part : (b : ℕ) → b ≤ 255 → Part (character b) (λ r. c.Character ∷ r)
-character_part b h = record { reads = λ ps. refl; quiet = λ ps. refl; starts = record { byte = 39; not_equals = refl; not_greater = refl; first = λ ps. (_, refl) }; apart = λ first ps k a. (h, a) }
+character_part b h = record {
+  reads = λ ps. refl;
+  quiet = λ ps. refl;
+  starts =
+      record { byte = 39; not_equals = refl; not_greater = refl; first = λ ps. (_, refl) };
+  apart = λ first ps k a. (h, a);
+}
 
 literal_part : (bs : List ℕ) → AreBytes bs → Part (literal bs) (λ r. c.Text ∷ r)
-literal_part bs h = record { reads = λ ps. refl; quiet = λ ps. refl; starts = record { byte = 34; not_equals = refl; not_greater = refl; first = λ ps. (_, refl) }; apart = λ first ps k a. (h, a) }
+literal_part bs h = record {
+  reads = λ ps. refl;
+  quiet = λ ps. refl;
+  starts =
+      record { byte = 34; not_equals = refl; not_greater = refl; first = λ ps. (_, refl) };
+  apart = λ first ps k a. (h, a);
+}
 
 -- ---- places
 
 -- a text in `[` and `]` behind a name
-pub cell_front : (w : List ℕ) (s : Text) (f : List Class → List Class) → IsName w → Part s f → Front (word w ⨾ punctuator (codes "[") ⨾ s ⨾ punctuator (codes "]")) (λ r. c.Name ∷ c.OpenIndex ∷ f (c.CloseIndex ∷ r))
+pub cell_front : (w : List ℕ) (s : Text) (f : List Class → List Class) → IsName w → Part s f →
+    Front (word w ⨾ punctuator (codes "[") ⨾ s ⨾ punctuator (codes "]")) (λ r. c.Name ∷ c.OpenIndex ∷ f (c.CloseIndex ∷ r))
 cell_front w s f n h =
     let v = name_front w n in
     record {
-      reads = λ ps. v.reads ((punctuator (codes "[") ⨾ s ⨾ punctuator (codes "]")) ps) ∙ ap (λ l. c.Name ∷ c.OpenIndex ∷ l) (h.reads (punctuator (codes "]") ps));
+      reads = λ ps. v.reads ((punctuator (codes "[") ⨾ s ⨾ punctuator (codes "]")) ps) ∙
+          ap (λ l. c.Name ∷ c.OpenIndex ∷ l) (h.reads (punctuator (codes "]") ps));
       quiet = λ ps. v.quiet ((punctuator (codes "[") ⨾ s ⨾ punctuator (codes "]")) ps) ∙ h.quiet (punctuator (codes "]") ps);
       starts = starts_before (word w) (punctuator (codes "[") ⨾ s ⨾ punctuator (codes "]")) v.starts;
       apart = λ first ps k a.
@@ -195,40 +211,48 @@ postfixed_part up s f h = record {
   apart = λ first ps k a. h.apart first (punctuator (count_spelling up) ps) (count_ends up ps) ((count_is up).same, count_never up (spelled ps), a);
 }
 
-count_reads : (kind : Option IntKind) (p : PlaceTree) (up after : Bool) (s : Text) → Front s (target_tokens (target_of p)) → ReadsExpression (prefix_or_postfix after (count_spelling up) s) (Typed kind (t.Count p up after))
-count_reads kind p up false s h need n = bracketed_part 14 need (punctuator (count_spelling up) ⨾ s) (d.of_unary (g.StepTo (target_of p))) (prefixed_part up s (target_tokens (target_of p)) h)
-count_reads kind p up true s h need n = bare_part need (s ⨾ punctuator (count_spelling up)) (d.of_unary (g.StepAfter (target_of p))) n (postfixed_part up s (target_tokens (target_of p)) h)
+count_reads : (kind : Option IntKind) (p : PlaceTree) (up after : Bool) (s : Text) → Front s (target_tokens (target_of p)) →
+    ReadsExpression (prefix_or_postfix after (count_spelling up) s) (Typed kind (t.Count p up after))
+count_reads kind p up false s h need n = bracketed_part 14 need (punctuator (count_spelling up) ⨾ s) (d.of_unary (g.StepTo (target_of p)))
+    (prefixed_part up s (target_tokens (target_of p)) h)
+count_reads kind p up true s h need n = bare_part need (s ⨾ punctuator (count_spelling up)) (d.of_unary (g.StepAfter (target_of p))) n
+    (postfixed_part up s (target_tokens (target_of p)) h)
 
 -- ---- casts
 
 cast_reads : (kind : Option IntKind) (s : Text) (x : ExpressionTree) → Part s (unary_tokens (as_unary (derivation_of x)))
     → Part (punctuator (codes "(") ⨾ result_text kind ⨾ punctuator (codes ")") ⨾ s) (unary_tokens (cast_of kind (as_unary (derivation_of x))))
 cast_reads None s x h = cast_part (word (codes "void")) s (λ r. c.Void ∷ r) (unary_tokens (as_unary (derivation_of x))) void_front h
-cast_reads (Some kind) s x h = cast_part (result_text (Some kind)) s (g.type_tokens (d.type_of kind)) (unary_tokens (as_unary (derivation_of x))) (kind_front kind) h
+cast_reads (Some kind) s x h = cast_part (result_text (Some kind)) s (g.type_tokens (d.type_of kind)) (unary_tokens (as_unary (derivation_of x)))
+    (kind_front kind) h
 
 -- ---- commas
 
-followed_tokens : (e : Derivation) (b : g.Assignment) (r : List Class) → expression_tokens (followed_by e b) r ≡ expression_tokens e (c.Comma ∷ assignment_tokens b r)
+followed_tokens : (e : Derivation) (b : g.Assignment) (r : List Class) →
+    expression_tokens (followed_by e b) r ≡ expression_tokens e (c.Comma ∷ assignment_tokens b r)
 followed_tokens (g.One a) b r = refl
 followed_tokens (g.More a e) b r = ap (λ l. assignment_tokens a (c.Comma ∷ l)) (followed_tokens e b r)
 
 -- ---- calls
 
 -- the arguments between their brackets
-call_part : (w : List ℕ) (ts : List Text) (xs : List g.Argument) → IsName w → AreParts ts xs → Part (word w ⨾ punctuator (codes "(") ⨾ listed ts ⨾ punctuator (codes ")")) (unary_tokens (call_of xs))
+call_part : (w : List ℕ) (ts : List Text) (xs : List g.Argument) → IsName w → AreParts ts xs →
+    Part (word w ⨾ punctuator (codes "(") ⨾ listed ts ⨾ punctuator (codes ")")) (unary_tokens (call_of xs))
 call_part w [] [] n h =
     let v = name_front w n in
     record {
       reads = λ ps. v.reads ((punctuator (codes "(") ⨾ punctuator (codes ")")) ps);
       quiet = λ ps. v.quiet ((punctuator (codes "(") ⨾ punctuator (codes ")")) ps);
       starts = starts_before (word w) (punctuator (codes "(") ⨾ punctuator (codes ")")) v.starts;
-      apart = λ first ps k a. v.apart first ((punctuator (codes "(") ⨾ punctuator (codes ")")) ps) refl (refl, never (codes "(") (λ b. refl) (41 ∷ spelled ps), (refl, never (codes ")") (λ b. refl) (spelled ps), a));
+      apart = λ first ps k a. v.apart first ((punctuator (codes "(") ⨾ punctuator (codes ")")) ps) refl
+          (refl, never (codes "(") (λ b. refl) (41 ∷ spelled ps), (refl, never (codes ")") (λ b. refl) (spelled ps), a));
     }
 call_part w (s ∷ ts) (x ∷ xs) n h =
     let v = name_front w n in
     let l = listed_part s ts x xs h.0 h.1 in
     record {
-      reads = λ ps. v.reads ((punctuator (codes "(") ⨾ (s ⨾ more ts) ⨾ punctuator (codes ")")) ps) ∙ ap (λ l. c.Name ∷ c.Open ∷ l) (l.reads (punctuator (codes ")") ps));
+      reads = λ ps. v.reads ((punctuator (codes "(") ⨾ (s ⨾ more ts) ⨾ punctuator (codes ")")) ps) ∙
+          ap (λ l. c.Name ∷ c.Open ∷ l) (l.reads (punctuator (codes ")") ps));
       quiet = λ ps. v.quiet ((punctuator (codes "(") ⨾ (s ⨾ more ts) ⨾ punctuator (codes ")")) ps) ∙ l.quiet (punctuator (codes ")") ps);
       starts = starts_before (word w) (punctuator (codes "(") ⨾ (s ⨾ more ts) ⨾ punctuator (codes ")")) v.starts;
       apart = λ first ps k a.
@@ -269,7 +293,8 @@ module _ (slots : List Slot) where
   abbrev expression : IE → Expression
   expression e = e.0
 
-  arguments_read : (xs : List IE) → AllPrint slots (arguments (map expression_tree (map expression xs))) → AreParts (operands (map (expression_text slots) (map expression xs))) (arguments_of (arguments (map expression_tree (map expression xs))))
+  arguments_read : (xs : List IE) → AllPrint slots (arguments (map expression_tree (map expression xs))) →
+      AreParts (operands (map (expression_text slots) (map expression xs))) (arguments_of (arguments (map expression_tree (map expression xs))))
   arguments_read [] h = tt
   arguments_read (x ∷ xs) h = (x.1.1 h.0, arguments_read xs h.1)
 
@@ -280,16 +305,21 @@ module _ (slots : List Slot) where
   trees_of z = map-Node Node Place Expression NodeTree PlaceTree ExpressionTree node_tree place_tree expression_tree z
 
   -- what takes no brackets
-  bare : (s : Text) (kind : Option IntKind) (n : NodeTree) (u : g.Unary) → level_of (Typed kind n) ≡ 14 → derivation_of (Typed kind n) ≡ d.of_unary u → Part s (unary_tokens u) → ReadsExpression (λ need. s) (Typed kind n)
+  bare : (s : Text) (kind : Option IntKind) (n : NodeTree) (u : g.Unary) → level_of (Typed kind n) ≡ 14 →
+      derivation_of (Typed kind n) ≡ d.of_unary u → Part s (unary_tokens u) → ReadsExpression (λ need. s) (Typed kind n)
   bare s kind n u l e h need k =
-      part_as s (bracketed_tokens (nat_lt 14 need) (d.of_unary u)) _ (λ r. (λ i. bracketed_tokens (nat_lt (l i) need) (e i) r)) (bare_part need s (d.of_unary u) k h)
+      part_as s (bracketed_tokens (nat_lt 14 need) (d.of_unary u)) _ (λ r. (λ i. bracketed_tokens (nat_lt (l i) need) (e i) r))
+      (bare_part need s (d.of_unary u) k h)
 
-  node_reads : (y : Node-F IN IP IE) → ReadsNode (node_step slots (texts_of (map-Node IN IP IE Node Place Expression node place expression y))) (node_layer (trees_of (map-Node IN IP IE Node Place Expression node place expression y)))
+  node_reads : (y : Node-F IN IP IE) → ReadsNode (node_step slots (texts_of (map-Node IN IP IE Node Place Expression node place expression y)))
+      (node_layer (trees_of (map-Node IN IP IE Node Place Expression node place expression y)))
   node_reads (N.Number n) kind =
-      let f : IsConstant kind n → ReadsExpression (λ need. number kind n) (Typed kind (t.Number n)) = λ h. bare (number kind n) kind (t.Number n) g.Number refl refl (number_part kind n h) in
+      let f : IsConstant kind n → ReadsExpression (λ need. number kind n) (Typed kind (t.Number n)) =
+      λ h. bare (number kind n) kind (t.Number n) g.Number refl refl (number_part kind n h) in
       (f, λ h. assigned (λ need. number kind n) (Typed kind (t.Number n)) (f h))
   node_reads (N.Character b) kind =
-      let f : b ≤ 255 → ReadsExpression (λ need. character b) (Typed kind (t.Character b)) = λ h. bare (character b) kind (t.Character b) g.Character refl refl (character_part b h) in
+      let f : b ≤ 255 → ReadsExpression (λ need. character b) (Typed kind (t.Character b)) =
+      λ h. bare (character b) kind (t.Character b) g.Character refl refl (character_part b h) in
       (f, λ h. assigned (λ need. character b) (Typed kind (t.Character b)) (f h))
   node_reads (N.EnumName name n) kind =
       let f : IsName name → ReadsExpression (λ need. word name) (Typed kind (t.EnumName name n)) =
@@ -298,17 +328,20 @@ module _ (slots : List Slot) where
   node_reads (N.Text bytes) kind = (λ h. absurd h, λ h. literal_part bytes h)
   node_reads (N.Array home) kind =
       let f : IsName (home_name slots home) → ReadsExpression (λ need. word (home_name slots home)) (Typed kind (t.Array home)) =
-      λ h. bare (word (home_name slots home)) kind (t.Array home) (g.Place g.Variable) refl refl (part_of_front (word (home_name slots home)) (λ r. c.Name ∷ r) (name_front (home_name slots home) h)) in
+      λ h. bare (word (home_name slots home)) kind (t.Array home) (g.Place g.Variable) refl refl
+      (part_of_front (word (home_name slots home)) (λ r. c.Name ∷ r) (name_front (home_name slots home) h)) in
       (f, λ h. assigned (λ need. word (home_name slots home)) (Typed kind (t.Array home)) (f h))
   node_reads (N.Read p) kind =
       let f : PlacePrints slots (place_tree p.0) → ReadsExpression (λ need. place_text slots p.0) (Typed kind (t.Read (place_tree p.0))) =
-      λ h. bare (place_text slots p.0) kind (t.Read (place_tree p.0)) (g.Place (target_of (place_tree p.0))) refl refl (part_of_front (place_text slots p.0) _ (p.1 h)) in
+      λ h. bare (place_text slots p.0) kind (t.Read (place_tree p.0)) (g.Place (target_of (place_tree p.0))) refl refl
+      (part_of_front (place_text slots p.0) _ (p.1 h)) in
       (f, λ h. assigned (λ need. place_text slots p.0) (Typed kind (t.Read (place_tree p.0))) (f h))
   node_reads (N.Unary op a) kind =
       let x = expression_tree a.0 in
       let s = expression_text slots a.0 in
       let f : Prints slots x → ReadsExpression (node_step slots (N.Unary op s) kind) (Typed kind (t.Unary op x)) =
-      λ h need n. bracketed_part 14 need _ (d.of_unary (g.Prefixed (unary_class op) (as_unary (derivation_of x)))) (unary_part (s 14) _ (tight s x (a.1.0 h)) op) in
+      λ h need n. bracketed_part 14 need _ (d.of_unary (g.Prefixed (unary_class op) (as_unary (derivation_of x))))
+      (unary_part (s 14) _ (tight s x (a.1.0 h)) op) in
       (f, λ h. assigned (node_step slots (N.Unary op s) kind) (Typed kind (t.Unary op x)) (f h))
   node_reads (N.Cast a) kind =
       let x = expression_tree a.0 in
@@ -325,8 +358,10 @@ module _ (slots : List Slot) where
       let m = mark_low op in
       let f : Prints slots x × Prints slots y → ReadsExpression (node_step slots (N.Binary op s u) kind) (Typed kind (t.Binary op x y)) =
       λ h need n. bracketed_part (binary_level op) need _ (derivation_of (Typed kind (t.Binary op x y)))
-      (spaced_part (s (binary_level op)) (u (binary_level op + 1)) (binary_tokens (as_binary (binary_level op) (derivation_of x))) (binary_tokens (as_binary (binary_level op + 1) (derivation_of y))) (binary_spelling op) (binary_class op)
-      (bound (binary_level op) s x l (omega (arith, m)) (a.1.0 h.0)) (mark_is op) (bound (binary_level op + 1) u y (omega (arith, l)) (omega (arith, m)) (b.1.0 h.1))) in
+      (spaced_part (s (binary_level op)) (u (binary_level op + 1)) (binary_tokens (as_binary (binary_level op) (derivation_of x)))
+      (binary_tokens (as_binary (binary_level op + 1) (derivation_of y))) (binary_spelling op) (binary_class op)
+      (bound (binary_level op) s x l (omega (arith, m)) (a.1.0 h.0)) (mark_is op)
+      (bound (binary_level op + 1) u y (omega (arith, l)) (omega (arith, m)) (b.1.0 h.1))) in
       (f, λ h. assigned (node_step slots (N.Binary op s u) kind) (Typed kind (t.Binary op x y)) (f h))
   node_reads (N.Conditional a b v) kind =
       let x = expression_tree a.0 in
@@ -335,10 +370,13 @@ module _ (slots : List Slot) where
       let s = expression_text slots a.0 in
       let u = expression_text slots b.0 in
       let w = expression_text slots v.0 in
-      let f : Prints slots x × Prints slots y × Prints slots z → ReadsExpression (node_step slots (N.Conditional s u w) kind) (Typed kind (t.Conditional x y z)) =
+      let f : Prints slots x × Prints slots y × Prints slots z → ReadsExpression (node_step slots (N.Conditional s u w) kind)
+      (Typed kind (t.Conditional x y z)) =
       λ h need n. bracketed_part 3 need _ (derivation_of (Typed kind (t.Conditional x y z)))
-      (spaced_part (s 4) _ (binary_tokens (as_binary 4 (derivation_of x))) _ (codes "?") c.Question (bound 4 s x (omega arith) (omega arith) (a.1.0 h.0)) question_is
-      (spaced_part (u 1) (w 3) (expression_tokens (derivation_of y)) (conditional_tokens (as_conditional (derivation_of z))) (codes ":") c.Colon (opened u y (b.1.0 h.1)) colon_is (chosen w z (v.1.0 h.2)))) in
+      (spaced_part (s 4) _ (binary_tokens (as_binary 4 (derivation_of x))) _ (codes "?") c.Question
+      (bound 4 s x (omega arith) (omega arith) (a.1.0 h.0)) question_is
+      (spaced_part (u 1) (w 3) (expression_tokens (derivation_of y)) (conditional_tokens (as_conditional (derivation_of z))) (codes ":") c.Colon
+      (opened u y (b.1.0 h.1)) colon_is (chosen w z (v.1.0 h.2)))) in
       (f, λ h. assigned (node_step slots (N.Conditional s u w) kind) (Typed kind (t.Conditional x y z)) (f h))
   node_reads (N.Assign p a) kind =
       let x = expression_tree a.0 in
@@ -346,19 +384,23 @@ module _ (slots : List Slot) where
       let q = place_tree p.0 in
       let f : PlacePrints slots q × Prints slots x → ReadsExpression (node_step slots (N.Assign (place_text slots p.0) s) kind) (Typed kind (t.Assign q x)) =
       λ h need n. bracketed_part 2 need _ (derivation_of (Typed kind (t.Assign q x)))
-      (spaced_part (place_text slots p.0) (s 2) (target_tokens (target_of q)) (assignment_tokens (as_assignment (derivation_of x))) (codes "=") c.Equals (part_of_front _ _ (p.1 h.0)) equals_is (assigned s x (a.1.0 h.1))) in
+      (spaced_part (place_text slots p.0) (s 2) (target_tokens (target_of q)) (assignment_tokens (as_assignment (derivation_of x))) (codes "=")
+      c.Equals (part_of_front _ _ (p.1 h.0)) equals_is (assigned s x (a.1.0 h.1))) in
       (f, λ h. assigned (node_step slots (N.Assign (place_text slots p.0) s) kind) (Typed kind (t.Assign q x)) (f h))
   node_reads (N.Update op p a) kind =
       let x = expression_tree a.0 in
       let s = expression_text slots a.0 in
       let q = place_tree p.0 in
-      let f : PlacePrints slots q × Prints slots x → ReadsExpression (node_step slots (N.Update op (place_text slots p.0) s) kind) (Typed kind (t.Update op q x)) =
+      let f : PlacePrints slots q × Prints slots x → ReadsExpression (node_step slots (N.Update op (place_text slots p.0) s) kind)
+      (Typed kind (t.Update op q x)) =
       λ h need n. bracketed_part 2 need _ (derivation_of (Typed kind (t.Update op q x)))
-      (spaced_part (place_text slots p.0) (s 2) (target_tokens (target_of q)) (assignment_tokens (as_assignment (derivation_of x))) (update_spelling op) c.Update (part_of_front _ _ (p.1 h.0)) (update_is op) (assigned s x (a.1.0 h.1))) in
+      (spaced_part (place_text slots p.0) (s 2) (target_tokens (target_of q)) (assignment_tokens (as_assignment (derivation_of x)))
+      (update_spelling op) c.Update (part_of_front _ _ (p.1 h.0)) (update_is op) (assigned s x (a.1.0 h.1))) in
       (f, λ h. assigned (node_step slots (N.Update op (place_text slots p.0) s) kind) (Typed kind (t.Update op q x)) (f h))
   node_reads (N.Count p up after) kind =
       let q = place_tree p.0 in
-      let f : PlacePrints slots q → ReadsExpression (node_step slots (N.Count (place_text slots p.0) up after) kind) (Typed kind (t.Count q up after)) = λ h. count_reads kind q up after (place_text slots p.0) (p.1 h) in
+      let f : PlacePrints slots q → ReadsExpression (node_step slots (N.Count (place_text slots p.0) up after) kind)
+      (Typed kind (t.Count q up after)) = λ h. count_reads kind q up after (place_text slots p.0) (p.1 h) in
       (f, λ h. assigned (node_step slots (N.Count (place_text slots p.0) up after) kind) (Typed kind (t.Count q up after)) (f h))
   node_reads (N.Comma a b) kind =
       let x = expression_tree a.0 in
@@ -368,7 +410,8 @@ module _ (slots : List Slot) where
       let f : Prints slots x × Prints slots y → ReadsExpression (node_step slots (N.Comma s u) kind) (Typed kind (t.Comma x y)) =
       λ h need n. bracketed_part 1 need _ (derivation_of (Typed kind (t.Comma x y)))
       (part_as _ _ (expression_tokens (derivation_of (Typed kind (t.Comma x y)))) (followed_tokens (derivation_of x) (as_assignment (derivation_of y)))
-      (comma_part (s 1) (u 2) (expression_tokens (derivation_of x)) (assignment_tokens (as_assignment (derivation_of y))) (opened s x (a.1.0 h.0)) (assigned u y (b.1.0 h.1)))) in
+      (comma_part (s 1) (u 2) (expression_tokens (derivation_of x)) (assignment_tokens (as_assignment (derivation_of y))) (opened s x (a.1.0 h.0))
+      (assigned u y (b.1.0 h.1)))) in
       (f, λ h. assigned (node_step slots (N.Comma s u) kind) (Typed kind (t.Comma x y)) (f h))
   node_reads (N.Call name xs) kind =
       let es = map (expression_text slots) (map expression xs) in
@@ -381,9 +424,14 @@ module _ (slots : List Slot) where
   var_reads home h = name_front (home_name slots home) h
 
   cell_reads : (home : Home) (a : IE) → ReadsPlace (place_step slots (N.Cell home (expression_text slots a.0))) (t.Cell home (expression_tree a.0))
-  cell_reads home a h = cell_front (home_name slots home) (expression_text slots a.0 1) (expression_tokens (derivation_of (expression_tree a.0))) h.0 (opened (expression_text slots a.0) (expression_tree a.0) (a.1.0 h.1))
+  cell_reads home a h = cell_front (home_name slots home) (expression_text slots a.0 1) (expression_tokens (derivation_of (expression_tree a.0))) h.0
+      (opened (expression_text slots a.0) (expression_tree a.0) (a.1.0 h.1))
 
-  layer_reads : (y : N.Place-F IN IP IE) → ReadsPlace (place_step slots (map-Place Node Place Expression Kinded Text Leveled (node_text slots) (place_text slots) (expression_text slots) (map-Place IN IP IE Node Place Expression node place expression y))) (place_layer (map-Place Node Place Expression NodeTree PlaceTree ExpressionTree node_tree place_tree expression_tree (map-Place IN IP IE Node Place Expression node place expression y)))
+  layer_reads : (y : N.Place-F IN IP IE) → ReadsPlace
+      (place_step slots (map-Place Node Place Expression Kinded Text Leveled (node_text slots) (place_text slots) (expression_text slots)
+      (map-Place IN IP IE Node Place Expression node place expression y)))
+      (place_layer (map-Place Node Place Expression NodeTree PlaceTree ExpressionTree node_tree place_tree expression_tree
+      (map-Place IN IP IE Node Place Expression node place expression y)))
   layer_reads (N.Var home) h = var_reads home h
   layer_reads (N.Cell home a) h = cell_reads home a h
 
@@ -391,7 +439,8 @@ module _ (slots : List Slot) where
   unfolding node_tree place_tree expression_tree
   node_rolls z = fold-roll-Node NodeTree PlaceTree ExpressionTree node_layer place_layer expression_layer z
 
-  place_rolls : (z : N.Place-F Node Place Expression) → place_tree (roll-Place z) ≡ place_layer (map-Place Node Place Expression NodeTree PlaceTree ExpressionTree node_tree place_tree expression_tree z)
+  place_rolls : (z : N.Place-F Node Place Expression) → place_tree (roll-Place z) ≡ place_layer
+      (map-Place Node Place Expression NodeTree PlaceTree ExpressionTree node_tree place_tree expression_tree z)
   unfolding node_tree place_tree expression_tree
   place_rolls z = fold-roll-Place NodeTree PlaceTree ExpressionTree node_layer place_layer expression_layer z
 
@@ -401,13 +450,20 @@ module _ (slots : List Slot) where
 
   -- Where an expression prints, its text has the tokens of its derivation, with brackets where a level is needed, and its pieces stand apart.
   pub expression_reads : (e : Expression) → Reads (expression_text slots e) (expression_tree e)
-  expression_reads = ind-Expression (λ n. ReadsNode (node_text slots n) (node_tree n)) (λ p. ReadsPlace (place_text slots p) (place_tree p)) (λ e. Reads (expression_text slots e) (expression_tree e))
+  expression_reads = ind-Expression (λ n. ReadsNode (node_text slots n) (node_tree n)) (λ p. ReadsPlace (place_text slots p) (place_tree p))
+      (λ e. Reads (expression_text slots e) (expression_tree e))
       (λ x y e. subst (λ (z : Node-F Node Place Expression). ReadsNode (node_text slots (roll-Node z)) (node_tree (roll-Node z))) e
-      (subst (λ (s : Kinded). ReadsNode s (node_tree (roll-Node (map-Node IN IP IE Node Place Expression node place expression y)))) (sym (fold-roll-Node Kinded Text Leveled (node_step slots) (place_step slots) expression_step _))
-      (subst (λ (n : NodeTree). ReadsNode (node_step slots (texts_of (map-Node IN IP IE Node Place Expression node place expression y))) n) (sym (node_rolls _)) (node_reads y))))
+      (subst (λ (s : Kinded). ReadsNode s (node_tree (roll-Node (map-Node IN IP IE Node Place Expression node place expression y))))
+      (sym (fold-roll-Node Kinded Text Leveled (node_step slots) (place_step slots) expression_step _))
+      (subst (λ (n : NodeTree). ReadsNode (node_step slots (texts_of (map-Node IN IP IE Node Place Expression node place expression y))) n)
+      (sym (node_rolls _)) (node_reads y))))
       (λ x y e. subst (λ (z : N.Place-F Node Place Expression). ReadsPlace (place_text slots (roll-Place z)) (place_tree (roll-Place z))) e
-      (subst (λ (s : Text). ReadsPlace s (place_tree (roll-Place (map-Place IN IP IE Node Place Expression node place expression y)))) (sym (fold-roll-Place Kinded Text Leveled (node_step slots) (place_step slots) expression_step _))
-      (subst (λ (p : PlaceTree). ReadsPlace (place_step slots (map-Place Node Place Expression Kinded Text Leveled (node_text slots) (place_text slots) (expression_text slots) (map-Place IN IP IE Node Place Expression node place expression y))) p) (sym (place_rolls _)) (layer_reads y))))
+      (subst (λ (s : Text). ReadsPlace s (place_tree (roll-Place (map-Place IN IP IE Node Place Expression node place expression y))))
+      (sym (fold-roll-Place Kinded Text Leveled (node_step slots) (place_step slots) expression_step _))
+      (subst (λ (p : PlaceTree). ReadsPlace
+      (place_step slots (map-Place Node Place Expression Kinded Text Leveled (node_text slots) (place_text slots) (expression_text slots)
+      (map-Place IN IP IE Node Place Expression node place expression y))) p) (sym (place_rolls _)) (layer_reads y))))
       (λ x y e. subst (λ (z : Expression-F Node Place Expression). Reads (expression_text slots (roll-Expression z)) (expression_tree (roll-Expression z))) e
-      (subst (λ (s : Leveled). Reads s (expression_tree (roll-Expression (map-Expression IN IP IE Node Place Expression node place expression y)))) (sym (fold-roll-Expression Kinded Text Leveled (node_step slots) (place_step slots) expression_step _))
+      (subst (λ (s : Leveled). Reads s (expression_tree (roll-Expression (map-Expression IN IP IE Node Place Expression node place expression y))))
+      (sym (fold-roll-Expression Kinded Text Leveled (node_step slots) (place_step slots) expression_step _))
       (subst (λ (x : ExpressionTree). Reads (node_text slots y.node.0 y.kind) x) (sym (expression_rolls _)) (y.node.1 y.kind))))

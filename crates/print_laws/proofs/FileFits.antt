@@ -63,7 +63,8 @@ file_fits (T.Note bytes ∷ ts) = file_fits ts
 
 -- ---- they stay within the limits
 
-given_any : (g : Option Expression) → GivenPrints g → (q : List Event) → Any q → Any (constant_events (option_map (λ (e : Expression). conditional_of (expression_tree e)) g) q)
+given_any : (g : Option Expression) → GivenPrints g → (q : List Event) → Any q →
+    Any (constant_events (option_map (λ (e : Expression). conditional_of (expression_tree e)) g) q)
 given_any None h q w = w
 given_any (Some e) h q w = chosen_any [] (expression_tree e) h _ (out q w)
 
@@ -98,7 +99,8 @@ body_clear f (Some xs) h q w =
 
 function_clear : (f : Function) → FunctionPrints f → (q : List Event) → Clear q → Clear (function_events (function_of f) q)
 function_clear f h q w =
-    body_clear f f.body h.body _ (out _ (parameters_any (take f.params f.slots) _ (any _ (out _ (any _ (out _ (result_any f.result _ (word_any f.file_only q (any q w)))))))))
+    body_clear f f.body h.body _ (out _ (parameters_any (take f.params f.slots)
+    _ (any _ (out _ (any _ (out _ (result_any f.result _ (word_any f.file_only q (any q w)))))))))
 
 pub file_clear : (ts : List Top) → TopsPrint ts → (q : List Event) → Clear q → Clear (file_events (tops_of ts) q)
 file_clear [] h q w = w
@@ -106,6 +108,7 @@ file_clear (T.Include bytes ∷ ts) h q w = file_clear ts h.1 _ (out q (any q w)
 file_clear (T.Enum [] ∷ ts) h q w = absurd h.0
 file_clear (T.Enum (x ∷ xs) ∷ ts) h q w =
     file_clear ts h.1 _ (out _ (enumerators_any xs h.0.1 _ (given_any x.given h.0.0.given _ (any _ (out _ (any _ (out _ (any _ (out q (any q w))))))))))
-file_clear (T.Global v ∷ ts) h q w = file_clear ts h.1 _ (declaration_clear [] v.slot (option_map expression_trees v.init) [] h.0 no_more _ (word_any v.file_only q (any q w)))
+file_clear (T.Global v ∷ ts) h q w = file_clear ts h.1 _ (declaration_clear [] v.slot (option_map expression_trees v.init) [] h.0 no_more
+    _ (word_any v.file_only q (any q w)))
 file_clear (T.Function f ∷ ts) h q w = file_clear ts h.1 _ (function_clear f h.0 q w)
 file_clear (T.Note bytes ∷ ts) h q w = file_clear ts h.1 q w

@@ -40,57 +40,76 @@ use Rattle.print_laws.proofs.SectionReads.{keyword}
 use Rattle.print_laws.proofs.ItemReads.{note_line, name_line, item_reads}
 
 -- a front, and a stretch that begins with what doesn't go on with a name
-fronted : {k : List Class → Comments → Comments} (a b : Bool) (s t : Text) (f g : List Class → List Class) → Front s f → ((ps : List Piece) → NotFirst is_word_byte (spelled (t ps))) → Told false b t g k → Told a b (s ⨾ t) (λ r. f (g r)) k
-fronted a b s t f g h n k = record { reads = λ ps. h.reads (t ps) ∙ ap f (k.reads ps); tells = λ ps. h.quiet (t ps) ∙ k.tells ps; apart = λ ps e. h.apart a (t ps) (n ps) (k.apart ps e) }
+fronted : {k : List Class → Comments → Comments} (a b : Bool) (s t : Text) (f g : List Class → List Class) → Front s f →
+    ((ps : List Piece) → NotFirst is_word_byte (spelled (t ps))) → Told false b t g k → Told a b (s ⨾ t) (λ r. f (g r)) k
+fronted a b s t f g h n k = record {
+  reads = λ ps. h.reads (t ps) ∙ ap f (k.reads ps);
+  tells = λ ps. h.quiet (t ps) ∙ k.tells ps;
+  apart = λ ps e. h.apart a (t ps) (n ps) (k.apart ps e);
+}
 
 -- ---- enums
 
 enumerator_part : (x : EnumItem) → EnumeratorPrints x → Part (enumerator_text x) (enumerator_tokens (given_of x))
 enumerator_part x h = by_given x.given h.given
   where
-    by_given : (g : Option Expression) → GivenPrints g → Part (word x.name ⨾ given_text g) (enumerator_tokens (option_map (λ (e : Expression). conditional_of (expression_tree e)) g))
+    by_given : (g : Option Expression) → GivenPrints g → Part (word x.name ⨾ given_text g)
+        (enumerator_tokens (option_map (λ (e : Expression). conditional_of (expression_tree e)) g))
     by_given None h' = part_of_front (word x.name) _ (name_front x.name h.named)
-    by_given (Some e) h' = spaced_part (word x.name) (expression_text [] e 3) (λ r. c.Name ∷ r) (conditional_tokens (conditional_of (expression_tree e))) (codes "=") c.Equals (part_of_front (word x.name) _ (name_front x.name h.named)) equals_is (full_chosen [] 3 e h')
+    by_given (Some e) h' = spaced_part (word x.name) (expression_text [] e 3) (λ r. c.Name ∷ r)
+        (conditional_tokens (conditional_of (expression_tree e))) (codes "=") c.Equals (part_of_front (word x.name) _ (name_front x.name h.named))
+        equals_is (full_chosen [] 3 e h')
 
 enumerators_read : (xs : List EnumItem) → EnumeratorsPrint xs → AreAll enumerator_tokens (map enumerator_text xs) (map given_of xs)
 enumerators_read [] h = tt
 enumerators_read (x ∷ xs) h = (enumerator_part x h.0, enumerators_read xs h.1)
 
-enum_reads : (x : EnumItem) (xs : List EnumItem) → EnumeratorPrints x → EnumeratorsPrint xs → Stretch true true (enum_text (x ∷ xs)) (enumeration_tokens (enumeration_of x xs))
+enum_reads : (x : EnumItem) (xs : List EnumItem) → EnumeratorPrints x → EnumeratorsPrint xs →
+    Stretch true true (enum_text (x ∷ xs)) (enumeration_tokens (enumeration_of x xs))
 enum_reads x xs h k =
-    stretch_as true true _ _ _ (λ r. ap (λ l. c.Enum ∷ c.OpenBlock ∷ enumerator_tokens (given_of x) l) (rest_is enumerator_tokens (map given_of xs) (c.Semicolon ∷ r)))
-    (keyword true true (codes "enum") c.Enum (space ⨾ punctuator (codes "{") ⨾ space ⨾ listed (map enumerator_text (x ∷ xs)) ⨾ enum_end) _ refl refl (λ ps. refl)
+    stretch_as true true _ _ _ (λ r. ap (λ l. c.Enum ∷ c.OpenBlock ∷ enumerator_tokens (given_of x) l)
+    (rest_is enumerator_tokens (map given_of xs) (c.Semicolon ∷ r)))
+    (keyword true true (codes "enum") c.Enum (space ⨾ punctuator (codes "{") ⨾ space ⨾ listed (map enumerator_text (x ∷ xs)) ⨾ enum_end) _ refl refl
+    (λ ps. refl)
     (along false false true space (punctuator (codes "{") ⨾ space ⨾ listed (map enumerator_text (x ∷ xs)) ⨾ enum_end) _ _ (a_space false)
     (along false false true (punctuator (codes "{")) (space ⨾ listed (map enumerator_text (x ∷ xs)) ⨾ enum_end) _ _ (open_block false)
     (along false false true space (listed (map enumerator_text (x ∷ xs)) ⨾ enum_end) _ _ (a_space false)
     (ended false true (listed (map enumerator_text (x ∷ xs))) enum_end _ _
-    (more_part enumerator_tokens (enumerator_text x) (map enumerator_text xs) (given_of x) (map given_of xs) (enumerator_part x h) (enumerators_read xs k)) (λ ps. refl)
+    (more_part enumerator_tokens (enumerator_text x) (map enumerator_text xs) (given_of x) (map given_of xs) (enumerator_part x h)
+    (enumerators_read xs k)) (λ ps. refl)
     (along false false true space (punctuator (codes "}") ⨾ punctuator (codes ";") ⨾ newline) _ _ (a_space false)
     (along false false true (punctuator (codes "}")) (punctuator (codes ";") ⨾ newline) _ _ (close_block false) (line_end false))))))))
 
 -- ---- variables
 
-static_reads : {k : List Class → Comments → Comments} (a b : Bool) (static : Bool) (s : Text) (g : List Class → List Class) → ((x : Bool) → Told x b s g k) → Told a b (static_text static ⨾ s) (λ r. word_tokens c.Static static (g r)) k
+static_reads : {k : List Class → Comments → Comments} (a b : Bool) (static : Bool) (s : Text) (g : List Class → List Class) →
+    ((x : Bool) → Told x b s g k) → Told a b (static_text static ⨾ s) (λ r. word_tokens c.Static static (g r)) k
 static_reads a b false s g k = k a
-static_reads a b true s g k = keyword a b (codes "static") c.Static (space ⨾ s) g refl refl (λ ps. refl) (along false false b space s _ g (a_space false) (k false))
+static_reads a b true s g k = keyword a b (codes "static") c.Static (space ⨾ s) g refl refl (λ ps. refl)
+    (along false false b space s _ g (a_space false) (k false))
 
-global_reads : (v : GlobalVariable) → DeclaratorPrints [] v.slot (option_map expression_trees v.init) → Stretch true true (global_text v) (declaration_tokens (global_of v))
+global_reads : (v : GlobalVariable) → DeclaratorPrints [] v.slot (option_map expression_trees v.init) →
+    Stretch true true (global_text v) (declaration_tokens (global_of v))
 global_reads v h =
     static_reads true true v.file_only (declaration_text [] v.slot v.init ⨾ punctuator (codes ";") ⨾ newline) _
-    (λ x. ended x true (declaration_text [] v.slot v.init) (punctuator (codes ";") ⨾ newline) _ _ (declaration_part [] v.slot v.init h) (λ ps. refl) (line_end false))
+    (λ x. ended x true (declaration_text [] v.slot v.init) (punctuator (codes ";") ⨾ newline) _ _ (declaration_part [] v.slot v.init h) (λ ps. refl)
+    (line_end false))
 
 -- ---- functions
 
-brackets_part : (s : Text) (f : List Class → List Class) (cells : Option ℕ) → Front s f → Part (s ⨾ array_brackets cells) (λ r. f (size_tokens (parameter_size cells) r))
+brackets_part : (s : Text) (f : List Class → List Class) (cells : Option ℕ) → Front s f →
+    Part (s ⨾ array_brackets cells) (λ r. f (size_tokens (parameter_size cells) r))
 brackets_part s f None h = part_of_front s f h
 brackets_part s f (Some n) h = record {
   reads = λ ps. h.reads ((punctuator (codes "[") ⨾ punctuator (codes "]")) ps);
   quiet = λ ps. h.quiet ((punctuator (codes "[") ⨾ punctuator (codes "]")) ps);
   starts = starts_before s (punctuator (codes "[") ⨾ punctuator (codes "]")) h.starts;
-  apart = λ first ps k a. h.apart first ((punctuator (codes "[") ⨾ punctuator (codes "]")) ps) refl (refl, never (codes "[") (λ b. refl) (93 ∷ spelled ps), (refl, never (codes "]") (λ b. refl) (spelled ps), a));
+  apart = λ first ps k a. h.apart first ((punctuator (codes "[") ⨾ punctuator (codes "]")) ps) refl
+      (refl, never (codes "[") (λ b. refl) (93 ∷ spelled ps), (refl, never (codes "]") (λ b. refl) (spelled ps), a));
 }
 
-parameter_front : (s : Slot) (name : List ℕ) → ParameterPrints name → Front (kind_words s ⨾ parameter_name name) (λ r. word_tokens c.Const s.constant (type_tokens (type_of s.kind) (word_tokens c.Name (is_named name) r)))
+parameter_front : (s : Slot) (name : List ℕ) → ParameterPrints name → Front (kind_words s ⨾ parameter_name name)
+    (λ r. word_tokens c.Const s.constant (type_tokens (type_of s.kind) (word_tokens c.Name (is_named name) r)))
 parameter_front s [] h = kinds_front s
 parameter_front s (b ∷ bs) h =
     let k = kinds_front s in
@@ -103,7 +122,8 @@ parameter_front s (b ∷ bs) h =
     }
 
 parameter_part : (s : Slot) → ParameterPrints s.name → Part (parameter_text s) (parameter_tokens (parameter_of s))
-parameter_part s h = brackets_part (kind_words s ⨾ parameter_name s.name) (λ r. word_tokens c.Const s.constant (type_tokens (type_of s.kind) (word_tokens c.Name (is_named s.name) r))) s.cells (parameter_front s s.name h)
+parameter_part s h = brackets_part (kind_words s ⨾ parameter_name s.name)
+    (λ r. word_tokens c.Const s.constant (type_tokens (type_of s.kind) (word_tokens c.Name (is_named s.name) r))) s.cells (parameter_front s s.name h)
 
 each_parameter : (ss : List Slot) → ParametersPrint ss → AreAll parameter_tokens (map parameter_text ss) (map parameter_of ss)
 each_parameter [] h = tt
@@ -111,7 +131,8 @@ each_parameter (s ∷ ss) h = (parameter_part s h.0, each_parameter ss h.1)
 
 parameters_part : (ss : List Slot) → ParametersPrint ss → Part (parameters_text ss) (parameters_tokens (parameters_of ss))
 parameters_part [] h = part_of_front (word (codes "void")) (λ r. c.Void ∷ r) void_front
-parameters_part (s ∷ ss) h = more_part parameter_tokens (parameter_text s) (map parameter_text ss) (parameter_of s) (map parameter_of ss) (parameter_part s h.0) (each_parameter ss h.1)
+parameters_part (s ∷ ss) h = more_part parameter_tokens (parameter_text s) (map parameter_text ss) (parameter_of s) (map parameter_of ss)
+    (parameter_part s h.0) (each_parameter ss h.1)
 
 result_front : (r : Option IntKind) → Front (result_text r) (result_tokens (option_map type_of r))
 result_front None = void_front
@@ -125,23 +146,34 @@ trees_are : (xs : List Item) → trees_of xs ≡ forest (map tree_of xs)
 unfolding trees_of
 trees_are xs = refl
 
-body_reads : (f : Function) (body : Option (List Item)) → MaybeBody f body → Told false true (body_text f body ⨾ newline) (body_tokens (body_of f.slots body)) (body_notes f body)
+body_reads : (f : Function) (body : Option (List Item)) → MaybeBody f body →
+    Told false true (body_text f body ⨾ newline) (body_tokens (body_of f.slots body)) (body_notes f body)
 body_reads f None h = line_end false
 body_reads f (Some xs) h =
     along false false true space (braced (map (printed f) xs) 0 ⨾ newline) _ _ (a_space false)
     (along false false true (braced (map (printed f) xs) 0) newline _ _
-    (subst (λ a. Told false false (braced (map (printed f) xs) 0) (λ r. c.OpenBlock ∷ list_tokens f.slots a (c.CloseBlock ∷ r)) (λ r n. items_notes f.slots a (c.CloseBlock ∷ r) n)) (sym (trees_are xs))
-    (braced_reads f.slots false (map (printed f) xs) (forest (map tree_of xs)) (all_read f xs (subst (ItemsPrint f) (trees_are xs) h.items)) 0)) (end_line false))
+    (subst (λ a. Told false false (braced (map (printed f) xs) 0) (λ r. c.OpenBlock ∷ list_tokens f.slots a (c.CloseBlock ∷ r))
+    (λ r n. items_notes f.slots a (c.CloseBlock ∷ r) n)) (sym (trees_are xs))
+    (braced_reads f.slots false (map (printed f) xs) (forest (map tree_of xs)) (all_read f xs (subst (ItemsPrint f) (trees_are xs) h.items)) 0))
+    (end_line false))
 
 function_reads : (f : Function) → FunctionPrints f → Told true true (function_text f) (function_tokens (function_of f)) (body_notes f f.body)
 function_reads f h =
     let behind = along false false true (punctuator (codes ")")) (body_text f f.body ⨾ newline) _ _ (closing false) (body_reads f f.body h.body) in
-    let inside = ended false true (parameters_text (take f.params f.slots)) (punctuator (codes ")") ⨾ body_text f f.body ⨾ newline) _ _ (parameters_part (take f.params f.slots) h.parameters) (λ ps. refl) behind in
-    let bracket = along false false true (punctuator (codes "(")) (parameters_text (take f.params f.slots) ⨾ punctuator (codes ")") ⨾ body_text f f.body ⨾ newline) _ _ (opening false) inside in
-    let named = name_line false true f.name (punctuator (codes "(") ⨾ parameters_text (take f.params f.slots) ⨾ punctuator (codes ")") ⨾ body_text f f.body ⨾ newline) _ h.named (λ ps. refl) bracket in
-    let spaced = along false false true space (word f.name ⨾ punctuator (codes "(") ⨾ parameters_text (take f.params f.slots) ⨾ punctuator (codes ")") ⨾ body_text f f.body ⨾ newline) _ _ (a_space false) named in
-    static_reads true true f.file_only (result_text f.result ⨾ space ⨾ word f.name ⨾ punctuator (codes "(") ⨾ parameters_text (take f.params f.slots) ⨾ punctuator (codes ")") ⨾ body_text f f.body ⨾ newline) _
-    (λ x. fronted x true (result_text f.result) (space ⨾ word f.name ⨾ punctuator (codes "(") ⨾ parameters_text (take f.params f.slots) ⨾ punctuator (codes ")") ⨾ body_text f f.body ⨾ newline) (result_tokens (option_map type_of f.result)) _ (result_front f.result) (λ ps. refl) spaced)
+    let inside = ended false true (parameters_text (take f.params f.slots)) (punctuator (codes ")") ⨾ body_text f f.body ⨾ newline)
+    _ _ (parameters_part (take f.params f.slots) h.parameters) (λ ps. refl) behind in
+    let bracket = along false false true (punctuator (codes "(")) (parameters_text (take f.params f.slots) ⨾ punctuator (codes ")") ⨾ body_text f
+    f.body ⨾ newline) _ _ (opening false) inside in
+    let named = name_line false true f.name (punctuator (codes "(") ⨾ parameters_text (take f.params f.slots) ⨾ punctuator (codes ")") ⨾ body_text f
+    f.body ⨾ newline) _ h.named (λ ps. refl) bracket in
+    let spaced = along false false true space
+    (word f.name ⨾ punctuator (codes "(") ⨾ parameters_text (take f.params f.slots) ⨾ punctuator (codes ")") ⨾ body_text f f.body ⨾ newline)
+    _ _ (a_space false) named in
+    static_reads true true f.file_only (result_text f.result ⨾ space ⨾ word f.name ⨾ punctuator
+    (codes "(") ⨾ parameters_text (take f.params f.slots) ⨾ punctuator (codes ")") ⨾ body_text f f.body ⨾ newline) _
+    (λ x. fronted x true (result_text f.result)
+    (space ⨾ word f.name ⨾ punctuator (codes "(") ⨾ parameters_text (take f.params f.slots) ⨾ punctuator (codes ")") ⨾ body_text f
+    f.body ⨾ newline) (result_tokens (option_map type_of f.result)) _ (result_front f.result) (λ ps. refl) spaced)
 
 -- ---- files
 
@@ -160,9 +192,12 @@ directive_reads bytes h = record { reads = directive_class bytes h; tells = dire
 
 pub program_reads : (ts : List Top) → TopsPrint ts → Told true true (joined (map top_text ts)) (file_tokens (tops_of ts)) (tops_notes ts)
 program_reads [] h = empty true
-program_reads (T.Include bytes ∷ ts) h = along true true true (verbatim bytes ⨾ newline) (joined (map top_text ts)) _ _ (directive_reads bytes h.0) (program_reads ts h.1)
+program_reads (T.Include bytes ∷ ts) h = along true true true (verbatim bytes ⨾ newline) (joined (map top_text ts)) _ _ (directive_reads bytes h.0)
+    (program_reads ts h.1)
 program_reads (T.Enum [] ∷ ts) h = absurd h.0
-program_reads (T.Enum (x ∷ xs) ∷ ts) h = along true true true (enum_text (x ∷ xs)) (joined (map top_text ts)) _ _ (enum_reads x xs h.0.0 h.0.1) (program_reads ts h.1)
+program_reads (T.Enum (x ∷ xs) ∷ ts) h = along true true true (enum_text (x ∷ xs)) (joined (map top_text ts)) _ _ (enum_reads x xs h.0.0 h.0.1)
+    (program_reads ts h.1)
 program_reads (T.Global v ∷ ts) h = along true true true (global_text v) (joined (map top_text ts)) _ _ (global_reads v h.0) (program_reads ts h.1)
 program_reads (T.Function f ∷ ts) h = along true true true (function_text f) (joined (map top_text ts)) _ _ (function_reads f h.0) (program_reads ts h.1)
-program_reads (T.Note bytes ∷ ts) h = along true true true (verbatim bytes ⨾ newline) (joined (map top_text ts)) _ _ (note_line true bytes h.0) (program_reads ts h.1)
+program_reads (T.Note bytes ∷ ts) h = along true true true (verbatim bytes ⨾ newline) (joined (map top_text ts)) _ _ (note_line true bytes h.0)
+    (program_reads ts h.1)

@@ -94,11 +94,13 @@ below n need e h tokens events l t q =
     let b : nat_lt (loose e) need ≡ true = ap (λ x. nat_lt x need) l ∙ lt-ltb n need h in
     (λ r. t r ∙ ap (λ x. bracketed_tokens x e r) (sym b), λ p. q p ∙ ap (λ x. bracketed_events x e p) (sym b))
 
-binary_chosen : (x : Bool) (b : Binary) (r : List Class) → binary_tokens (cond x (Single (Within (One (Value (Only b))))) b) r ≡ bracketed_tokens x (One (Value (Only b))) r
+binary_chosen : (x : Bool) (b : Binary) (r : List Class) → binary_tokens (cond x (Single (Within (One (Value (Only b))))) b) r ≡ bracketed_tokens x
+    (One (Value (Only b))) r
 binary_chosen true b r = refl
 binary_chosen false b r = refl
 
-binary_counted : (x : Bool) (b : Binary) (q : List Event) → binary_events (cond x (Single (Within (One (Value (Only b))))) b) q ≡ bracketed_events x (One (Value (Only b))) q
+binary_counted : (x : Bool) (b : Binary) (q : List Event) → binary_events (cond x (Single (Within (One (Value (Only b))))) b) q ≡ bracketed_events x
+    (One (Value (Only b))) q
 binary_counted true b q = refl
 binary_counted false b q = refl
 
@@ -131,7 +133,8 @@ not_lone : (b : Binary) (need : ℕ) → need ≤ 14 → nat_lt (root b) need �
 not_lone (Single u) need h e = let n = not_below 14 need h in cc
 not_lone (Both a m b) need h e = refl
 
-fits_either : (x : Bool) (b : Binary) → (x ≡ true → is_lone (One (Value (Only b))) ≡ false) → FitsBinary b → FitsBinary (cond x (Single (Within (One (Value (Only b))))) b)
+fits_either : (x : Bool) (b : Binary) → (x ≡ true → is_lone (One (Value (Only b))) ≡ false) → FitsBinary b →
+    FitsBinary (cond x (Single (Within (One (Value (Only b))))) b)
 fits_either true b l f = (l refl, f)
 fits_either false b l f = f
 

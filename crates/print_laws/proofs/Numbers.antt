@@ -131,11 +131,14 @@ by_base base w =
 abbrev integer : IntKind → ℕ → Integer
 integer kind n = record { kind = kind; value = n }
 
-from_digits : (ds : List ℕ) (suffix : Suffix) (n : ℕ) (kind : IntKind) → 0 < length ds → value_of 10 ds ≡ n → kind_of Decimal suffix n ≡ Some kind → integer_from Decimal ds (Some suffix) ≡ Some (integer kind n)
+from_digits : (ds : List ℕ) (suffix : Suffix) (n : ℕ) (kind : IntKind) → 0 < length ds → value_of 10 ds ≡ n → kind_of Decimal suffix n ≡ Some kind →
+    integer_from Decimal ds (Some suffix) ≡ Some (integer kind n)
 from_digits [] suffix n kind l e h = absurd (omega (arith, l))
-from_digits (d ∷ ds) suffix n kind l e h = ap (λ v. option_map (λ kind. integer kind v) (kind_of Decimal suffix v)) e ∙ ap (option_map (λ kind. integer kind n)) h
+from_digits (d ∷ ds) suffix n kind l e h = ap (λ v. option_map (λ kind. integer kind v) (kind_of Decimal suffix v)) e ∙
+    ap (option_map (λ kind. integer kind n)) h
 
-decimal_reads : (ds s : List ℕ) (suffix : Suffix) (n : ℕ) (kind : IntKind) → AreDigits n ds → IsSuffix s suffix → base_of (ds ++ s) ≡ Decimal → kind_of Decimal suffix n ≡ Some kind → integer_of (ds ++ s) ≡ Some (integer kind n)
+decimal_reads : (ds s : List ℕ) (suffix : Suffix) (n : ℕ) (kind : IntKind) → AreDigits n ds → IsSuffix s suffix → base_of (ds ++ s) ≡ Decimal →
+    kind_of Decimal suffix n ≡ Some kind → integer_of (ds ++ s) ≡ Some (integer kind n)
 decimal_reads ds s suffix n kind d k b h =
     ap (λ base. by_base base (ds ++ s)) b
     ∙ ap (λ l. integer_from Decimal l (suffix_of (drop (prefix_len is_digit (ds ++ s)) (ds ++ s)))) (taken_is ds s d.all k.taken)
@@ -166,21 +169,26 @@ first_is : (ds s : List ℕ) → 0 < length ds → 48 < get_or ds 0 0 → base_o
 first_is [] s l h = absurd (omega (arith, l))
 first_is (d ∷ ds) s l h = decimal_base d (ds ++ s) (ne_eqb d 48 (omega (arith, h)))
 
-constant : (kind : IntKind) (s : List ℕ) (suffix : Suffix) (most n : ℕ) → IsKind kind s suffix most → most ≤ 2 ^ 64 → n < most → (is_run (decimal n ++ s) ≡ true) × (integer_of (decimal n ++ s) ≡ Some (integer kind n))
+constant : (kind : IntKind) (s : List ℕ) (suffix : Suffix) (most n : ℕ) → IsKind kind s suffix most → most ≤ 2 ^ 64 → n < most →
+    (is_run (decimal n ++ s) ≡ true) × (integer_of (decimal n ++ s) ≡ Some (integer kind n))
 constant kind s suffix most zero k b h =
     let d = digits_of 0 (omega arith) in
     (run_is (decimal 0) s suffix d.some d.all k.suffixed, ap (λ w. integer_of (w ++ s)) (decimal_digit 0 (omega arith)) ∙ k.nought)
 constant kind s suffix most (suc n) k b h =
     let d = digits_of (suc n) (omega (arith, h, b)) in
-    let f = first_decimal (suc n) (omega arith) (omega (arith, h, b)) in
-    (run_is (decimal (suc n)) s suffix d.some d.all k.suffixed, decimal_reads (decimal (suc n)) s suffix (suc n) kind d k.suffixed (first_is (decimal (suc n)) s d.some f) (k.found (suc n) h))
+    let f = first_decimal (suc n) (omega arith) (omega (arith, h, b)) in (
+      run_is (decimal (suc n)) s suffix d.some d.all k.suffixed,
+      decimal_reads (decimal (suc n)) s suffix (suc n) kind d k.suffixed
+          (first_is (decimal (suc n)) s d.some f) (k.found (suc n) h),
+    )
 
 -- the integer constant that a number of a kind is
 abbrev pub integer_in : Option IntKind → ℤ → Option Integer
 integer_in (Some kind) (pos n) = Some (integer kind n)
 integer_in _ _ = None
 
-pub number_is : (kind : Option IntKind) (n : ℤ) → IsConstant kind n → (is_run (number_text kind n) ≡ true) × (integer_of (number_text kind n) ≡ integer_in kind n)
+pub number_is : (kind : Option IntKind) (n : ℤ) → IsConstant kind n → (is_run (number_text kind n) ≡ true) ×
+    (integer_of (number_text kind n) ≡ integer_in kind n)
 number_is (Some K.Int) (pos n) h = constant K.Int [] Plain (2 ^ 31) n int_kind (omega arith) h
 number_is (Some K.UInt) (pos n) h = constant K.UInt (codes "U") U (2 ^ 32) n uint_kind (omega arith) h
 number_is (Some K.Long) (pos n) h = constant K.Long (codes "L") L (2 ^ 63) n long_kind (omega arith) h

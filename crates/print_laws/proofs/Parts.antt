@@ -64,24 +64,42 @@ name_class : (b : Bool) (w : List ℕ) (r : List Class) → is_keyword w ≡ b �
 name_class b w r e f ps s = rw (e ∙ f) (ap (λ l. c.Name ∷ l) (sym s))
 
 pub name_front : (w : List ℕ) → IsName w → Front (word w) (λ r. c.Name ∷ r)
-name_front w (h, k) = record { reads = λ ps. name_class (is_keyword w) w (classes ps) refl k ps refl; quiet = λ ps. refl; starts = word_starts w h; apart = λ first ps n a. (h, n, a) }
+name_front w (h, k) = record {
+  reads = λ ps. name_class (is_keyword w) w (classes ps) refl k ps refl;
+  quiet = λ ps. refl;
+  starts = word_starts w h;
+  apart = λ first ps n a. (h, n, a);
+}
 
 -- ---- the words of a kind
 
 pub kind_front : (kind : IntKind) → Front (kind_text kind) (type_tokens (type_of kind))
 kind_front K.Char = record { reads = λ ps. refl; quiet = λ ps. refl; starts = word_starts (codes "char") refl; apart = λ first ps n a. (refl, n, a) }
-kind_front K.UChar = record { reads = λ ps. refl; quiet = λ ps. refl; starts = starts_before (word (codes "unsigned")) (space ⨾ word (codes "char")) (word_starts (codes "unsigned") refl); apart = λ first ps n a. (refl, refl, (refl, n, a)) }
+kind_front K.UChar = record {
+  reads = λ ps. refl;
+  quiet = λ ps. refl;
+  starts = starts_before (word (codes "unsigned")) (space ⨾ word (codes "char"))
+      (word_starts (codes "unsigned") refl);
+  apart = λ first ps n a. (refl, refl, (refl, n, a));
+}
 kind_front K.Int = record { reads = λ ps. refl; quiet = λ ps. refl; starts = word_starts (codes "int") refl; apart = λ first ps n a. (refl, n, a) }
 kind_front K.UInt = record { reads = λ ps. refl; quiet = λ ps. refl; starts = word_starts (codes "unsigned") refl; apart = λ first ps n a. (refl, n, a) }
 kind_front K.Long = record { reads = λ ps. refl; quiet = λ ps. refl; starts = word_starts (codes "long") refl; apart = λ first ps n a. (refl, n, a) }
-kind_front K.ULong = record { reads = λ ps. refl; quiet = λ ps. refl; starts = starts_before (word (codes "unsigned")) (space ⨾ word (codes "long")) (word_starts (codes "unsigned") refl); apart = λ first ps n a. (refl, refl, (refl, n, a)) }
+kind_front K.ULong = record {
+  reads = λ ps. refl;
+  quiet = λ ps. refl;
+  starts = starts_before (word (codes "unsigned")) (space ⨾ word (codes "long"))
+      (word_starts (codes "unsigned") refl);
+  apart = λ first ps n a. (refl, refl, (refl, n, a));
+}
 
 pub void_front : Front (word (codes "void")) (λ r. c.Void ∷ r)
 void_front = record { reads = λ ps. refl; quiet = λ ps. refl; starts = word_starts (codes "void") refl; apart = λ first ps n a. (refl, n, a) }
 
 -- ---- brackets
 
-pub bracketed_part : (level need : ℕ) (t : Text) (e : Expression) → Part t (expression_tokens e) → Part (bracketed level need t) (bracketed_tokens (nat_lt level need) e)
+pub bracketed_part : (level need : ℕ) (t : Text) (e : Expression) → Part t (expression_tokens e) →
+    Part (bracketed level need t) (bracketed_tokens (nat_lt level need) e)
 bracketed_part level need t e h = by_test (nat_lt level need)
   where
     by_test : (b : Bool) → Part (only_if b (punctuator (codes "(")) ⨾ t ⨾ only_if b (punctuator (codes ")"))) (bracketed_tokens b e)
@@ -89,7 +107,16 @@ bracketed_part level need t e h = by_test (nat_lt level need)
       reads = λ ps. ap (λ l. c.Open ∷ l) (h.reads (punctuator (codes ")") ps));
       quiet = λ ps. h.quiet (punctuator (codes ")") ps);
       starts = record { byte = 40; not_equals = refl; not_greater = refl; first = λ ps. (_, refl) };
-      apart = λ first ps n a. (refl, never (codes "(") (λ b. refl) _, h.apart false (punctuator (codes ")") ps) refl (refl, never (codes ")") (λ b. refl) (spelled ps), a));
+      apart = λ first ps n a. (
+        refl,
+        never (codes "(") (λ b. refl) _,
+        h.apart false (punctuator (codes ")") ps) refl (
+          refl,
+          never (codes ")")
+              (λ b. refl) (spelled ps),
+          a,
+        ),
+      );
     }
     by_test false = record { reads = h.reads; quiet = h.quiet; starts = h.starts; apart = h.apart }
 
@@ -108,11 +135,13 @@ gap_quiet true t ps = refl
 gap_quiet false t ps = refl
 
 -- behind a mark an operand begins, with a space before it where they would run together
-gap_apart : (b : Bool) (w : List ℕ) (t : Text) (f : List Class → List Class) → (h : Part t f) → grows w 32 ≡ false → (b ≡ false → grows w h.starts.byte ≡ false) → (ps : List Piece) → NotFirst (grows w) (spelled (only_if b space (t ps)))
+gap_apart : (b : Bool) (w : List ℕ) (t : Text) (f : List Class → List Class) → (h : Part t f) → grows w 32 ≡ false →
+    (b ≡ false → grows w h.starts.byte ≡ false) → (ps : List Piece) → NotFirst (grows w) (spelled (only_if b space (t ps)))
 gap_apart true w t f h s n ps = s
 gap_apart false w t f h s n ps = let x = h.starts.first ps in subst (NotFirst (grows w)) (sym x.1) (n refl)
 
-gap_over : (b : Bool) (t : Text) (f : List Class → List Class) → Part t f → (ps : List Piece) → IsClosed (spelled ps) → AreApart false ps → AreApart false (only_if b space (t ps))
+gap_over : (b : Bool) (t : Text) (f : List Class → List Class) → Part t f → (ps : List Piece) → IsClosed (spelled ps) → AreApart false ps →
+    AreApart false (only_if b space (t ps))
 gap_over true t f h ps c a = h.apart false ps c a
 gap_over false t f h ps c a = h.apart false ps c a
 
@@ -135,7 +164,8 @@ module _ (t : Text) (f : List Class → List Class) (h : Part t f) where
   plus_grows e = let p : (h.starts.byte == 43) ≡ false = other_way 43 h.starts.byte (sym (begins_is 43 t h.starts) ∙ e) in rw (p, h.starts.not_equals) refl
 
   minus_grows : begins_with 45 t ≡ false → grows (codes "-") h.starts.byte ≡ false
-  minus_grows e = let p : (h.starts.byte == 45) ≡ false = other_way 45 h.starts.byte (sym (begins_is 45 t h.starts) ∙ e) in rw (p, h.starts.not_equals, h.starts.not_greater) refl
+  minus_grows e = let p : (h.starts.byte == 45) ≡ false = other_way 45 h.starts.byte (sym (begins_is 45 t h.starts) ∙ e) in
+      rw (p, h.starts.not_equals, h.starts.not_greater) refl
 
   not_grows : grows (codes "!") h.starts.byte ≡ false
   not_grows = rw (h.starts.not_equals) refl
@@ -168,18 +198,29 @@ module _ (t : Text) (f : List Class → List Class) (h : Part t f) where
 
 -- `++` or `--` before a place
 -- a cast
-pub cast_part : (s t : Text) (f g : List Class → List Class) → Front s f → Part t g → Part (punctuator (codes "(") ⨾ s ⨾ punctuator (codes ")") ⨾ t) (λ r. c.Open ∷ f (c.Close ∷ g r))
+pub cast_part : (s t : Text) (f g : List Class → List Class) → Front s f → Part t g →
+    Part (punctuator (codes "(") ⨾ s ⨾ punctuator (codes ")") ⨾ t) (λ r. c.Open ∷ f (c.Close ∷ g r))
 cast_part s t f g h k = record {
   reads = λ ps. ap (λ l. c.Open ∷ l) (h.reads (punctuator (codes ")") (t ps)) ∙ ap (λ l. f (c.Close ∷ l)) (k.reads ps));
   quiet = λ ps. h.quiet (punctuator (codes ")") (t ps)) ∙ k.quiet ps;
   starts = record { byte = 40; not_equals = refl; not_greater = refl; first = λ ps. (_, refl) };
-  apart = λ first ps n a. (refl, never (codes "(") (λ b. refl) _, h.apart false (punctuator (codes ")") (t ps)) refl (refl, never (codes ")") (λ b. refl) _, k.apart false ps n a));
+  apart = λ first ps n a. (
+    refl,
+    never (codes "(") (λ b. refl) _,
+    h.apart false (punctuator (codes ")") (t ps)) refl (
+      refl,
+      never (codes ")")
+          (λ b. refl) _,
+      k.apart false ps n a,
+    ),
+  );
 }
 
 -- ---- one after another
 
 -- two with a spaced mark between them
-pub spaced_part : (s t : Text) (f g : List Class → List Class) (w : List ℕ) (class : Class) → Part s f → IsMark w class → Part t g → Part (s ⨾ spaced w ⨾ t) (λ r. f (class ∷ g r))
+pub spaced_part : (s t : Text) (f g : List Class → List Class) (w : List ℕ) (class : Class) → Part s f → IsMark w class → Part t g →
+    Part (s ⨾ spaced w ⨾ t) (λ r. f (class ∷ g r))
 spaced_part s t f g w class h m k = record {
   reads = λ ps. h.reads ((spaced w ⨾ t) ps) ∙ ap f (λ i. m.classed i ∷ k.reads ps i);
   quiet = λ ps. h.quiet ((spaced w ⨾ t) ps) ∙ k.quiet ps;
@@ -204,7 +245,8 @@ AreParts [] [] = Unit {0}
 AreParts (t ∷ ts) (x ∷ xs) = Part t (argument_tokens x) × AreParts ts xs
 AreParts _ _ = ⊥
 
-pub listed_part : (t : Text) (ts : List Text) (x : Argument) (xs : List Argument) → Part t (argument_tokens x) → AreParts ts xs → Part (t ⨾ more ts) (arguments_tokens (listed x xs))
+pub listed_part : (t : Text) (ts : List Text) (x : Argument) (xs : List Argument) → Part t (argument_tokens x) → AreParts ts xs →
+    Part (t ⨾ more ts) (arguments_tokens (listed x xs))
 listed_part t [] x [] h k = h
 listed_part t (s ∷ ts) x (y ∷ ys) h k = comma_part t (s ⨾ more ts) (argument_tokens x) (arguments_tokens (listed y ys)) h (listed_part s ts y ys k.0 k.1)
 listed_part t [] x (y ∷ ys) h k = absurd k

@@ -34,10 +34,12 @@ none_behind : (at place : ℕ) (ts us : List Token) → at ≤ place → AllBefo
 none_behind at place [] us h k = refl
 none_behind at place (t ∷ ts) us h k =
     let s = k.0 in
-    ap (λ b. cond b (t ∷ tokens_behind place (ts ++ us)) (tokens_behind place (ts ++ us))) (lt-leb place t.start (omega (arith, h, s))) ∙ none_behind at place ts us h k.1
+    ap (λ b. cond b (t ∷ tokens_behind place (ts ++ us)) (tokens_behind place (ts ++ us))) (lt-leb place t.start (omega (arith, h, s))) ∙
+    none_behind at place ts us h k.1
 
 -- a piece's token begins where the piece does
-all_here : (p : Piece) (at place : ℕ) (us : List Token) → place ≤ at → tokens_behind place us ≡ us → tokens_behind place (token_of p at ++ us) ≡ token_of p at ++ us
+all_here : (p : Piece) (at place : ℕ) (us : List Token) → place ≤ at → tokens_behind place us ≡ us →
+    tokens_behind place (token_of p at ++ us) ≡ token_of p at ++ us
 all_here p at place us h e = by_piece p
   where
     kept : (t : Token) → t.start ≡ at → tokens_behind place (t ∷ us) ≡ t ∷ us
@@ -83,7 +85,8 @@ abbrev ended_classes : List ℕ → List Token → List Class
 ended_classes t tokens = classes_of t tokens ++ c.End ∷ []
 
 placed_here : (t : List ℕ) (p : Piece) (at : ℕ) (r : List ℕ) → Stands t at (spelled p r) → (tokens : List Token) (cs : List Class)
-    → ((end : ℕ) → at ≤ end → end ≤ behind p at → token_of p at ≡ [] → ended_classes t (tokens_behind end tokens) ≡ cs) → placed_at t tokens (comment_of p at) ≡ map (λ w. (cs, w)) (comment_bytes p)
+    → ((end : ℕ) → at ≤ end → end ≤ behind p at → token_of p at ≡ [] → ended_classes t (tokens_behind end tokens) ≡ cs) →
+    placed_at t tokens (comment_of p at) ≡ map (λ w. (cs, w)) (comment_bytes p)
 placed_here t (l.Space b) at r h tokens cs f = refl
 placed_here t (l.Word w) at r h tokens cs f = refl
 placed_here t (l.Number w) at r h tokens cs f = refl
@@ -109,11 +112,13 @@ same_tokens : (t : List ℕ) (x y z : List Token) (a : List Span) → placed_at 
 same_tokens t x y z a = ap (λ ts. placed_at t ts a) (sym (append_assoc x y z))
 
 -- the classes of what stands behind a comment
-behind_comment : (t : List ℕ) (p : Piece) (ps : List Piece) (front : List Token) (at end : ℕ) → Stands t (behind p at) (text ps []) → AllBefore at front → at ≤ end → end ≤ behind p at → token_of p at ≡ []
+behind_comment : (t : List ℕ) (p : Piece) (ps : List Piece) (front : List Token) (at end : ℕ) → Stands t (behind p at) (text ps []) →
+    AllBefore at front → at ≤ end → end ≤ behind p at → token_of p at ≡ []
     → ended_classes t (tokens_behind end (front ++ (token_of p at ++ all_of token_of ps (behind p at)))) ≡ map class_of_spelling (spellings ps) ++ c.End ∷ []
 behind_comment t p ps front at end h k low high none =
     let rest = all_of token_of ps (behind p at) in
-    ap (ended_classes t) (none_behind at end front (token_of p at ++ rest) low k ∙ ap (λ ts. tokens_behind end (ts ++ rest)) none ∙ all_behind ps (behind p at) end high)
+    ap (ended_classes t) (none_behind at end front (token_of p at ++ rest) low k ∙ ap (λ ts. tokens_behind end (ts ++ rest)) none ∙
+    all_behind ps (behind p at) end high)
     ∙ ap (λ cs. cs ++ c.End ∷ []) (classes_read t rest ∙ ap (map class_of_spelling) (tokens_from t ps (behind p at) h))
 
 places : (t : List ℕ) (ps : List Piece) (first : Bool) (front : List Token) (at : ℕ) → Good first ps [] → Stands t at (text ps []) → AllBefore at front
@@ -122,7 +127,8 @@ places t [] first front at g h k = refl
 places t (p ∷ ps) first front at g h k =
     let rest = all_of token_of ps (behind p at) in
     let stands = next t p at (text ps []) h in
-    let here = placed_here t p at (text ps []) h (front ++ (token_of p at ++ rest)) (map class_of_spelling (spellings ps) ++ c.End ∷ []) (λ end low high none. behind_comment t p ps front at end stands k low high none) in
+    let here = placed_here t p at (text ps []) h (front ++ (token_of p at ++ rest)) (map class_of_spelling (spellings ps) ++ c.End ∷ [])
+    (λ end low high none. behind_comment t p ps front at end stands k low high none) in
     let before = before_both (behind p at) front (token_of p at) (before_later at (behind p at) front (omega arith) k) (begins_here first p at g.0) in
     let later = places t ps _ (front ++ token_of p at) (behind p at) g.2 stands before in
     placed_both t (front ++ (token_of p at ++ rest)) (comment_of p at) (all_of comment_of ps (behind p at))

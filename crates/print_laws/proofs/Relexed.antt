@@ -81,7 +81,8 @@ takes_digits _ f r h = cc
 escaped_is : (quote b : ℕ) (r : List ℕ) → written (character_in quote b) r ≡ escaped quote b ++ r
 escaped_is quote b r = by_tests (nat_eq b 10) (nat_eq b 9) (nat_eq b quote || nat_eq b 92) (is_printing b)
   where
-    by_tests : (w x y z : Bool) → written (cond w (Simple 110) (cond x (Simple 116) (cond y (Simple b) (cond z (Plain b) (ThreeDigits (48 + b / 64) (48 + b / 8 % 8) (48 + b % 8)))))) r
+    by_tests : (w x y z : Bool) → written
+        (cond w (Simple 110) (cond x (Simple 116) (cond y (Simple b) (cond z (Plain b) (ThreeDigits (48 + b / 64) (48 + b / 8 % 8) (48 + b % 8)))))) r
         ≡ cond w (codes "\\n") (cond x (codes "\\t") (cond y (92 ∷ b ∷ []) (cond z (b ∷ []) (octal b)))) ++ r
     by_tests true x y z = refl
     by_tests false true y z = refl
@@ -97,8 +98,11 @@ pub text_characters : (bs : List ℕ) (r : List ℕ) → list_all (λ b. nat_le 
 text_characters [] r h = tt
 text_characters (b ∷ bs) r h =
     let l = leb-true b 255 (first_of_and (nat_le b 255) _ h) in
-    let g = all_below fits_text 256 good_texts b (omega (arith, l)) in
-    (is_character (character_in 34 b) is_text_byte g, takes_digits (character_in 34 b) is_text_byte _ g, text_characters bs r (second_of_and (nat_le b 255) _ h))
+    let g = all_below fits_text 256 good_texts b (omega (arith, l)) in (
+      is_character (character_in 34 b) is_text_byte g,
+      takes_digits (character_in 34 b) is_text_byte _ g,
+      text_characters bs r (second_of_and (nat_le b 255) _ h),
+    )
 
 -- ---- marks
 
@@ -133,8 +137,10 @@ spaces_text (suc n) qs r e = ap (λ l. 32 ∷ l) (spaces_text n qs r e)
 comment_text : (bytes : List ℕ) → IsComment bytes → (r : List ℕ) → l.spelled (verbatim_piece bytes) r ≡ bytes ++ r
 comment_text [] h r = absurd h
 comment_text (a ∷ []) h r = absurd h
-comment_text (a ∷ b ∷ w) (e, inl h) r = subst (λ x. l.spelled (verbatim_piece (x ∷ b ∷ w)) r ≡ x ∷ b ∷ w ++ r) (sym e) (subst (λ x. l.spelled (verbatim_piece (47 ∷ x ∷ w)) r ≡ 47 ∷ x ∷ w ++ r) (sym h.0) refl)
-comment_text (a ∷ b ∷ w) (e, inr h) r = subst (λ x. l.spelled (verbatim_piece (x ∷ b ∷ w)) r ≡ x ∷ b ∷ w ++ r) (sym e) (subst (λ x. l.spelled (verbatim_piece (47 ∷ x ∷ w)) r ≡ 47 ∷ x ∷ w ++ r) (sym h.0) refl)
+comment_text (a ∷ b ∷ w) (e, inl h) r = subst (λ x. l.spelled (verbatim_piece (x ∷ b ∷ w)) r ≡ x ∷ b ∷ w ++ r) (sym e)
+    (subst (λ x. l.spelled (verbatim_piece (47 ∷ x ∷ w)) r ≡ 47 ∷ x ∷ w ++ r) (sym h.0) refl)
+comment_text (a ∷ b ∷ w) (e, inr h) r = subst (λ x. l.spelled (verbatim_piece (x ∷ b ∷ w)) r ≡ x ∷ b ∷ w ++ r) (sym e)
+    (subst (λ x. l.spelled (verbatim_piece (47 ∷ x ∷ w)) r ≡ 47 ∷ x ∷ w ++ r) (sym h.0) refl)
 
 directive_text : (bytes : List ℕ) → IsDirective bytes → (r : List ℕ) → l.spelled (verbatim_piece bytes) r ≡ bytes ++ r
 directive_text [] h r = absurd h
@@ -148,9 +154,12 @@ reread_text first (p.Newline ∷ ps) h = ap (λ l. 10 ∷ l) (reread_text true p
 reread_text first (p.Indentation depth ∷ ps) h = spaces_text (4 * depth) (reread_all ps) (spelled ps) (reread_text first ps h)
 reread_text first (p.Word w ∷ ps) h = ap (λ l. w ++ l) (reread_text false ps h.2)
 reread_text first (p.Punctuator w ∷ ps) h = (λ i. h.0 i ++ reread_text false ps h.2 i)
-reread_text first (p.Number kind n ∷ ps) h = ap (λ l. number_text kind n ++ l) (reread_text false ps h.3) ∙ append_assoc (signed_decimal n) (suffix kind) (spelled ps)
-reread_text first (p.Character b ∷ ps) h = ap (λ l. 39 ∷ l) (escaped_is 39 b (39 ∷ text (reread_all ps) []) ∙ ap (λ l. escaped 39 b ++ 39 ∷ l) (reread_text false ps h.1))
-reread_text first (p.Literal bs ∷ ps) h = ap (λ l. 34 ∷ l) (texts_are bs (34 ∷ text (reread_all ps) []) ∙ ap (λ l. escaped_bytes bs (34 ∷ l)) (reread_text false ps h.1))
+reread_text first (p.Number kind n ∷ ps) h = ap (λ l. number_text kind n ++ l) (reread_text false ps h.3) ∙ append_assoc (signed_decimal n)
+    (suffix kind) (spelled ps)
+reread_text first (p.Character b ∷ ps) h = ap (λ l. 39 ∷ l) (escaped_is 39 b (39 ∷ text (reread_all ps) []) ∙ ap (λ l. escaped 39 b ++ 39 ∷ l)
+    (reread_text false ps h.1))
+reread_text first (p.Literal bs ∷ ps) h = ap (λ l. 34 ∷ l) (texts_are bs (34 ∷ text (reread_all ps) []) ∙ ap (λ l. escaped_bytes bs (34 ∷ l))
+    (reread_text false ps h.1))
 reread_text first (p.Verbatim bs ∷ ps) (inl d, n, h) = directive_text bs d.1 (text (reread_all ps) []) ∙ ap (λ l. bs ++ l) (reread_text false ps h)
 reread_text first (p.Verbatim bs ∷ ps) (inr d, n, h) = comment_text bs d (text (reread_all ps) []) ∙ ap (λ l. bs ++ l) (reread_text false ps h)
 
@@ -177,7 +186,8 @@ whole_line : (w r : List ℕ) → IsOneLine w → EndsLine r → l.IsLine w r
 whole_line w [] h e = absurd e
 whole_line w (b ∷ r) h e = subst (λ x. l.IsLine w (x ∷ r)) (sym e) (runs_to_it w r ∙ h.whole, refl)
 
-good_comment : (first : Bool) (bytes : List ℕ) → IsComment bytes → (r : List ℕ) → EndsLine r → Fits first (verbatim_piece bytes) × Longest (verbatim_piece bytes) r
+good_comment : (first : Bool) (bytes : List ℕ) → IsComment bytes → (r : List ℕ) → EndsLine r →
+    Fits first (verbatim_piece bytes) × Longest (verbatim_piece bytes) r
 good_comment first [] h r n = absurd h
 good_comment first (a ∷ []) h r n = absurd h
 good_comment first (a ∷ b ∷ w) (e, inl h) r n =
@@ -187,17 +197,21 @@ good_comment first (a ∷ b ∷ w) (e, inr h) r n =
     subst (λ x. Fits first (verbatim_piece (x ∷ b ∷ w)) × Longest (verbatim_piece (x ∷ b ∷ w)) r) (sym e)
     (subst (λ x. Fits first (verbatim_piece (47 ∷ x ∷ w)) × Longest (verbatim_piece (47 ∷ x ∷ w)) r) (sym h.0) (h.1, tt))
 
-good_directive : (first : Bool) (bytes : List ℕ) → first ≡ true → IsDirective bytes → (r : List ℕ) → EndsLine r → Fits first (verbatim_piece bytes) × Longest (verbatim_piece bytes) r
+good_directive : (first : Bool) (bytes : List ℕ) → first ≡ true → IsDirective bytes → (r : List ℕ) → EndsLine r →
+    Fits first (verbatim_piece bytes) × Longest (verbatim_piece bytes) r
 good_directive first [] f h r n = absurd h
 good_directive first (a ∷ []) f h r n = absurd h
-good_directive first (a ∷ b ∷ w) f h r n = subst (λ x. Fits first (verbatim_piece (x ∷ b ∷ w)) × Longest (verbatim_piece (x ∷ b ∷ w)) r) (sym h.0) ((f, h.2), whole_line (b ∷ w) r h.1 n)
+good_directive first (a ∷ b ∷ w) f h r n = subst (λ x. Fits first (verbatim_piece (x ∷ b ∷ w)) × Longest (verbatim_piece (x ∷ b ∷ w)) r) (sym h.0)
+    ((f, h.2), whole_line (b ∷ w) r h.1 n)
 
 -- behind a directive or a comment, something stands before on the line
 behind_comment : (first : Bool) (bytes : List ℕ) → IsComment bytes → first_behind first (verbatim_piece bytes) ≡ false
 behind_comment first [] h = absurd h
 behind_comment first (a ∷ []) h = absurd h
-behind_comment first (a ∷ b ∷ w) (e, inl h) = subst (λ x. first_behind first (verbatim_piece (x ∷ b ∷ w)) ≡ false) (sym e) (subst (λ x. first_behind first (verbatim_piece (47 ∷ x ∷ w)) ≡ false) (sym h.0) refl)
-behind_comment first (a ∷ b ∷ w) (e, inr h) = subst (λ x. first_behind first (verbatim_piece (x ∷ b ∷ w)) ≡ false) (sym e) (subst (λ x. first_behind first (verbatim_piece (47 ∷ x ∷ w)) ≡ false) (sym h.0) refl)
+behind_comment first (a ∷ b ∷ w) (e, inl h) = subst (λ x. first_behind first (verbatim_piece (x ∷ b ∷ w)) ≡ false) (sym e)
+    (subst (λ x. first_behind first (verbatim_piece (47 ∷ x ∷ w)) ≡ false) (sym h.0) refl)
+behind_comment first (a ∷ b ∷ w) (e, inr h) = subst (λ x. first_behind first (verbatim_piece (x ∷ b ∷ w)) ≡ false) (sym e)
+    (subst (λ x. first_behind first (verbatim_piece (47 ∷ x ∷ w)) ≡ false) (sym h.0) refl)
 
 behind_directive : (first : Bool) (bytes : List ℕ) → IsDirective bytes → first_behind first (verbatim_piece bytes) ≡ false
 behind_directive first [] h = absurd h
@@ -210,10 +224,18 @@ reread_good first (p.Space ∷ ps) h = (refl, tt, reread_good first ps h)
 reread_good first (p.Newline ∷ ps) h = (refl, tt, reread_good true ps h)
 reread_good first (p.Indentation depth ∷ ps) h = good_spaces (4 * depth) first (reread_all ps) (reread_good first ps h)
 reread_good first (p.Word w ∷ ps) h = (h.0, subst (NotFirst is_word_byte) (sym (reread_text false ps h.2)) h.1, reread_good false ps h.2)
-reread_good first (p.Punctuator w ∷ ps) h = (tt, longest_sign (mark_in w) (text (reread_all ps) []) (subst (NotFirst (grows w)) (sym (reread_text false ps h.2)) h.1), reread_good false ps h.2)
+reread_good first (p.Punctuator w ∷ ps) h = (
+  tt,
+  longest_sign (mark_in w) (text (reread_all ps) [])
+      (subst (NotFirst (grows w)) (sym (reread_text false ps h.2)) h.1),
+  reread_good false ps h.2,
+)
 reread_good first (p.Number kind n ∷ ps) h = ((h.0, h.1), subst (NotFirst _) (sym (reread_text false ps h.3)) h.2, reread_good false ps h.3)
-reread_good first (p.Character b ∷ ps) h =
-    (is_character (character_in 39 b) is_character_byte (let l = h.0 in all_below fits_character 256 good_characters b (omega (arith, l))), tt, reread_good false ps h.1)
+reread_good first (p.Character b ∷ ps) h = (
+  is_character (character_in 39 b) is_character_byte (let l = h.0 in all_below fits_character 256 good_characters b (omega (arith, l))),
+  tt,
+  reread_good false ps h.1,
+)
 reread_good first (p.Literal bs ∷ ps) h = (text_characters bs (34 ∷ []) h.0, tt, reread_good false ps h.1)
 reread_good first (p.Verbatim bs ∷ ps) (inl d, n, h) =
     let g = good_directive first bs d.0 d.1 (text (reread_all ps) []) (subst EndsLine (sym (reread_text false ps h)) n) in

@@ -28,12 +28,14 @@ use Rattle.print_laws.proofs.StatementReads.{Told, Stretch, along, ended, colon,
 -- ---- keywords
 
 -- a keyword in front of what doesn't go on with it
-pub keyword : {k : List Class → Comments → Comments} (a b : Bool) (w : List ℕ) (class : Class) (s : Text) (g : List Class → List Class) → is_word w ≡ true → class_of_spelling (spelling (word_kind w) w) ≡ class → ((ps : List Piece) → NotFirst is_word_byte (spelled (s ps))) → Told false b s g k
+pub keyword : {k : List Class → Comments → Comments} (a b : Bool) (w : List ℕ) (class : Class) (s : Text) (g : List Class → List Class) →
+    is_word w ≡ true → class_of_spelling (spelling (word_kind w) w) ≡ class → ((ps : List Piece) → NotFirst is_word_byte (spelled (s ps))) → Told false b s g k
     → Told a b (word w ⨾ s) (λ r. class ∷ g r) k
 keyword a b w class s g h e n k = record { reads = λ ps. (λ i. e i ∷ k.reads ps i); tells = k.tells; apart = λ ps f. (h, n ps, k.apart ps f) }
 
 -- a keyword and `;` on a line
-pub keyword_line : (a : Bool) (w : List ℕ) (class : Class) → is_word w ≡ true → class_of_spelling (spelling (word_kind w) w) ≡ class → Stretch a true (word w ⨾ punctuator (codes ";") ⨾ newline) (λ r. class ∷ c.Semicolon ∷ r)
+pub keyword_line : (a : Bool) (w : List ℕ) (class : Class) → is_word w ≡ true → class_of_spelling (spelling (word_kind w) w) ≡ class →
+    Stretch a true (word w ⨾ punctuator (codes ";") ⨾ newline) (λ r. class ∷ c.Semicolon ∷ r)
 keyword_line a w class h e = keyword a true w class (punctuator (codes ";") ⨾ newline) (λ r. c.Semicolon ∷ r) h e (λ ps. refl) (line_end false)
 
 pub break_line : (a : Bool) → Stretch a true (word (codes "break") ⨾ punctuator (codes ";") ⨾ newline) (λ r. c.Break ∷ c.Semicolon ∷ r)
@@ -52,12 +54,14 @@ case_reads slots depth e h =
     indented depth true true _ _
     (keyword true true (codes "case") c.Case (space ⨾ expression_text slots e 3 ⨾ punctuator (codes ":") ⨾ newline) _ refl refl (λ ps. refl)
     (along false false true space (expression_text slots e 3 ⨾ punctuator (codes ":") ⨾ newline) _ _ (a_space false)
-    (ended false true (expression_text slots e 3) (punctuator (codes ":") ⨾ newline) _ _ (full_chosen slots 3 e h) (λ ps. refl) (along false false true (punctuator (codes ":")) newline _ _ (colon false) (end_line false)))))
+    (ended false true (expression_text slots e 3) (punctuator (codes ":") ⨾ newline) _ _ (full_chosen slots 3 e h) (λ ps. refl)
+    (along false false true (punctuator (codes ":")) newline _ _ (colon false) (end_line false)))))
 
 default_reads : (depth : ℕ) → Stretch true true (default_line depth) (λ r. c.Default ∷ c.Colon ∷ r)
 default_reads depth =
     indented depth true true _ _
-    (keyword true true (codes "default") c.Default (punctuator (codes ":") ⨾ newline) _ refl refl (λ ps. refl) (along false false true (punctuator (codes ":")) newline _ _ (colon false) (end_line false)))
+    (keyword true true (codes "default") c.Default (punctuator (codes ":") ⨾ newline) _ refl refl (λ ps. refl)
+    (along false false true (punctuator (codes ":")) newline _ _ (colon false) (end_line false)))
 
 maybe_default : (b : Bool) (depth : ℕ) → Stretch true true (only_if b (default_line depth)) (λ r. labels_tokens (default_label b) r)
 maybe_default true depth = default_reads depth
@@ -65,10 +69,12 @@ maybe_default false depth = empty true
 
 -- the lines of the labels, before a stretch
 labels_read : (slots : List Slot) (depth : ℕ) (cases : List Expression) (default : Bool) → ListPrints slots 3 (map expression_tree cases)
-    → Stretch true true (joined (map (case_line slots depth) cases) ⨾ only_if default (default_line depth)) (λ r. labels_tokens (labels_of (map expression_tree cases) default) r)
+    → Stretch true true (joined (map (case_line slots depth) cases) ⨾ only_if default (default_line depth))
+    (λ r. labels_tokens (labels_of (map expression_tree cases) default) r)
 labels_read slots depth [] default h = maybe_default default depth
 labels_read slots depth (e ∷ es) default h =
-    along true true true (case_line slots depth e) (joined (map (case_line slots depth) es) ⨾ only_if default (default_line depth)) _ _ (case_reads slots depth e h.0) (labels_read slots depth es default h.1)
+    along true true true (case_line slots depth e) (joined (map (case_line slots depth) es) ⨾ only_if default (default_line depth))
+    _ _ (case_reads slots depth e h.0) (labels_read slots depth es default h.1)
 
 -- ---- null statements
 
@@ -85,7 +91,8 @@ begins_local : (slots : List Slot) (xs : List Printed) (a : Forest) → AllRead 
 begins_local slots [] Nil h = refl
 begins_local slots (x ∷ xs) (Then y a) h = ap (λ s. cond (is_note s) (begins_with_local xs) (is_local s)) h.0.shape ∙ by_tree y (begins_local slots xs a h.1)
   where
-    by_tree : (y : Tree) → begins_with_local xs ≡ starts_with_local a → cond (is_note (shape_in y)) (begins_with_local xs) (is_local (shape_in y)) ≡ starts_with_local (Then y a)
+    by_tree : (y : Tree) → begins_with_local xs ≡ starts_with_local a →
+        cond (is_note (shape_in y)) (begins_with_local xs) (is_local (shape_in y)) ≡ starts_with_local (Then y a)
     by_tree (t.Note bytes) e = e
     by_tree (t.Local k given) e = refl
     by_tree _ e = refl
@@ -104,7 +111,8 @@ ends_note slots (x ∷ []) (Then y Nil) h = ap is_note h.0.shape ∙ by_tree y
     by_tree : (y : Tree) → is_note (shape_in y) ≡ ends_with_note (Then y Nil)
     by_tree (t.Note bytes) = refl
     by_tree _ = refl
-ends_note slots (x ∷ z ∷ xs) (Then y (Then w a)) h = ap (λ o. option_map_or (λ (p : Printed). is_note p.shape) o false) (last_of_more x z xs) ∙ ends_note slots (z ∷ xs) (Then w a) h.1 ∙ by_tree y
+ends_note slots (x ∷ z ∷ xs) (Then y (Then w a)) h = ap (λ o. option_map_or (λ (p : Printed). is_note p.shape) o false) (last_of_more x z xs) ∙
+    ends_note slots (z ∷ xs) (Then w a) h.1 ∙ by_tree y
   where
     by_tree : (y : Tree) → ends_with_note (Then w a) ≡ ends_with_note (Then y (Then w a))
     by_tree (t.Note bytes) = refl
@@ -122,29 +130,38 @@ is_empty_as slots (x ∷ xs) Nil h = absurd h
 
 -- ---- a section
 
-end_reads : (slots : List Slot) (ends : Bool) (xs : List Printed) (a : Forest) → AllRead slots xs a → (last : Bool) (depth : ℕ) → Stretch true true (x.section_end ends xs last depth) (λ r. items_tokens (section_end ends a last NoItems) r)
+end_reads : (slots : List Slot) (ends : Bool) (xs : List Printed) (a : Forest) → AllRead slots xs a → (last : Bool) (depth : ℕ) →
+    Stretch true true (x.section_end ends xs last depth) (λ r. items_tokens (section_end ends a last NoItems) r)
 end_reads slots true xs a h last depth = indented depth true true _ _ (break_line true)
 end_reads slots false xs a h last depth =
-    let e : ((last && is_empty xs) || ends_in_note xs) ≡ ((last && is_nil a) || ends_with_note a) = (λ i. (last && is_empty_as slots xs a h i) || ends_note slots xs a h i) in
-    subst (λ b. Stretch true true (only_if b (null_line depth)) (λ r. items_tokens (optional_item ((last && is_nil a) || ends_with_note a) null_statement NoItems) r)) (sym e) (maybe_null ((last && is_nil a) || ends_with_note a) depth)
+    let e : ((last && is_empty xs) || ends_in_note xs) ≡ ((last && is_nil a) || ends_with_note a) =
+    (λ i. (last && is_empty_as slots xs a h i) || ends_note slots xs a h i) in
+    subst (λ b. Stretch true true (only_if b (null_line depth))
+    (λ r. items_tokens (optional_item ((last && is_nil a) || ends_with_note a) null_statement NoItems) r)) (sym e)
+    (maybe_null ((last && is_nil a) || ends_with_note a) depth)
 
 -- the tokens of a section, and then these
 abbrev pub section_tokens : List Slot → List ExpressionTree → Bool → Forest → Bool → Bool → List Class → List Class
 section_tokens slots cases default a ends last r =
-    labels_tokens (labels_of cases default) (items_tokens (optional_item (starts_with_local a) null_statement NoItems) (list_tokens slots a (items_tokens (section_end ends a last NoItems) r)))
+    labels_tokens (labels_of cases default) (items_tokens (optional_item (starts_with_local a) null_statement NoItems)
+    (list_tokens slots a (items_tokens (section_end ends a last NoItems) r)))
 
 -- the comments of a section, in front of these tokens and comments
 abbrev pub section_notes : List Slot → Forest → Bool → Bool → List Class → Comments → Comments
 section_notes slots a ends last r n = items_notes slots a (items_tokens (section_end ends a last NoItems) r) n
 
-pub section_reads : (slots : List Slot) (cases : List Expression) (default : Bool) (xs : List Printed) (a : Forest) (ends last : Bool) (depth : ℕ) → ListPrints slots 3 (map expression_tree cases) → AllRead slots xs a
+pub section_reads : (slots : List Slot) (cases : List Expression) (default : Bool) (xs : List Printed) (a : Forest) (ends last : Bool) (depth : ℕ) →
+    ListPrints slots 3 (map expression_tree cases) → AllRead slots xs a
     → Told true true
-    (joined (map (case_line slots depth) cases) ⨾ only_if default (default_line depth) ⨾ only_if (begins_with_local xs) (null_line (deeper depth)) ⨾ list_text xs (deeper depth) ⨾ x.section_end ends xs last (deeper depth))
+    (joined (map (case_line slots depth) cases) ⨾ only_if default (default_line depth) ⨾ only_if (begins_with_local xs)
+    (null_line (deeper depth)) ⨾ list_text xs (deeper depth) ⨾ x.section_end ends xs last (deeper depth))
     (section_tokens slots (map expression_tree cases) default a ends last) (section_notes slots a ends last)
 section_reads slots cases default xs a ends last depth h k =
     along true true true (joined (map (case_line slots depth) cases) ⨾ only_if default (default_line depth)) _ _ _ (labels_read slots depth cases default h)
     (along true true true (only_if (begins_with_local xs) (null_line (deeper depth))) _ _ _
-    (subst (λ b. Stretch true true (only_if b (null_line (deeper depth))) (λ r. items_tokens (optional_item (starts_with_local a) null_statement NoItems) r)) (sym (begins_local slots xs a k)) (maybe_null (starts_with_local a) (deeper depth)))
+    (subst (λ b. Stretch true true (only_if b (null_line (deeper depth)))
+    (λ r. items_tokens (optional_item (starts_with_local a) null_statement NoItems) r)) (sym (begins_local slots xs a k))
+    (maybe_null (starts_with_local a) (deeper depth)))
     (along true true true (list_text xs (deeper depth)) _ _ _ (list_reads slots xs a k (deeper depth)) (end_reads slots ends xs a k last (deeper depth))))
 
 -- ---- the sections of a switch
@@ -158,7 +175,8 @@ behind_tokens : (ls : List Label) (s : Statement) (r : List Class) → statement
 behind_tokens [] s r = refl
 behind_tokens (l ∷ ls) s r = ap (label_tokens l) (behind_tokens ls s r)
 
-labelled_tokens : (ls : List Label) (xs : Items) (r : List Class) → BeginsWithStatement xs → items_tokens (labelled ls xs) r ≡ labels_tokens ls (items_tokens xs r)
+labelled_tokens : (ls : List Label) (xs : Items) (r : List Class) → BeginsWithStatement xs →
+    items_tokens (labelled ls xs) r ≡ labels_tokens ls (items_tokens xs r)
 labelled_tokens ls (StatementItem s xs) r h = behind_tokens ls s (items_tokens xs r)
 labelled_tokens ls NoItems r h = absurd h
 labelled_tokens ls (LocalItem x xs) r h = absurd h
@@ -168,11 +186,13 @@ labelled_begins ls (StatementItem s xs) h = tt
 labelled_begins ls NoItems h = absurd h
 labelled_begins ls (LocalItem x xs) h = absurd h
 
-optional_tokens : (b : Bool) (s : Statement) (xs : Items) (r : List Class) → items_tokens (optional_item b s xs) r ≡ items_tokens (optional_item b s NoItems) (items_tokens xs r)
+optional_tokens : (b : Bool) (s : Statement) (xs : Items) (r : List Class) →
+    items_tokens (optional_item b s xs) r ≡ items_tokens (optional_item b s NoItems) (items_tokens xs r)
 optional_tokens true s xs r = refl
 optional_tokens false s xs r = refl
 
-end_tokens : (ends : Bool) (a : Forest) (last : Bool) (xs : Items) (r : List Class) → items_tokens (section_end ends a last xs) r ≡ items_tokens (section_end ends a last NoItems) (items_tokens xs r)
+end_tokens : (ends : Bool) (a : Forest) (last : Bool) (xs : Items) (r : List Class) →
+    items_tokens (section_end ends a last xs) r ≡ items_tokens (section_end ends a last NoItems) (items_tokens xs r)
 end_tokens true a last xs r = refl
 end_tokens false a last xs r = optional_tokens ((last && is_nil a) || ends_with_note a) null_statement xs r
 
@@ -188,7 +208,8 @@ notes_end (t.Note bytes) (Then y a) h = notes_end y a h
 notes_end _ a h = cc
 
 -- behind comments alone a statement follows
-end_begins : (ends : Bool) (a : Forest) (last : Bool) (xs : Items) → has_notes_alone a ≡ true → (last ≡ false → BeginsWithStatement xs) → BeginsWithStatement (section_end ends a last xs)
+end_begins : (ends : Bool) (a : Forest) (last : Bool) (xs : Items) → has_notes_alone a ≡ true → (last ≡ false → BeginsWithStatement xs) →
+    BeginsWithStatement (section_end ends a last xs)
 end_begins true a last xs h k = tt
 end_begins false Nil true xs h k = tt
 end_begins false Nil false xs h k = k refl
@@ -199,13 +220,15 @@ end_begins false (Then y a) last xs h k = by_or (last && is_nil (Then y a)) (end
     by_or false true e = tt
     by_or false false e = absurd cc
 
-items_begin : (slots : List Slot) (a : Forest) (xs : Items) → starts_with_local a ≡ false → (has_notes_alone a ≡ true → BeginsWithStatement xs) → BeginsWithStatement (items_of slots a xs)
+items_begin : (slots : List Slot) (a : Forest) (xs : Items) → starts_with_local a ≡ false → (has_notes_alone a ≡ true → BeginsWithStatement xs) →
+    BeginsWithStatement (items_of slots a xs)
 items_begin slots Nil xs h k = k refl
 items_begin slots (Then (t.Note bytes) a) xs h k = items_begin slots a xs h k
 items_begin slots (Then (t.Local l given) a) xs h k = cc
 items_begin slots (Then _ a) xs h k = tt
 
-section_begins : (slots : List Slot) (a : Forest) (xs : Items) → (has_notes_alone a ≡ true → BeginsWithStatement xs) → BeginsWithStatement (optional_item (starts_with_local a) null_statement (items_of slots a xs))
+section_begins : (slots : List Slot) (a : Forest) (xs : Items) → (has_notes_alone a ≡ true → BeginsWithStatement xs) →
+    BeginsWithStatement (optional_item (starts_with_local a) null_statement (items_of slots a xs))
 section_begins slots a xs k = by_test (starts_with_local a) refl
   where
     by_test : (b : Bool) → starts_with_local a ≡ b → BeginsWithStatement (optional_item b null_statement (items_of slots a xs))
@@ -216,14 +239,17 @@ sections_begin : (slots : List Slot) (cs : Sections) → is_last cs ≡ false �
 sections_begin slots NoSection h = cc
 sections_begin slots (Section cases default a ends cs) h =
     labelled_begins (labels_of cases default) _
-    (section_begins slots a (section_end ends a (is_last cs) (sections_of slots cs)) (λ n. end_begins ends a (is_last cs) (sections_of slots cs) n (λ e. sections_begin slots cs e)))
+    (section_begins slots a (section_end ends a (is_last cs) (sections_of slots cs))
+    (λ n. end_begins ends a (is_last cs) (sections_of slots cs) n (λ e. sections_begin slots cs e)))
 
 -- the tokens of sections are those of each
 pub sections_are : (slots : List Slot) (cases : List ExpressionTree) (default : Bool) (a : Forest) (ends : Bool) (cs : Sections) (r : List Class)
-    → items_tokens (sections_of slots (Section cases default a ends cs)) r ≡ section_tokens slots cases default a ends (is_last cs) (items_tokens (sections_of slots cs) r)
+    → items_tokens (sections_of slots (Section cases default a ends cs)) r ≡ section_tokens slots cases default a ends (is_last cs)
+    (items_tokens (sections_of slots cs) r)
 sections_are slots cases default a ends cs r =
     labelled_tokens (labels_of cases default) _ r
-    (section_begins slots a (section_end ends a (is_last cs) (sections_of slots cs)) (λ n. end_begins ends a (is_last cs) (sections_of slots cs) n (λ e. sections_begin slots cs e)))
+    (section_begins slots a (section_end ends a (is_last cs) (sections_of slots cs))
+    (λ n. end_begins ends a (is_last cs) (sections_of slots cs) n (λ e. sections_begin slots cs e)))
     ∙ ap (labels_tokens (labels_of cases default))
     (optional_tokens (starts_with_local a) null_statement (items_of slots a (section_end ends a (is_last cs) (sections_of slots cs))) r
     ∙ ap (λ l. items_tokens (optional_item (starts_with_local a) null_statement NoItems) l)

@@ -48,10 +48,12 @@ slot_declarator_fits slots k given = by_slot (slice_get slots k)
     by_slot None = (tt, tt)
     by_slot (Some s) = declarator_fits s given
 
-pub declaration_fits : (s : Slot) (given : Option (List ExpressionTree)) (others : List Declarator) → FitsMore FitsDeclarator others → FitsLocal (declaration_of s given others)
+pub declaration_fits : (s : Slot) (given : Option (List ExpressionTree)) (others : List Declarator) → FitsMore FitsDeclarator others →
+    FitsLocal (declaration_of s given others)
 declaration_fits s given others h = (declarator_fits s given, h)
 
-slot_declaration_fits : (slots : List Slot) (k : ℕ) (given : Option (List ExpressionTree)) (others : List Declarator) → FitsMore FitsDeclarator others → FitsLocal (slot_declaration slots k given others)
+slot_declaration_fits : (slots : List Slot) (k : ℕ) (given : Option (List ExpressionTree)) (others : List Declarator) →
+    FitsMore FitsDeclarator others → FitsLocal (slot_declaration slots k given others)
 slot_declaration_fits slots k given others h = by_slot (slice_get slots k)
   where
     by_slot : (o : Option Slot) → FitsLocal (option_map_or (λ (s : Slot). declaration_of s given others) o no_local)
@@ -159,4 +161,5 @@ mutual
   sections_fit slots NoSection = tt
   sections_fit slots (Section cases default a ends cs) =
       labelled_fits (labels_of cases default) _ (labels_fit cases default)
-      (optional_fits (starts_with_local a) null_statement _ tt (items_fit slots a _ (end_fits ends a (is_last cs) (sections_of slots cs) (sections_fit slots cs))))
+      (optional_fits (starts_with_local a) null_statement _ tt
+      (items_fit slots a _ (end_fits ends a (is_last cs) (sections_of slots cs) (sections_fit slots cs))))

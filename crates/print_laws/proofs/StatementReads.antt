@@ -24,7 +24,8 @@ use Rattle.print_laws.proofs.DeclarationReads.{full_opened}
 
 -- ---- stretches of a text
 
--- A text with these tokens and comments, behind which pieces stand apart. The flags say that nothing but white space stands before it on its line, and before what follows on that line.
+-- A text with these tokens and comments, behind which pieces stand apart. The flags say that nothing but white space
+-- stands before it on its line, and before what follows on that line.
 pub record Told (before after : Bool) (t : Text) (tokens : List Class → List Class) (notes : List Class → Comments → Comments) : Type 0 where
   pub reads : (ps : List Piece) → classes (t ps) ≡ tokens (classes ps)
   pub tells : (ps : List Piece) → noted (t ps) ≡ notes (classes ps) (noted ps)
@@ -35,18 +36,21 @@ abbrev pub Stretch : Bool → Bool → Text → (List Class → List Class) → 
 Stretch before after t tokens = Told before after t tokens (λ r n. n)
 
 -- one behind another
-pub along : {m k : List Class → Comments → Comments} (a b d : Bool) (s t : Text) (f g : List Class → List Class) → Told a b s f m → Told b d t g k → Told a d (s ⨾ t) (λ r. f (g r)) (λ r n. m (g r) (k r n))
+pub along : {m k : List Class → Comments → Comments} (a b d : Bool) (s t : Text) (f g : List Class → List Class) → Told a b s f m → Told b d t g k →
+    Told a d (s ⨾ t) (λ r. f (g r)) (λ r n. m (g r) (k r n))
 along {m = m} a b d s t f g h k = record {
   reads = λ ps. h.reads (t ps) ∙ ap f (k.reads ps);
   tells = λ ps. h.tells (t ps) ∙ (λ i. m (k.reads ps i) (k.tells ps i));
   apart = λ ps e. h.apart (t ps) (k.apart ps e);
 }
 
-pub stretch_as : {m : List Class → Comments → Comments} (a b : Bool) (t : Text) (f g : List Class → List Class) → ((r : List Class) → g r ≡ f r) → Told a b t f m → Told a b t g m
+pub stretch_as : {m : List Class → Comments → Comments} (a b : Bool) (t : Text) (f g : List Class → List Class) → ((r : List Class) → g r ≡ f r) →
+    Told a b t f m → Told a b t g m
 stretch_as a b t f g e h = record { reads = λ ps. h.reads ps ∙ sym (e (classes ps)); tells = h.tells; apart = h.apart }
 
 -- a part, and a stretch that begins with what ends a part
-pub ended : {k : List Class → Comments → Comments} (a b : Bool) (s t : Text) (f g : List Class → List Class) → Part s f → ((ps : List Piece) → IsClosed (spelled (t ps))) → Told false b t g k → Told a b (s ⨾ t) (λ r. f (g r)) k
+pub ended : {k : List Class → Comments → Comments} (a b : Bool) (s t : Text) (f g : List Class → List Class) → Part s f →
+    ((ps : List Piece) → IsClosed (spelled (t ps))) → Told false b t g k → Told a b (s ⨾ t) (λ r. f (g r)) k
 ended a b s t f g h n k = record {
   reads = λ ps. h.reads (t ps) ∙ ap f (k.reads ps);
   tells = λ ps. h.quiet (t ps) ∙ k.tells ps;
@@ -91,14 +95,16 @@ spaces_quiet zero qs = refl
 spaces_quiet (suc n) qs = spaces_quiet n qs
 
 -- the spaces before a line
-pub indented : {m : List Class → Comments → Comments} (depth : ℕ) (a b : Bool) (t : Text) (f : List Class → List Class) → Told a b t f m → Told a b (indentation depth ⨾ t) f m
+pub indented : {m : List Class → Comments → Comments} (depth : ℕ) (a b : Bool) (t : Text) (f : List Class → List Class) → Told a b t f m →
+    Told a b (indentation depth ⨾ t) f m
 indented depth a b t f h = record {
   reads = λ ps. ap (λ s. map class_of_spelling s ++ c.End ∷ []) (spaces_tell (4 * depth) (reread_all (t ps))) ∙ h.reads ps;
   tells = λ ps. spaces_quiet (4 * depth) (reread_all (t ps)) ∙ h.tells ps;
   apart = h.apart;
 }
 
-pub maybe_indented : {m : List Class → Comments → Comments} (x : Bool) (depth : ℕ) (a b : Bool) (t : Text) (f : List Class → List Class) → Told a b t f m → Told a b (only_if x (indentation depth) ⨾ t) f m
+pub maybe_indented : {m : List Class → Comments → Comments} (x : Bool) (depth : ℕ) (a b : Bool) (t : Text) (f : List Class → List Class) →
+    Told a b t f m → Told a b (only_if x (indentation depth) ⨾ t) f m
 maybe_indented true depth a b t f h = indented depth a b t f h
 maybe_indented false depth a b t f h = h
 
@@ -109,14 +115,18 @@ line_end a = along a false true (punctuator (codes ";")) newline _ _ (semicolon 
 -- ---- the parts of statements
 
 -- a full expression in brackets
-pub in_brackets : (a : Bool) (s : Text) (f : List Class → List Class) → Part s f → Stretch a false (punctuator (codes "(") ⨾ s ⨾ punctuator (codes ")")) (λ r. c.Open ∷ f (c.Close ∷ r))
-in_brackets a s f h = along a false false (punctuator (codes "(")) (s ⨾ punctuator (codes ")")) _ _ (opening a) (ended false false s (punctuator (codes ")")) f (λ r. c.Close ∷ r) h (λ ps. refl) (closing false))
+pub in_brackets : (a : Bool) (s : Text) (f : List Class → List Class) → Part s f →
+    Stretch a false (punctuator (codes "(") ⨾ s ⨾ punctuator (codes ")")) (λ r. c.Open ∷ f (c.Close ∷ r))
+in_brackets a s f h = along a false false (punctuator (codes "(")) (s ⨾ punctuator (codes ")")) _ _ (opening a)
+    (ended false false s (punctuator (codes ")")) f (λ r. c.Close ∷ r) h (λ ps. refl) (closing false))
 
 -- an expression, if it is there, behind a space, before a stretch
-pub optional : {k : List Class → Comments → Comments} (slots : List Slot) (e : Option Expression) (b : Bool) (t : Text) (g : List Class → List Class) → OptionPrints slots (option_map expression_tree e) → ((ps : List Piece) → IsClosed (spelled (t ps))) → Told false b t g k
+pub optional : {k : List Class → Comments → Comments} (slots : List Slot) (e : Option Expression) (b : Bool) (t : Text)
+    (g : List Class → List Class) → OptionPrints slots (option_map expression_tree e) → ((ps : List Piece) → IsClosed (spelled (t ps))) → Told false b t g k
     → Told false b (part_text slots e ⨾ t) (λ r. optional_tokens (option_map derivation_of (option_map expression_tree e)) (g r)) k
 optional slots None b t g h n k = k
-optional slots (Some e) b t g h n k = along false false b space (expression_text slots e 1 ⨾ t) _ _ (a_space false) (ended false b (expression_text slots e 1) t _ g (full_opened slots 1 e h) n k)
+optional slots (Some e) b t g h n k = along false false b space (expression_text slots e 1 ⨾ t) _ _ (a_space false)
+    (ended false b (expression_text slots e 1) t _ g (full_opened slots 1 e h) n k)
 
 -- ---- lists of items
 
@@ -138,12 +148,14 @@ item_tokens slots x r = items_tokens (placed slots x (statement_of slots x) NoIt
 abbrev pub list_tokens : List Slot → Forest → List Class → List Class
 list_tokens slots a r = items_tokens (items_of slots a NoItems) r
 
-pub placed_tokens : (slots : List Slot) (x : Tree) (s : Statement) (xs : Items) (r : List Class) → items_tokens (placed slots x s xs) r ≡ items_tokens (placed slots x s NoItems) (items_tokens xs r)
+pub placed_tokens : (slots : List Slot) (x : Tree) (s : Statement) (xs : Items) (r : List Class) →
+    items_tokens (placed slots x s xs) r ≡ items_tokens (placed slots x s NoItems) (items_tokens xs r)
 placed_tokens slots (t.Local k given) s xs r = refl
 placed_tokens slots (t.Note bytes) s xs r = refl
 placed_tokens slots _ s xs r = refl
 
-pub items_before : (slots : List Slot) (a : Forest) (xs : Items) (r : List Class) → items_tokens (items_of slots a xs) r ≡ list_tokens slots a (items_tokens xs r)
+pub items_before : (slots : List Slot) (a : Forest) (xs : Items) (r : List Class) →
+    items_tokens (items_of slots a xs) r ≡ list_tokens slots a (items_tokens xs r)
 items_before slots Nil xs r = refl
 items_before slots (Then x a) xs r =
     placed_tokens slots x (statement_of slots x) (items_of slots a xs) r
@@ -161,7 +173,8 @@ AllRead slots [] Nil = Unit {0}
 AllRead slots (x ∷ xs) (Then y ys) = ReadsItem slots x y × AllRead slots xs ys
 AllRead slots _ _ = ⊥
 
-pub list_reads : (slots : List Slot) (xs : List Printed) (a : Forest) → AllRead slots xs a → (depth : ℕ) → Told true true (list_text xs depth) (list_tokens slots a) (items_notes slots a)
+pub list_reads : (slots : List Slot) (xs : List Printed) (a : Forest) → AllRead slots xs a → (depth : ℕ) →
+    Told true true (list_text xs depth) (list_tokens slots a) (items_notes slots a)
 list_reads slots [] Nil h depth = empty true
 list_reads slots (x ∷ xs) (Then y a) h depth =
     stretch_as true true _ _ _ (placed_tokens slots y (statement_of slots y) (items_of slots a NoItems))
@@ -171,8 +184,10 @@ list_reads slots [] (Then y a) h depth = absurd h
 list_reads slots (x ∷ xs) Nil h depth = absurd h
 
 -- a list in braces
-pub braced_reads : (slots : List Slot) (a : Bool) (xs : List Printed) (ys : Forest) → AllRead slots xs ys → (depth : ℕ) → Told a false (braced xs depth) (λ r. c.OpenBlock ∷ list_tokens slots ys (c.CloseBlock ∷ r)) (λ r n. items_notes slots ys (c.CloseBlock ∷ r) n)
+pub braced_reads : (slots : List Slot) (a : Bool) (xs : List Printed) (ys : Forest) → AllRead slots xs ys → (depth : ℕ) →
+    Told a false (braced xs depth) (λ r. c.OpenBlock ∷ list_tokens slots ys (c.CloseBlock ∷ r)) (λ r n. items_notes slots ys (c.CloseBlock ∷ r) n)
 braced_reads slots a xs ys h depth =
     along a false false (punctuator (codes "{")) (newline ⨾ list_text xs (deeper depth) ⨾ indentation depth ⨾ punctuator (codes "}")) _ _ (open_block a)
     (along false true false newline (list_text xs (deeper depth) ⨾ indentation depth ⨾ punctuator (codes "}")) _ _ (end_line false)
-    (along true true false (list_text xs (deeper depth)) (indentation depth ⨾ punctuator (codes "}")) _ _ (list_reads slots xs ys h (deeper depth)) (indented depth true false (punctuator (codes "}")) _ (close_block true))))
+    (along true true false (list_text xs (deeper depth)) (indentation depth ⨾ punctuator (codes "}")) _ _ (list_reads slots xs ys h (deeper depth))
+    (indented depth true false (punctuator (codes "}")) _ (close_block true))))

@@ -49,7 +49,8 @@ tokens_here t (l.Sign m) at r h = ap (λ v. spelling k.Mark v ∷ []) (slice_pie
 tokens_here t (l.Directive w) at r h =
     let f = bare_front w in
     ap (λ v. spelling k.Directive v ∷ [])
-    (slice_to t at (35 ∷ bare w) (f.0 ++ r) (at + 1 + length (bare w)) (stands_along t at _ _ (ap (λ v. 35 ∷ v ++ r) f.1 ∙ ap (λ v. 35 ∷ v) (append_assoc (bare w) f.0 r)) h) (omega arith))
+    (slice_to t at (35 ∷ bare w) (f.0 ++ r) (at + 1 + length (bare w))
+    (stands_along t at _ _ (ap (λ v. 35 ∷ v ++ r) f.1 ∙ ap (λ v. 35 ∷ v) (append_assoc (bare w) f.0 r)) h) (omega arith))
 
 pub comments_here : (t : List ℕ) (p : Piece) (at : ℕ) (r : List ℕ) → Stands t at (spelled p r) → map (comment_at t) (comment_of p at) ≡ comment_bytes p
 comments_here t (l.Space b) at r h = refl
@@ -62,7 +63,8 @@ comments_here t (l.Directive w) at r h = refl
 comments_here t (l.Line w) at r h =
     let f = bare_front w in
     ap (λ v. v ∷ [])
-    (slice_to t at (47 ∷ 47 ∷ bare w) (f.0 ++ r) (at + 1 + 1 + length (bare w)) (stands_along t at _ _ (ap (λ v. 47 ∷ 47 ∷ v ++ r) f.1 ∙ ap (λ v. 47 ∷ 47 ∷ v) (append_assoc (bare w) f.0 r)) h) (omega arith))
+    (slice_to t at (47 ∷ 47 ∷ bare w) (f.0 ++ r) (at + 1 + 1 + length (bare w))
+    (stands_along t at _ _ (ap (λ v. 47 ∷ 47 ∷ v ++ r) f.1 ∙ ap (λ v. 47 ∷ 47 ∷ v) (append_assoc (bare w) f.0 r)) h) (omega arith))
 comments_here t (l.Block w) at r h = ap (λ v. v ∷ []) (slice_piece t (l.Block w) at r h ∙ ap (λ v. 47 ∷ 42 ∷ v) (append-nil w))
 
 pub next : (t : List ℕ) (p : Piece) (at : ℕ) (r : List ℕ) → Stands t at (spelled p r) → Stands t (behind p at) r

@@ -57,7 +57,8 @@ variable k = int (Read (Var (h.Slot k)))
 abbrev sum : ExpressionTree
 sum =
     int (Binary (Arith Add)
-    (int (Binary (Arith Sub) (int (Binary (Arith Sub) (variable 0) (int (Binary (Arith Sub) (variable 1) (number 1))))) (int (Binary (Arith Mul) (variable 0) (variable 1)))))
+    (int (Binary (Arith Sub) (int (Binary (Arith Sub) (variable 0) (int (Binary (Arith Sub) (variable 1) (number 1)))))
+    (int (Binary (Arith Mul) (variable 0) (variable 1)))))
     (int (Unary Minus (int (Unary Minus (variable 0))))))
 
 sum_tokens : expression_tokens (derivation_of sum) [] ≡
@@ -103,7 +104,10 @@ cases_tokens = refl
 
 -- a program prints
 abbrev small : Program
-small = record { tops = top.Include (codes "#include <stdio.h>") ∷ top.Note (codes "/* a */") ∷ top.Global (record { slot = record { name = codes "x"; kind = Int; cells = Some 3; constant = true }; init = None; file_only = true }) ∷ [] }
+small = record {
+  tops = top.Include (codes "#include <stdio.h>") ∷ top.Note (codes "/* a */") ∷ top.Global
+      (record { slot = record { name = codes "x"; kind = Int; cells = Some 3; constant = true }; init = None; file_only = true }) ∷ [];
+}
 
 small_text : text_of small ≡ codes "#include <stdio.h>\n/* a */\nstatic const int x[3];\n"
 unfolding digits
@@ -111,7 +115,10 @@ small_text = refl
 
 small_prints : IsPrintable small
 small_prints = record {
-  tops = ((refl, record { whole = refl; ended = refl }, (directive_decided (codes "include <stdio.h>")).0 refl), ((refl, inr (refl, closed (codes " a */") refl)), (record { named = (refl, refl); length = omega arith; values = tt }, tt)));
+  tops = (
+    (refl, record { whole = refl; ended = refl }, (directive_decided (codes "include <stdio.h>")).0 refl),
+    ((refl, inr (refl, closed (codes " a */") refl)), (record { named = (refl, refl); length = omega arith; values = tt }, tt)),
+  );
 }
 
 small_notes : notes_of small ≡ (c.Static ∷ c.Const ∷ c.Int ∷ c.Name ∷ c.OpenIndex ∷ c.Number ∷ c.CloseIndex ∷ c.Semicolon ∷ c.End ∷ [], codes "/* a */") ∷ []
@@ -131,7 +138,8 @@ abbrev main : Function
 main = record { name = codes "main"; result = Some Int; file_only = false; params = 0; slots = []; labels = []; body = Some body; flat = false }
 
 body_tree : trees_of body ≡ Then (t.Return (Some (number 0))) Nil
-body_tree = trees-more (V.Return (Some nought)) [] ∙ (λ i. Then (tree-Return (Some nought) i) (trees-none i)) ∙ ap (λ x. Then (t.Return (Some x)) Nil) nought_tree
+body_tree = trees-more (V.Return (Some nought)) [] ∙ (λ i. Then (tree-Return (Some nought) i) (trees-none i)) ∙
+    ap (λ x. Then (t.Return (Some x)) Nil) nought_tree
 
 main_prints : IsPrintable (record { tops = top.Function main ∷ [] })
 main_prints = record {

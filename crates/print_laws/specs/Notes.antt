@@ -19,7 +19,8 @@ use Rattle.print_laws.specs.FileDerivations.{tops_of}
 
 -- what stands behind `else`, by its first item
 abbrev pub else_tokens : List Slot → Tree → Forest → List Class → List Class
-else_tokens slots x xs r = statement_tokens (cond (is_lone_if x xs) (statement_of slots x) (block (placed slots x (statement_of slots x) (items_of slots xs NoItems)))) r
+else_tokens slots x xs r = statement_tokens
+    (cond (is_lone_if x xs) (statement_of slots x) (block (placed slots x (statement_of slots x) (items_of slots xs NoItems)))) r
 
 abbrev mutual
   -- those of an item, in front of these tokens and comments
@@ -28,7 +29,8 @@ abbrev mutual
   item_notes slots (t.If test a Nil) r n = items_notes slots a (c.CloseBlock ∷ r) n
   item_notes slots (t.If test a (Then x xs)) r n =
       items_notes slots a (c.CloseBlock ∷ c.Else ∷ else_tokens slots x xs r)
-      (cond (is_lone_if x xs) (item_notes slots x r n) (item_notes slots x (items_tokens (items_of slots xs NoItems) (c.CloseBlock ∷ r)) (items_notes slots xs (c.CloseBlock ∷ r) n)))
+      (cond (is_lone_if x xs) (item_notes slots x r n) (item_notes slots x (items_tokens (items_of slots xs NoItems) (c.CloseBlock ∷ r))
+      (items_notes slots xs (c.CloseBlock ∷ r) n)))
   item_notes slots (t.While test a) r n = items_notes slots a (c.CloseBlock ∷ r) n
   item_notes slots (t.Do a test) r n = items_notes slots a (c.CloseBlock ∷ c.While ∷ c.Open ∷ expression_tokens (test_of test) (c.Close ∷ c.Semicolon ∷ r)) n
   item_notes slots (t.For first test u a) r n = items_notes slots a (c.CloseBlock ∷ r) n

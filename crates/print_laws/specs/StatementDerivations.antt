@@ -152,10 +152,12 @@ abbrev mutual
   statement_of slots (t.Evaluate e) = Unlabelled (Simple (Some (derivation_of e)))
   statement_of slots (t.Return e) = Unlabelled (Return (option_map derivation_of e))
   statement_of slots (t.If c a Nil) = Unlabelled (If (test_of c) (block (items_of slots a NoItems)))
-  statement_of slots (t.If c a (Then x xs)) = Unlabelled (IfElse (test_of c) (block (items_of slots a NoItems)) (cond (is_lone_if x xs) (statement_of slots x) (block (placed slots x (statement_of slots x) (items_of slots xs NoItems)))))
+  statement_of slots (t.If c a (Then x xs)) = Unlabelled (IfElse (test_of c) (block (items_of slots a NoItems))
+      (cond (is_lone_if x xs) (statement_of slots x) (block (placed slots x (statement_of slots x) (items_of slots xs NoItems)))))
   statement_of slots (t.While c a) = Unlabelled (While (test_of c) (block (items_of slots a NoItems)))
   statement_of slots (t.Do a c) = Unlabelled (DoWhile (block (items_of slots a NoItems)) (test_of c))
-  statement_of slots (t.For first c u a) = Unlabelled (For (start_of slots first) (option_map derivation_of c) (option_map derivation_of u) (block (items_of slots a NoItems)))
+  statement_of slots (t.For first c u a) = Unlabelled (For (start_of slots first) (option_map derivation_of c) (option_map derivation_of u)
+      (block (items_of slots a NoItems)))
   statement_of slots (t.Switch s cs) = Unlabelled (Switch (selector_of s) (block (sections_of slots cs)))
   statement_of slots (t.Block a) = block (items_of slots a NoItems)
   statement_of slots t.Break = Unlabelled Break
@@ -174,4 +176,5 @@ abbrev mutual
   pub sections_of : List Slot → Sections → Items
   sections_of slots NoSection = NoItems
   sections_of slots (Section cases default a ends cs) =
-      labelled (labels_of cases default) (optional_item (starts_with_local a) null_statement (items_of slots a (section_end ends a (is_last cs) (sections_of slots cs))))
+      labelled (labels_of cases default) (optional_item (starts_with_local a) null_statement
+      (items_of slots a (section_end ends a (is_last cs) (sections_of slots cs))))

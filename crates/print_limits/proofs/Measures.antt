@@ -38,33 +38,55 @@ ended whole here n e s = s.1 (omega (arith, e))
 
 -- ---- items
 
-module _ (M : Forest → ℕ) (m : Tree → ℕ) (none : M Nil ≡ 0) (more : (x : Tree) (a : Forest) → M (Then x a) ≡ max (m x) (M a)) (n : ℕ) (xs : List Item) (i : ℕ) where
+module _ (M : Forest → ℕ) (m : Tree → ℕ) (none : M Nil ≡ 0) (more : (x : Tree) (a : Forest) → M (Then x a) ≡ max (m x) (M a)) (n : ℕ) (xs : List Item)
+    (i : ℕ) where
   here : (x : Item) → i < length xs → x ≡ get_or xs i x → M (trees_of (drop i xs)) ≡ max (m (tree_at x)) (M (trees_of (drop (i + 1) xs)))
   here x h e = ap M (view_laws.items xs i x h e) ∙ more (tree_at x) (trees_of (drop (i + 1) xs))
 
-  pub item_passed : (x : Item) → i < length xs → x ≡ get_or xs i x → m (tree_at x) ≤ n → Same (M (trees_of xs) ≤ n) (M (trees_of (drop i xs)) ≤ n) → Same (M (trees_of xs) ≤ n) (M (trees_of (drop (i + 1) xs)) ≤ n)
+  pub item_passed : (x : Item) → i < length xs → x ≡ get_or xs i x → m (tree_at x) ≤ n → Same (M (trees_of xs) ≤ n) (M (trees_of (drop i xs)) ≤ n) →
+      Same (M (trees_of xs) ≤ n) (M (trees_of (drop (i + 1) xs)) ≤ n)
   item_passed x h e f s = passed (M (trees_of xs)) (M (trees_of (drop i xs))) (M (trees_of (drop (i + 1) xs))) (m (tree_at x)) n (here x h e) f s
 
-  pub item_stopped : (x : Item) → i < length xs → x ≡ get_or xs i x → (m (tree_at x) ≤ n → ⊥) → Same (M (trees_of xs) ≤ n) (M (trees_of (drop i xs)) ≤ n) → Same (IsTrue false) (M (trees_of xs) ≤ n)
-  item_stopped x h e f s = ((λ t. absurd (true≢false (sym t))), λ w. absurd (stopped (M (trees_of xs)) (M (trees_of (drop i xs))) (M (trees_of (drop (i + 1) xs))) (m (tree_at x)) n (here x h e) f s w))
+  pub item_stopped : (x : Item) → i < length xs → x ≡ get_or xs i x → (m (tree_at x) ≤ n → ⊥) →
+      Same (M (trees_of xs) ≤ n) (M (trees_of (drop i xs)) ≤ n) → Same (IsTrue false) (M (trees_of xs) ≤ n)
+  item_stopped x h e f s = (
+    (λ t. absurd (true≢false (sym t))),
+    λ w. absurd
+        (stopped (M (trees_of xs)) (M (trees_of (drop i xs))) (M (trees_of (drop (i + 1) xs))) (m (tree_at x)) n (here x h e) f s w),
+  )
 
   pub items_ended : length xs ≤ i → Same (M (trees_of xs) ≤ n) (M (trees_of (drop i xs)) ≤ n) → Same (IsTrue true) (M (trees_of xs) ≤ n)
-  items_ended h s = ((λ t. ended (M (trees_of xs)) (M (trees_of (drop i xs))) n (ap (λ z. M (trees_of z)) (drop_all i xs h) ∙ ap M trees-none ∙ none) s), λ w. refl)
+  items_ended h s = (
+    (λ t. ended (M (trees_of xs)) (M (trees_of (drop i xs))) n (ap (λ z. M (trees_of z)) (drop_all i xs h) ∙ ap M trees-none ∙ none)
+        s),
+    λ w. refl,
+  )
 
 -- ---- sections
 
-module _ (M : Sections → ℕ) (m : Real.Section → ℕ) (none : M NoSection ≡ 0) (more : (c : Real.Section) (d : Sections) → M (before c d) ≡ max (m c) (M d)) (n : ℕ) (cs : List Real.Section) (i : ℕ) where
+module _ (M : Sections → ℕ) (m : Real.Section → ℕ) (none : M NoSection ≡ 0)
+    (more : (c : Real.Section) (d : Sections) → M (before c d) ≡ max (m c) (M d)) (n : ℕ) (cs : List Real.Section) (i : ℕ) where
   there : (c : Real.Section) → i < length cs → c ≡ get_or cs i c → M (sections_of (drop i cs)) ≡ max (m c) (M (sections_of (drop (i + 1) cs)))
   there c h e = ap M (view_laws.sections cs i c h e) ∙ more c (sections_of (drop (i + 1) cs))
 
-  pub section_passed : (c : Real.Section) → i < length cs → c ≡ get_or cs i c → m c ≤ n → Same (M (sections_of cs) ≤ n) (M (sections_of (drop i cs)) ≤ n) → Same (M (sections_of cs) ≤ n) (M (sections_of (drop (i + 1) cs)) ≤ n)
+  pub section_passed : (c : Real.Section) → i < length cs → c ≡ get_or cs i c → m c ≤ n →
+      Same (M (sections_of cs) ≤ n) (M (sections_of (drop i cs)) ≤ n) → Same (M (sections_of cs) ≤ n) (M (sections_of (drop (i + 1) cs)) ≤ n)
   section_passed c h e f s = passed (M (sections_of cs)) (M (sections_of (drop i cs))) (M (sections_of (drop (i + 1) cs))) (m c) n (there c h e) f s
 
-  pub section_stopped : (c : Real.Section) → i < length cs → c ≡ get_or cs i c → (m c ≤ n → ⊥) → Same (M (sections_of cs) ≤ n) (M (sections_of (drop i cs)) ≤ n) → Same (IsTrue false) (M (sections_of cs) ≤ n)
-  section_stopped c h e f s = ((λ t. absurd (true≢false (sym t))), λ w. absurd (stopped (M (sections_of cs)) (M (sections_of (drop i cs))) (M (sections_of (drop (i + 1) cs))) (m c) n (there c h e) f s w))
+  pub section_stopped : (c : Real.Section) → i < length cs → c ≡ get_or cs i c → (m c ≤ n → ⊥) →
+      Same (M (sections_of cs) ≤ n) (M (sections_of (drop i cs)) ≤ n) → Same (IsTrue false) (M (sections_of cs) ≤ n)
+  section_stopped c h e f s = (
+    (λ t. absurd (true≢false (sym t))),
+    λ w. absurd
+        (stopped (M (sections_of cs)) (M (sections_of (drop i cs))) (M (sections_of (drop (i + 1) cs))) (m c) n (there c h e) f s w),
+  )
 
   pub sections_ended : length cs ≤ i → Same (M (sections_of cs) ≤ n) (M (sections_of (drop i cs)) ≤ n) → Same (IsTrue true) (M (sections_of cs) ≤ n)
-  sections_ended h s = ((λ t. ended (M (sections_of cs)) (M (sections_of (drop i cs))) n (ap (λ z. M (sections_of z)) (drop_all i cs h) ∙ ap M sections-none ∙ none) s), λ w. refl)
+  sections_ended h s = (
+    (λ t. ended (M (sections_of cs)) (M (sections_of (drop i cs))) n
+        (ap (λ z. M (sections_of z)) (drop_all i cs h) ∙ ap M sections-none ∙ none) s),
+    λ w. refl,
+  )
 
 -- ---- any list
 
@@ -79,7 +101,8 @@ taken [] (suc i) h = refl
 taken (x ∷ xs) zero h = absurd (omega arith)
 taken (x ∷ xs) (suc i) h = let g : length xs ≤ i = omega arith in ap (λ z. x ∷ z) (taken xs i g)
 
-module _ {A : Type 0} (M : List A → ℕ) (m : A → ℕ) (none : M [] ≡ 0) (more : (x : A) (a : List A) → M (x ∷ a) ≡ max (m x) (M a)) (n : ℕ) (xs : List A) (i : ℕ) where
+module _ {A : Type 0} (M : List A → ℕ) (m : A → ℕ) (none : M [] ≡ 0) (more : (x : A) (a : List A) → M (x ∷ a) ≡ max (m x) (M a)) (n : ℕ) (xs : List A)
+    (i : ℕ) where
   at_it : (x : A) → i < length xs → x ≡ get_or xs i x → M (drop i xs) ≡ max (m x) (M (drop (i + 1) xs))
   at_it x h e = let k : suc i ≡ i + 1 = omega arith in ap M (dropped xs i x h e) ∙ more x (drop (suc i) xs) ∙ ap (λ j. max (m x) (M (drop j xs))) k
 

@@ -28,7 +28,8 @@ shown_once c a m n over again = elim (either m n) as (λ _. shows (run c n a) �
   | inr le ↦ sym (covers_over _ _ again (run_grows c n m a le))
 ]
 
-alike : (c d : Code) (a b : State) (n : ℕ) → AreSameRuns (λ k. shows (run c k a)) (λ k. shows (run d k b)) → IsOver (shows (run c n a)) → IsOver (shows (run d n b))
+alike : (c d : Code) (a b : State) (n : ℕ) → AreSameRuns (λ k. shows (run c k a)) (λ k. shows (run d k b)) → IsOver (shows (run c n a)) →
+    IsOver (shows (run d n b))
     → shows (run d n b) ≡ shows (run c n a)
 alike c d a b n h over again =
     let f = h.forth n in

@@ -40,7 +40,8 @@ pub one_program : (t : List ℕ) (p q : Program) → IsProgramOf t p → IsProgr
 one_program t p q h k = same_read _ p q (program_back t p h) (program_back t q k)
 
 -- the programs of a text and of what it is restructured to
-pub same : (t : List ℕ) (made : Output) (p q : Program) → IsResolved p → IsProgramOf t p → IsTextRestructured t made → IsProgramOf made.text q → BehaveTheSame p q
+pub same : (t : List ℕ) (made : Output) (p q : Program) → IsResolved p → IsProgramOf t p → IsTextRestructured t made → IsProgramOf made.text q →
+    BehaveTheSame p q
 same t made p q r h w k =
     let source = one_program t w.program p w.reads h in
     let result = one_program made.text w.result q w.reads_back k in

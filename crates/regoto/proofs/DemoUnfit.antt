@@ -15,7 +15,8 @@ use Rattle.c_text.specs.Reading.{IsProgramOf, IsRefusedFor}
 use Rattle.regoto.specs.Demos.{IsUnreadFor, Unshown}
 
 -- its program can't be run
-pub blocked_unfit : {T : Type 0} (said : List ℕ → Type 0) (t from : List ℕ) (p : Program) (r : Result T Status) → IsProgramOf t p → IfErr r (Unfit said (IsBlocked p) from)
+pub blocked_unfit : {T : Type 0} (said : List ℕ → Type 0) (t from : List ℕ) (p : Program) (r : Result T Status) → IsProgramOf t p →
+    IfErr r (Unfit said (IsBlocked p) from)
     → IfErr r (Unfit said (λ refusal. IsUnfit IsProgramOf IsRefusedFor refusal t) from)
 blocked_unfit said t from p r reads h =
     IfErr-weaker r (Unfit said (IsBlocked p) from) (Unfit said (λ refusal. IsUnfit IsProgramOf IsRefusedFor refusal t) from)

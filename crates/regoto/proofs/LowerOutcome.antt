@@ -18,7 +18,8 @@ read_or_tangled : (t : List ℕ) (p : Program) → IsReadOrTangled counted t p �
 read_or_tangled t p (inl read) = inl (program_as t p read)
 read_or_tangled t p (inr stopped) = inr (stopped.0, (refused_for t stopped.0 stopped.1.0, stopped.1.1))
 
-pub whole : (t : List ℕ) (made : Lowered) (p q : Program) → IsResolved p → IsProgramOf t p → IsLoweredProgram p q → BehaveTheSame p q → made.text ≡ text_of q → made.gotos ≡ program_gotos q → IsTextLowered t made
+pub whole : (t : List ℕ) (made : Lowered) (p q : Program) → IsResolved p → IsProgramOf t p → IsLoweredProgram p q → BehaveTheSame p q →
+    made.text ≡ text_of q → made.gotos ≡ program_gotos q → IsTextLowered t made
 whole t made p q resolved reads lowered behaves text gotos = record {
   program = p;
   reads = reads;
@@ -27,7 +28,8 @@ whole t made p q resolved reads lowered behaves text gotos = record {
   text = text;
   gotos = gotos;
   behaves = behaves;
-  faults = λ m. subst (λ bytes. IsProgramOrTangled bytes q) (sym text) (read_or_tangled (text_of q) q (lowered_reading_laws.lowered flat_counts p q resolved lowered m));
+  faults = λ m. subst (λ bytes. IsProgramOrTangled bytes q) (sym text)
+      (read_or_tangled (text_of q) q (lowered_reading_laws.lowered flat_counts p q resolved lowered m));
   reads_back = λ m o. subst (λ bytes. IsProgramOf bytes q) (sym text) (program_as (text_of q) q (lowered_reading_laws.reads_back p q resolved lowered m o));
 }
 

@@ -22,7 +22,8 @@ longer : (rejects : List ℕ → Refusal → Type 0) (before : Option Files) (re
 longer rejects None report h = (h.0, inl (h.1, refl))
 longer rejects (Some files) report h = (h.0, h.1, inl (h.2, refl))
 
-pub untaken_report : (said : List ℕ → Type 0) (rejects : List ℕ → Refusal → Type 0) (report : List ℕ) (before : Option Files) (reads reads' : ReadCounts) (result : Status)
+pub untaken_report : (said : List ℕ → Type 0) (rejects : List ℕ → Refusal → Type 0) (report : List ℕ) (before : Option Files)
+    (reads reads' : ReadCounts) (result : Status)
     → Untaken said 67108864 report before reads reads' result → Unreplayed said rejects report before reads reads' result
 untaken_report said rejects report before reads reads' (status.Refused refusal) u =
     subst (λ r. IsRejected said rejects report before r) (sym u.which) record { reason = longer rejects before report u.text; line = u.line }
@@ -38,7 +39,8 @@ untaken_report said rejects report before reads reads' status.Spent u = absurd u
 -- ---- where another read went before
 
 module _ (said : List ℕ → Type 0) (report : List ℕ) (before : Option Files) (f g h : ReadCounts) (grows : NotFewer f g) where
-  pub unreplayed_since : (rejects : List ℕ → Refusal → Type 0) (result : Status) → Unreplayed said rejects report before g h result → Unreplayed said rejects report before f h result
+  pub unreplayed_since : (rejects : List ℕ → Refusal → Type 0) (result : Status) → Unreplayed said rejects report before g h result →
+      Unreplayed said rejects report before f h result
   unreplayed_since rejects (status.Refused refusal) u = u
   unreplayed_since rejects status.Absent u = record { lacks = u.lacks; rose = rose_since f.absences g.absences h.absences grows.absences u.rose; line = u.line }
   unreplayed_since rejects status.ReadFault u = record { rose = rose_since f.faults g.faults h.faults grows.faults u.rose; line = u.line }
@@ -49,8 +51,10 @@ module _ (said : List ℕ → Type 0) (report : List ℕ) (before : Option Files
   unreplayed_since rejects (status.Trapped trap) u = absurd u
   unreplayed_since rejects status.Spent u = absurd u
 
-  pub replays_since : (gives : List ℕ → Translation → Type 0) (rejects : List ℕ → Refusal → Type 0) (to : List ℕ) (after : Option Files) (writes writes' : ℕ) (result : Status)
-      → ReplaysIn said gives rejects report to before after g h writes writes' result → ReplaysIn said gives rejects report to before after f h writes writes' result
+  pub replays_since : (gives : List ℕ → Translation → Type 0) (rejects : List ℕ → Refusal → Type 0) (to : List ℕ) (after : Option Files)
+      (writes writes' : ℕ) (result : Status)
+      → ReplaysIn said gives rejects report to before after g h writes writes' result →
+      ReplaysIn said gives rejects report to before after f h writes writes' result
   replays_since gives rejects to after writes writes' result r = elim r [
     | inl done ↦ inl done
     | inr not ↦ inr (not.0, unreplayed_since rejects result not.1)
@@ -85,7 +89,8 @@ module _ (reads : List ℕ → Program → Type 0) (refuses : List ℕ → Refus
     (one : (text : List ℕ) (p q : Program) → reads text p → reads text q → p ≡ q)
     (apart : (text : List ℕ) (p : Program) (refusal : Refusal) → reads text p → refuses text refusal → ⊥) where
   -- no program was read
-  pub unread_completes : (said : List ℕ → Type 0) (from report : List ℕ) (before : Option Files) (counts counts' : ReadCounts) (writes writes' : ℕ) (result : Status)
+  pub unread_completes : (said : List ℕ → Type 0) (from report : List ℕ) (before : Option Files) (counts counts' : ReadCounts) (writes writes' : ℕ)
+      (result : Status)
       → Untranslated said refuses from before counts counts' result → CompletesReplay reads accepts from report before counts counts' writes writes' result
   unread_completes said from report before counts counts' writes writes' result u = λ files text p lines told there short read held few inside still stay.
       translation_completes (λ t. (q : Program) × reads t q) refuses (λ t refusal has refused. apart t has.0 refusal has.1 refused)

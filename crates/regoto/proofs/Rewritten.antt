@@ -23,7 +23,8 @@ module _ (t : List ℕ) (out : Output) (r : IsTextRestructured t out) (can : Can
   resolved = subst IsResolved one (can r).0
 
   replayed : IsReplay p out.report r.result out.counts
-  replayed = restructured p r.result out.report r.moves out.counts resolved (subst (λ z. IsRestructured z r.result r.moves out.counts) one r.restructured) (can r).1 r.report
+  replayed = restructured p r.result out.report r.moves out.counts resolved
+      (subst (λ z. IsRestructured z r.result r.moves out.counts) one r.restructured) (can r).1 r.report
 
   accepted : IsAccepted p out.report
   accepted = (r.result, out.counts, replayed)

@@ -27,7 +27,8 @@ agreed answer.WriteFault s h = absurd h
 agreed answer.Memory s h = inr refl
 
 -- a reason for another one
-pub unfit_for : (said : List ℕ → Type 0) (P Q : Refusal → Type 0) (from : List ℕ) (result : Status) → ((r : Refusal) → P r → Q r) → Unfit said P from result → Unfit said Q from result
+pub unfit_for : (said : List ℕ → Type 0) (P Q : Refusal → Type 0) (from : List ℕ) (result : Status) → ((r : Refusal) → P r → Q r) →
+    Unfit said P from result → Unfit said Q from result
 unfit_for said P Q from (status.Refused refusal) f h = (f refusal h.0, h.1)
 unfit_for said P Q from status.Memory f h = h
 unfit_for said P Q from status.Done f h = absurd h
@@ -66,25 +67,31 @@ module _ (gives : List ℕ → Program → Type 0) (refuses : List ℕ → Refus
     | inr blocked ↦ runnable_not_blocked p refusal can (subst (λ q. IsBlocked q refusal) (one text blocked.0 p blocked.1 reads) blocked.2)
   ]
 
-  taken_not : (refusal : Refusal) (text : List ℕ) (p : Program) → length text ≤ 67108864 → gives text p → IsRunnable p → IsTooLongOrUnfit gives refuses refusal text → ⊥
+  taken_not : (refusal : Refusal) (text : List ℕ) (p : Program) → length text ≤ 67108864 → gives text p → IsRunnable p →
+      IsTooLongOrUnfit gives refuses refusal text → ⊥
   taken_not refusal text p short reads can h = elim h [
     | inl long ↦ let above = long.0 in omega arith
     | inr whole ↦ unfit_not refusal text p reads can whole.1
   ]
 
   -- no run was begun
-  pub completes : (said : List ℕ → Type 0) (from : List ℕ) (steps : ℕ) (before : Option Files) (reads reads' : ReadCounts) (rest : Option (List ℕ)) (inputs inputs' faults faults' : ℕ) (result : Status)
+  pub completes : (said : List ℕ → Type 0) (from : List ℕ) (steps : ℕ) (before : Option Files) (reads reads' : ReadCounts) (rest : Option (List ℕ))
+      (inputs inputs' faults faults' : ℕ) (result : Status)
       → Unrun said gives refuses from before reads reads' result → CompletesRun gives from steps before reads reads' rest inputs inputs' faults faults' result
   completes said from steps before reads reads' rest inputs inputs' faults faults' status.Done h = absurd h
-  completes said from steps before reads reads' rest inputs inputs' faults faults' (status.Refused refusal) h = λ files text p input told there short given can tells still stays keeps.
+  completes said from steps before reads reads' rest inputs inputs' faults faults' (status.Refused refusal) h =
+      λ files text p input told there short given can tells still stays keeps.
       absurd (taken_not refusal text p short given can (handed before files from text (IsTooLongOrUnfit gives refuses refusal) told there h.reason))
   completes said from steps before reads reads' rest inputs inputs' faults faults' status.Usage h = absurd h
-  completes said from steps before reads reads' rest inputs inputs' faults faults' status.Memory h = λ files text p input told there short given can tells still stays keeps. inr refl
-  completes said from steps before reads reads' rest inputs inputs' faults faults' status.ReadFault h = λ files text p input told there short given can tells still stays keeps. absurd (still h.rose)
+  completes said from steps before reads reads' rest inputs inputs' faults faults' status.Memory h =
+      λ files text p input told there short given can tells still stays keeps. inr refl
+  completes said from steps before reads reads' rest inputs inputs' faults faults' status.ReadFault h =
+      λ files text p input told there short given can tells still stays keeps. absurd (still h.rose)
   completes said from steps before reads reads' rest inputs inputs' faults faults' status.WriteFault h = absurd h
   completes said from steps before reads reads' rest inputs inputs' faults faults' (status.Trapped trap) h = absurd h
   completes said from steps before reads reads' rest inputs inputs' faults faults' status.Spent h = absurd h
-  completes said from steps before reads reads' rest inputs inputs' faults faults' status.Absent h = λ files text p input told there short given can tells still stays keeps.
+  completes said from steps before reads reads' rest inputs inputs' faults faults' status.Absent h =
+      λ files text p input told there short given can tells still stays keeps.
       absurd (lacking before files from text told there h.lacks)
 
   -- the program that was run is the one of the text

@@ -17,7 +17,8 @@ use Rattle.regoto.specs.Runnable.{EntersMain}
 abbrev TakesNone : FunctionTree → Type 0
 TakesNone g = g.params ≡ 0
 
-here : (b c : Bool) (f : Function) (o : Option FunctionTree) → (b ≡ true → IsMainForm f) → IfSome o TakesNone → IfSome (cond (b && c) (Some (function_tree f)) o) TakesNone
+here : (b c : Bool) (f : Function) (o : Option FunctionTree) → (b ≡ true → IsMainForm f) → IfSome o TakesNone →
+    IfSome (cond (b && c) (Some (function_tree f)) o) TakesNone
 here true true f o h rest = (h refl).parameters
 here true false f o h rest = rest
 here false c f o h rest = rest
@@ -41,7 +42,11 @@ no_slot ss n e = rw e (search rules)
 pub enters : (p : Program) → IsResolved p → EntersMain p
 enters p h main =
     let none = first (function_in _ (codes "main") p.tops) (function_in _ (codes "main") p.tops) (found _ p.tops h.main) (found _ p.tops h.main) in
-    record { defined = main; numbers = no_slot (function_named (codes "main") p.tops).slots (function_named (codes "main") p.tops).params none; given = sym none }
+    record {
+      defined = main;
+      numbers = no_slot (function_named (codes "main") p.tops).slots (function_named (codes "main") p.tops).params none;
+      given = sym none;
+    }
 
 pub enters_of : (r : Result Program ReadStop) → IfOk r IsResolved → IfOk r EntersMain
 enters_of (Ok p) h = enters p h

@@ -32,8 +32,10 @@ same_made : (a b : Tidied) → a.text ≡ b.text → a.changes ≡ b.changes →
 same_made a b e f = λ i. record { text = e i; changes = f i }
 
 -- a text that reads as p, the plain form of p, and the end of that one
-module _ (t : List ℕ) (p plain q : Program) (ms : List Move) (reads : IsProgramOf t p) (made : Tidied) (tidied : IsTidied plain made.changes q) (text : made.text ≡ text_of q) where
-  module _ (counts : Counts) (unjumped : text_jump t ≡ None) (resolved : IsResolved p) (w : IsRestructured p plain ms counts) (ready : IsResolved plain) (free : is_plain_program plain ≡ true) (b : BehavesAsStructured p plain) where
+module _ (t : List ℕ) (p plain q : Program) (ms : List Move) (reads : IsProgramOf t p) (made : Tidied) (tidied : IsTidied plain made.changes q)
+    (text : made.text ≡ text_of q) where
+  module _ (counts : Counts) (unjumped : text_jump t ≡ None) (resolved : IsResolved p) (w : IsRestructured p plain ms counts)
+      (ready : IsResolved plain) (free : is_plain_program plain ≡ true) (b : BehavesAsStructured p plain) where
     ends : ReadsBack plain made.changes q
     ends = ends_read_back plain made.changes q ready (end_law.free plain ready free) tidied
 

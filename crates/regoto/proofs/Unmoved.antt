@@ -39,7 +39,8 @@ module _ (used file : List (List ℕ)) where
   one_function : (f g : Function) → f.flat ≡ false → has_jumps (body_of f) ≡ false → IsFlattened used file f g → (g.flat ≡ false) × (g.slots ≡ f.slots)
   one_function f g e h w = by f.body refl w.form w.is w.whole
     where
-      by : (o : Option (List Item)) → f.body ≡ o → (form : Form) → IsFormBeside (with_known used) (with_known file) (record f { body = o }) form → g ≡ applied form f → (g.flat ≡ false) × (g.slots ≡ f.slots)
+      by : (o : Option (List Item)) → f.body ≡ o → (form : Form) → IsFormBeside (with_known used) (with_known file) (record f { body = o }) form →
+          g ≡ applied form f → (g.flat ≡ false) × (g.slots ≡ f.slots)
       by None i form m v =
           let same : g ≡ f = v ∙ ap (λ z. applied z f) m in
           (ap (λ (z : Function). z.flat) same ∙ e, ap (λ (z : Function). z.slots) same)
@@ -51,7 +52,8 @@ module _ (used file : List (List ℕ)) where
   one_top s h (fd_function {f} {g} w l) = let k = one_function f g s h w in (k.0, ap length k.1)
   one_top s h (fd_other t n) = (s, refl)
 
-  all_tops : {ts us : List Top} → AllByRecursion IsTopUnflat ts → AllByRecursion TopLacksJumps ts → FlattenedTops used file ts us → AllByRecursion IsTopUnflat us × (variables us ≡ variables ts)
+  all_tops : {ts us : List Top} → AllByRecursion IsTopUnflat ts → AllByRecursion TopLacksJumps ts → FlattenedTops used file ts us →
+      AllByRecursion IsTopUnflat us × (variables us ≡ variables ts)
   all_tops s h fd_none = (tt, refl)
   all_tops s h (fd_more w r) =
       let k = one_top s.0 h.0 w in
@@ -67,7 +69,8 @@ unmoved s (mt_more (mt_other t n) r) = let k = unmoved s.1 r in (k.0, ap (λ z. 
 
 -- ---- the plain form has the same variables
 
-chosen : (ns : List (List ℕ)) (f : Function) (body : List Item) (b : Bool) → b ≡ false → (if b then with_guard_variables ns f body else record f { body = Some (tidied body) }).slots ≡ f.slots
+chosen : (ns : List (List ℕ)) (f : Function) (body : List Item) (b : Bool) → b ≡ false →
+    (if b then with_guard_variables ns f body else record f { body = Some (tidied body) }).slots ≡ f.slots
 chosen ns f body true e = absurd (true≢false e)
 chosen ns f body false e = refl
 
@@ -81,14 +84,16 @@ plain_slots ns f e = by f.body
 none_more : (m n : ℕ) → n ≡ m → n - m ≡ 0
 none_more m n e = omega (arith, e)
 
-plain_one : (name : Function → List (List ℕ)) (t : Top) → IsTopUnflat t → (guards_between t (plain_top name t) ≡ 0) × (variables_in (plain_top name t) ≡ variables_in t)
+plain_one : (name : Function → List (List ℕ)) (t : Top) → IsTopUnflat t →
+    (guards_between t (plain_top name t) ≡ 0) × (variables_in (plain_top name t) ≡ variables_in t)
 plain_one name (T.Function f) s = let k = ap length (plain_slots (name f) f s) in (none_more (length f.slots) (length (plain_function (name f) f).slots) k, k)
 plain_one name (T.Include bytes) s = (refl, refl)
 plain_one name (T.Enum xs) s = (refl, refl)
 plain_one name (T.Global g) s = (refl, refl)
 plain_one name (T.Note bytes) s = (refl, refl)
 
-plain_all : (name : Function → List (List ℕ)) (ts : List Top) → AllByRecursion IsTopUnflat ts → (guards_from ts (map (plain_top name) ts) ≡ 0) × (variables (map (plain_top name) ts) ≡ variables ts)
+plain_all : (name : Function → List (List ℕ)) (ts : List Top) → AllByRecursion IsTopUnflat ts →
+    (guards_from ts (map (plain_top name) ts) ≡ 0) × (variables (map (plain_top name) ts) ≡ variables ts)
 plain_all name [] s = (refl, refl)
 plain_all name (t ∷ ts) s =
     let k = plain_one name t s.0 in
@@ -103,13 +108,15 @@ counted_none moved made e = ap (λ n. record { jumps = 0; moves = 0; guards = co
 module _ (p q : Program) (ms : List Move) (counts : Counts) (r : IsResolved p) (lacks : All TopLacksJumps p.tops) (w : IsRestructured p q ms counts) where
   flattened : AllByRecursion IsTopUnflat w.rewritten.flat.tops × (variables w.rewritten.flat.tops ≡ variables p.tops)
   flattened =
-      all_tops (names p) (file_names p) (recursion_from_All IsTopUnflat p.tops (resolved_laws.unflat flat_counts p r)) (recursion_from_All TopLacksJumps p.tops lacks)
+      all_tops (names p) (file_names p) (recursion_from_All IsTopUnflat p.tops (resolved_laws.unflat flat_counts p r))
+      (recursion_from_All TopLacksJumps p.tops lacks)
       w.rewritten.flattened
 
   moved : (ms ≡ []) × (w.moved.tops ≡ w.rewritten.flat.tops)
   moved = unmoved flattened.0 w.rewritten.moved
 
-  last : (guards_from w.moved.tops (map (plain_top (guard_names (names p))) w.moved.tops) ≡ 0) × (variables (map (plain_top (guard_names (names p))) w.moved.tops) ≡ variables w.moved.tops)
+  last : (guards_from w.moved.tops (map (plain_top (guard_names (names p))) w.moved.tops) ≡ 0) ×
+      (variables (map (plain_top (guard_names (names p))) w.moved.tops) ≡ variables w.moved.tops)
   last = plain_all (guard_names (names p)) w.moved.tops (subst (AllByRecursion IsTopUnflat) (sym moved.1) flattened.0)
 
   pub no_moves : ms ≡ []

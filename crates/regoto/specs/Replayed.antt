@@ -17,7 +17,8 @@ abbrev pub IsTooLongOrRejected : (List ℕ → Refusal → Type 0) → Refusal �
 IsTooLongOrRejected rejects refusal text = ((67108864 < length text) × (refusal ≡ too_long)) ⊎ ((length text ≤ 67108864) × rejects text refusal)
 
 -- the report is refused, for this reason and at this place, and the line names its file
-pub record IsRejected (said : List ℕ → Type 0) (rejects : List ℕ → Refusal → Type 0) (report : List ℕ) (before : Option Files) (refusal : Refusal) : Type 0 where
+pub record IsRejected (said : List ℕ → Type 0) (rejects : List ℕ → Refusal → Type 0) (report : List ℕ) (before : Option Files) (refusal : Refusal) :
+    Type 0 where
   pub reason : HandsOver before report (IsTooLongOrRejected rejects refusal)
   pub line : said (refusal_line report refusal)
 

@@ -31,7 +31,8 @@ Replays said reads refuses gives rejects from report to before after counts coun
 
 -- Where the shelf holds a text of at most 1,048,576 bytes that reads as a program and a report of at most 67,108,864 bytes
 -- that this accepts, and no read or write fails, the job is done or memory is refused.
-abbrev pub CompletesReplay : (List ℕ → Program → Type 0) → (Program → List ℕ → Type 0) → List ℕ → List ℕ → Option Files → ReadCounts → ReadCounts → ℕ → ℕ → Status → Type 0
+abbrev pub CompletesReplay : (List ℕ → Program → Type 0) → (Program → List ℕ → Type 0) → List ℕ → List ℕ → Option Files → ReadCounts → ReadCounts →
+    ℕ → ℕ → Status → Type 0
 CompletesReplay reads accepts from report before counts counts' writes writes' result =
     (files : Files) (text : List ℕ) (p : Program) (lines : List ℕ) → before ≡ Some files → get files from ≡ Some text → length text ≤ 1048576
     → reads text p → get files report ≡ Some lines → length lines ≤ 67108864 → accepts p lines

@@ -37,13 +37,15 @@ pub record IsRestructuredTo (text : List ℕ) (made : Translation) : Type 0 wher
 
 -- Each status, with what it says of the files before and after, of the counts of failed reads and writes
 -- before and after, and of the line that was said.
-abbrev pub Restructures : (List ℕ → Type 0) → List ℕ → List ℕ → Option (List ℕ) → Option Files → Option Files → ReadCounts → ReadCounts → ℕ → ℕ → Status → Type 0
+abbrev pub Restructures : (List ℕ → Type 0) → List ℕ → List ℕ → Option (List ℕ) → Option Files → Option Files → ReadCounts → ReadCounts → ℕ → ℕ →
+    Status → Type 0
 Restructures said from to report before after reads reads' writes writes' status =
     Writes said IsRestructuredTo IsRefusedFor from to report before after reads reads' writes writes' status
 
 -- Each status of the commands that write the text or the report to `out`, with what is told of the bytes written to `out` and
 -- `err` and of the counts of failed writes there, before and after; `untouched` says that nothing was done to `out`.
-abbrev pub ShowsRestructured : List ℕ → Part → Option Files → ReadCounts → ReadCounts → Type 0 → Written → Written → ℕ → ℕ → Written → Written → ℕ → ℕ → Status → Type 0
+abbrev pub ShowsRestructured : List ℕ → Part → Option Files → ReadCounts → ReadCounts → Type 0 → Written → Written → ℕ → ℕ → Written → Written → ℕ →
+    ℕ → Status → Type 0
 ShowsRestructured from part before reads reads' untouched out out' faults faults' err err' told told' status =
     Shows IsRestructuredTo IsRefusedFor from part before reads reads' untouched out out' faults faults' err err' told told' status
 

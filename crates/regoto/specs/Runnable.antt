@@ -46,7 +46,8 @@ IsUnfit gives refuses refusal text = refuses text refusal ⊎ ((p : Program) × 
 
 -- it has more than 67,108,864 bytes, or else it is unfit
 abbrev pub IsTooLongOrUnfit : (List ℕ → Program → Type 0) → (List ℕ → Refusal → Type 0) → Refusal → List ℕ → Type 0
-IsTooLongOrUnfit gives refuses refusal text = ((67108864 < length text) × (refusal ≡ too_long)) ⊎ ((length text ≤ 67108864) × IsUnfit gives refuses refusal text)
+IsTooLongOrUnfit gives refuses refusal text = ((67108864 < length text) × (refusal ≡ too_long)) ⊎
+    ((length text ≤ 67108864) × IsUnfit gives refuses refusal text)
 
 -- the text is refused, for this reason and at this place
 pub record IsRefusedToRun (said : List ℕ → Type 0) (gives : List ℕ → Program → Type 0) (refuses : List ℕ → Refusal → Type 0) (from : List ℕ)
@@ -55,7 +56,8 @@ pub record IsRefusedToRun (said : List ℕ → Type 0) (gives : List ℕ → Pro
   pub line : said (refusal_line from refusal)
 
 -- Why a command ends without a run, by its status, and the line that was said.
-abbrev pub Unrun : (List ℕ → Type 0) → (List ℕ → Program → Type 0) → (List ℕ → Refusal → Type 0) → List ℕ → Option Files → ReadCounts → ReadCounts → Status → Type 0
+abbrev pub Unrun : (List ℕ → Type 0) → (List ℕ → Program → Type 0) → (List ℕ → Refusal → Type 0) → List ℕ → Option Files → ReadCounts → ReadCounts →
+    Status → Type 0
 Unrun said gives refuses from before reads reads' (status.Refused refusal) = IsRefusedToRun said gives refuses from before refusal
 Unrun said gives refuses from before reads reads' status.Absent = IsAbsent said from before reads reads'
 Unrun said gives refuses from before reads reads' status.ReadFault = IsReadFault said reads reads'

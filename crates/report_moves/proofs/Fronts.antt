@@ -14,7 +14,8 @@ use Rattle.report_moves.specs.declared.moves.MoveKind.TheVariants.{Out, Lift, In
 use Rattle.report_moves.specs.Report.{Of, is_no_space, is_no_dot, is_name, kind_text, branch_text, IsBranch}
 
 -- a front of one class, and a byte of another: both are given by the whole
-pub front_unique : (d : ℕ → Bool) (f g r s : List ℕ) (a b : ℕ) → Of d f → Of d g → d a ≡ false → d b ≡ false → f ++ a ∷ r ≡ g ++ b ∷ s → (f ≡ g) × (a ≡ b) × (r ≡ s)
+pub front_unique : (d : ℕ → Bool) (f g r s : List ℕ) (a b : ℕ) → Of d f → Of d g → d a ≡ false → d b ≡ false → f ++ a ∷ r ≡ g ++ b ∷ s →
+    (f ≡ g) × (a ≡ b) × (r ≡ s)
 front_unique d [] [] r s a b p q x y e = let h : a ≡ b = cc in let t : r ≡ s = cc in (refl, h, t)
 front_unique d [] (c ∷ g) r s a b p q x y e = let h : a ≡ c = cc in absurd (false≢true (sym x ∙ ap d h ∙ q.0))
 front_unique d (c ∷ f) [] r s a b p q x y e = let h : b ≡ c = cc in absurd (false≢true (sym y ∙ ap d h ∙ p.0))
@@ -40,7 +41,8 @@ pub digit_no_dot : (c : ℕ) → is_digit c ≡ true → is_no_dot c ≡ true
 digit_no_dot c h = grind (arith, nat_tests)
 
 pub digits : (n : ℕ) → n < 2 ^ 64 → Of is_digit (decimal n)
-digits n h = digits_decimal (numerals_by_value (Of is_digit) (record { empty = tt; parts = λ c cs p. (grind (arith, nat_tests), p.1); more = λ c cs r p. (grind (arith, nat_tests), p) })) n h
+digits n h = digits_decimal (numerals_by_value (Of is_digit)
+    (record { empty = tt; parts = λ c cs p. (grind (arith, nat_tests), p.1); more = λ c cs r p. (grind (arith, nat_tests), p) })) n h
 
 -- ---- the parts of a line
 

@@ -69,15 +69,19 @@ path_unique [] [] i j r s p q m n e =
     let u = front_unique is_digit (decimal i) (decimal j) r s 10 10 (digits i (omega arith)) (digits j (omega arith)) refl refl e in
     (refl, number_unique i j m n u.0, u.2)
 path_unique [] (t ∷ ts) i j r s p q m n e =
-    let u = front_unique is_digit (decimal i) (decimal t.item) r (branch_text t.branch ++ 46 ∷ steps_text ts (decimal j ++ 10 ∷ s)) 10 46 (digits i (omega arith)) (digits t.item (omega (arith, q.0))) refl refl e in
+    let u = front_unique is_digit (decimal i) (decimal t.item) r (branch_text t.branch ++ 46 ∷ steps_text ts (decimal j ++ 10 ∷ s)) 10 46
+    (digits i (omega arith)) (digits t.item (omega (arith, q.0))) refl refl e in
     absurd (marks_differ 10 46 refl refl u.1)
 path_unique (t ∷ ts) [] i j r s p q m n e =
-    let u = front_unique is_digit (decimal t.item) (decimal j) (branch_text t.branch ++ 46 ∷ steps_text ts (decimal i ++ 10 ∷ r)) s 46 10 (digits t.item (omega (arith, p.0))) (digits j (omega arith)) refl refl e in
+    let u = front_unique is_digit (decimal t.item) (decimal j) (branch_text t.branch ++ 46 ∷ steps_text ts (decimal i ++ 10 ∷ r)) s 46 10
+    (digits t.item (omega (arith, p.0))) (digits j (omega arith)) refl refl e in
     absurd (marks_differ 10 46 refl refl (sym u.1))
 path_unique (t ∷ ts) (w ∷ ws) i j r s p q m n e =
-    let u = front_unique is_digit (decimal t.item) (decimal w.item) (branch_text t.branch ++ 46 ∷ steps_text ts (decimal i ++ 10 ∷ r)) (branch_text w.branch ++ 46 ∷ steps_text ws (decimal j ++ 10 ∷ s)) 46 46
+    let u = front_unique is_digit (decimal t.item) (decimal w.item) (branch_text t.branch ++ 46 ∷ steps_text ts (decimal i ++ 10 ∷ r))
+    (branch_text w.branch ++ 46 ∷ steps_text ws (decimal j ++ 10 ∷ s)) 46 46
     (digits t.item (omega (arith, p.0))) (digits w.item (omega (arith, q.0))) refl refl e in
-    let v = front_unique is_no_dot (branch_text t.branch) (branch_text w.branch) (steps_text ts (decimal i ++ 10 ∷ r)) (steps_text ws (decimal j ++ 10 ∷ s)) 46 46
+    let v = front_unique is_no_dot (branch_text t.branch) (branch_text w.branch) (steps_text ts (decimal i ++ 10 ∷ r))
+    (steps_text ws (decimal j ++ 10 ∷ s)) 46 46
     (branch_front t.branch p.1) (branch_front w.branch q.1) refl refl u.2 in
     let more = path_unique ts ws i j r s p.2 q.2 m n v.2 in
     let a : t.item ≡ w.item = number_unique t.item w.item p.0 q.0 u.0 in
@@ -98,9 +102,11 @@ same_path a b p q = ap (λ (z : List Step). record a { steps = z }) p ∙ ap (λ
 
 pub line_unique : (m n : Move) (r s : List ℕ) → IsReportable m → IsReportable n → move_text m r ≡ move_text n s → (m ≡ n) × (r ≡ s)
 line_unique m n r s p q e =
-    let a = front_unique is_no_space m.function n.function (kind_text m.kind ++ 32 ∷ (label_text m.label ++ 32 ∷ path_text m.path (10 ∷ r))) (kind_text n.kind ++ 32 ∷ (label_text n.label ++ 32 ∷ path_text n.path (10 ∷ s))) 32 32
+    let a = front_unique is_no_space m.function n.function (kind_text m.kind ++ 32 ∷ (label_text m.label ++ 32 ∷ path_text m.path (10 ∷ r)))
+    (kind_text n.kind ++ 32 ∷ (label_text n.label ++ 32 ∷ path_text n.path (10 ∷ s))) 32 32
     (name_front m.function p.function) (name_front n.function q.function) refl refl e in
-    let b = front_unique is_no_space (kind_text m.kind) (kind_text n.kind) (label_text m.label ++ 32 ∷ path_text m.path (10 ∷ r)) (label_text n.label ++ 32 ∷ path_text n.path (10 ∷ s)) 32 32
+    let b = front_unique is_no_space (kind_text m.kind) (kind_text n.kind) (label_text m.label ++ 32 ∷ path_text m.path (10 ∷ r))
+    (label_text n.label ++ 32 ∷ path_text n.path (10 ∷ s)) 32 32
     (kind_front m.kind) (kind_front n.kind) refl refl a.2 in
     let k = kind_unique m.kind n.kind b.0 in
     let c = front_unique is_no_space (label_text m.label) (label_text n.label) (path_text m.path (10 ∷ r)) (path_text n.path (10 ∷ s)) 32 32

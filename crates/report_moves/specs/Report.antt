@@ -28,12 +28,15 @@ kind_text Z5 = codes "z5"
 -- the simplification that is spelled so
 abbrev pub kind_of_z : List ℕ → Option MoveKind
 kind_of_z w =
-    cond (bytes_eq w (codes "z1")) (Some Z1) (cond (bytes_eq w (codes "z2")) (Some Z2) (cond (bytes_eq w (codes "z3")) (Some Z3) (cond (bytes_eq w (codes "z4")) (Some Z4) (cond (bytes_eq w (codes "z5")) (Some Z5) None))))
+    cond (bytes_eq w (codes "z1")) (Some Z1)
+    (cond (bytes_eq w (codes "z2")) (Some Z2) (cond (bytes_eq w (codes "z3")) (Some Z3)
+    (cond (bytes_eq w (codes "z4")) (Some Z4) (cond (bytes_eq w (codes "z5")) (Some Z5) None))))
 
 -- the kind that is spelled so
 abbrev pub kind_of : List ℕ → Option MoveKind
 kind_of w =
-    cond (bytes_eq w (codes "out")) (Some Out) (cond (bytes_eq w (codes "lift")) (Some Lift) (cond (bytes_eq w (codes "in")) (Some Inward) (cond (bytes_eq w (codes "join")) (Some Join) (kind_of_z w))))
+    cond (bytes_eq w (codes "out")) (Some Out) (cond (bytes_eq w (codes "lift")) (Some Lift)
+    (cond (bytes_eq w (codes "in")) (Some Inward) (cond (bytes_eq w (codes "join")) (Some Join) (kind_of_z w))))
 
 -- the name of the label, or `-` where the move has none
 abbrev pub label_text : Option (List ℕ) → List ℕ

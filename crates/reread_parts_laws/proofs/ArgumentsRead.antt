@@ -127,9 +127,11 @@ module _ (n : Names) (env : Env) where
   all_given at NoArgument = refl
   all_given at (Argument x xs) = given_is xs at x
 
-  given_clear : (xs : Arguments) (at : ℕ) (x : ExpressionTree) → AllPass at (Argument x xs) → (vs : Faults) → given_faults env (terms_of at (Argument x xs)) vs ≡ vs
+  given_clear : (xs : Arguments) (at : ℕ) (x : ExpressionTree) → AllPass at (Argument x xs) → (vs : Faults) →
+      given_faults env (terms_of at (Argument x xs)) vs ≡ vs
   given_clear NoArgument at x h vs = (h.0).clear vs
-  given_clear (Argument y ys) at x h vs = ap (λ l. given_faults env (terms_of (behind at x + 1) (Argument y ys)) l) ((h.0).clear vs) ∙ given_clear ys (behind at x + 1) y (h.1) vs
+  given_clear (Argument y ys) at x h vs = ap (λ l. given_faults env (terms_of (behind at x + 1) (Argument y ys)) l) ((h.0).clear vs) ∙ given_clear ys
+      (behind at x + 1) y (h.1) vs
 
   all_clear : (at : ℕ) (xs : Arguments) → AllPass at xs → (vs : Faults) → given_faults env (terms_of at xs) vs ≡ vs
   all_clear at NoArgument h vs = refl
@@ -152,7 +154,8 @@ module _ (n : Names) (env : Env) where
     handed_is : handed g.typed ≡ e ∷ []
     clear : (vs : Faults) → argument_fault w g.first g.typed vs ≡ vs
 
-  one_more : (w : Want) (g : Given) (e : Expression) (ws : List Want) (gs : List Given) (es : List Expression) → FitsOne w g e → Fitting ws gs es → Fitting (w ∷ ws) (g ∷ gs) (e ∷ es)
+  one_more : (w : Want) (g : Given) (e : Expression) (ws : List Want) (gs : List Given) (es : List Expression) → FitsOne w g e → Fitting ws gs es →
+      Fitting (w ∷ ws) (g ∷ gs) (e ∷ es)
   one_more w g e ws gs es f r = record {
     count = ap suc (r.count);
     each = λ i. f.fits_is i && r.each i;
@@ -166,7 +169,8 @@ module _ (n : Names) (env : Env) where
   value_typed at (t.Typed kind (t.Array a)) h y p = absurd h.operand
   value_typed at (t.Typed kind _) h y p = p
 
-  number_fits : (kind : IntKind) (constant : Bool) (at : ℕ) (x : ExpressionTree) → HasValue x → Passes at x → FitsOne (want.Number kind constant) (given_of at x) (expression_in x)
+  number_fits : (kind : IntKind) (constant : Bool) (at : ℕ) (x : ExpressionTree) → HasValue x → Passes at x →
+      FitsOne (want.Number kind constant) (given_of at x) (expression_in x)
   number_fits kind constant at x h p =
       let v = has_valued x (h.kind) in
       let e = value_typed at x h (form_typed env (passed_form at x)) (p.typed) ∙ v.typed in
@@ -176,7 +180,8 @@ module _ (n : Names) (env : Env) where
         clear = λ vs. ap (λ y. argument_fault (want.Number kind constant) at y vs) e;
       }
 
-  sized_fits : (wide : Bool) (at : ℕ) (x : ExpressionTree) → HasValue x → resolved.is_wide (kind_of x) ≡ wide → Passes at x → FitsOne (want.Sized wide) (given_of at x) (expression_in x)
+  sized_fits : (wide : Bool) (at : ℕ) (x : ExpressionTree) → HasValue x → resolved.is_wide (kind_of x) ≡ wide → Passes at x →
+      FitsOne (want.Sized wide) (given_of at x) (expression_in x)
   sized_fits wide at x h s p =
       let v = has_valued x (h.kind) in
       let e = value_typed at x h (form_typed env (passed_form at x)) (p.typed) ∙ v.typed in
@@ -188,9 +193,11 @@ module _ (n : Names) (env : Env) where
         clear = λ vs. ap (λ y. argument_fault (want.Sized wide) at y vs) e ∙ ap (λ b. fault_if (not b) at 40 vs) same;
       }
 
-  array_fits : (defined : Bool) (s : Slot) (at : ℕ) (x : ExpressionTree) → IsArrayFor n defined s x → Passes at x → FitsOne (want.Array s.kind s.constant (not defined)) (given_of at x) (expression_in x)
+  array_fits : (defined : Bool) (s : Slot) (at : ℕ) (x : ExpressionTree) → IsArrayFor n defined s x → Passes at x →
+      FitsOne (want.Array s.kind s.constant (not defined)) (given_of at x) (expression_in x)
   array_fits defined s at (t.Typed kind (t.Array h)) f p =
-      let y = there (names.variable n h) (λ v. (form_typed env (passed_form at (t.Typed kind (t.Array h))) ≡ Array (array_name at h v)) × (kind ≡ Some v.kind)) (p.typed) in
+      let y = there (names.variable n h) (λ v. (form_typed env (passed_form at (t.Typed kind (t.Array h))) ≡ Array (array_name at h v)) ×
+      (kind ≡ Some v.kind)) (p.typed) in
       let v = y.slot in
       let e = (y.holds).0 in
       let k = (y.holds).1 in
@@ -209,7 +216,8 @@ module _ (n : Names) (env : Env) where
   array_fits defined s at _ f p = absurd f
 
   -- an argument for a parameter
-  parameter_fits : (defined : Bool) (s : Slot) (at : ℕ) (x : ExpressionTree) → ArgumentFits n defined s x → Passes at x → FitsOne (want_of defined s) (given_of at x) (expression_in x)
+  parameter_fits : (defined : Bool) (s : Slot) (at : ℕ) (x : ExpressionTree) → ArgumentFits n defined s x → Passes at x →
+      FitsOne (want_of defined s) (given_of at x) (expression_in x)
   parameter_fits defined s at x f p = by_cells s.cells f
     where
       by_cells : (cells : Option ℕ) → FitsCells cells (HasValue x) (IsArrayFor n defined s x)
@@ -217,7 +225,8 @@ module _ (n : Names) (env : Env) where
       by_cells None h = number_fits s.kind s.constant at x h p
       by_cells (Some k) h = array_fits defined s at x h p
 
-  parameters_fit : (defined : Bool) (ss : List Slot) (xs : Arguments) (at : ℕ) → ArgumentsFit n defined ss xs → AllPass at xs → Fitting (map (want_of defined) ss) (givens at xs) (arguments_in xs)
+  parameters_fit : (defined : Bool) (ss : List Slot) (xs : Arguments) (at : ℕ) → ArgumentsFit n defined ss xs → AllPass at xs →
+      Fitting (map (want_of defined) ss) (givens at xs) (arguments_in xs)
   parameters_fit defined [] NoArgument at f p = none_fits
   parameters_fit defined (s ∷ ss) (Argument x xs) at f p =
       one_more (want_of defined s) (given_of at x) (expression_in x) (map (want_of defined) ss) (givens (behind at x + 1) xs) (arguments_in xs)
@@ -240,15 +249,18 @@ module _ (n : Names) (env : Env) where
   call_is result m front es ws gs f =
       (λ i. cond (eq-eqb (length ws) (length gs) (f.count) i && f.each i) (of_result result (node.Call m (front ++ f.handed_is i))) Wrong)
 
-  wanted_clear : (at reason : ℕ) (es : List Expression) (ws : List Want) (gs : List Given) → Fitting ws gs es → (vs : Faults) → wanted_faults at reason ws gs vs ≡ vs
-  wanted_clear at reason es ws gs f vs = ap (λ b. cond b (argument_faults ws gs vs) (fault at reason (text_faults gs vs))) (eq-eqb (length ws) (length gs) (f.count)) ∙ f.clear vs
+  wanted_clear : (at reason : ℕ) (es : List Expression) (ws : List Want) (gs : List Given) → Fitting ws gs es → (vs : Faults) →
+      wanted_faults at reason ws gs vs ≡ vs
+  wanted_clear at reason es ws gs f vs = ap (λ b. cond b (argument_faults ws gs vs) (fault at reason (text_faults gs vs)))
+      (eq-eqb (length ws) (length gs) (f.count)) ∙ f.clear vs
 
   -- what a call is, by what its name is bound to
   record Called (at : ℕ) (m : List ℕ) (kind : Option IntKind) (o : Option Binding) (gs : List Given) (es : List Expression) : Type 0 where
     typed : called m o gs ≡ of_result kind (node.Call m es)
     clear : (vs : Faults) → call_faults at o gs vs ≡ vs
 
-  plain_called : (at : ℕ) (m : List ℕ) (kind : Option IntKind) (s : names.Signature) (gs : List Given) (es : List Expression) → kind ≡ s.result → Fitting (map (want_of s.defined) s.parameters) gs es
+  plain_called : (at : ℕ) (m : List ℕ) (kind : Option IntKind) (s : names.Signature) (gs : List Given) (es : List Expression) → kind ≡ s.result →
+      Fitting (map (want_of s.defined) s.parameters) gs es
       → Called at m kind (function_of (Plain s)) gs es
   plain_called at m kind s gs es k f =
       let ws = map (want_of s.defined) s.parameters in
@@ -266,25 +278,33 @@ module _ (n : Names) (env : Env) where
       let wants : read.wanted bytes ≡ Some (map want.Sized ws) = format_is bytes ∙ ap (option_map (map want.Sized)) w in
       record {
         typed = ap (λ o. formatted m o gs) text ∙ ap (λ o. printing m bytes o gs) wants
-            ∙ call_is (Some K.Int) m (expression_of None (node.Text bytes) ∷ []) es (map want.Sized ws) gs f ∙ (λ i. of_result (sym k i) (node.Call m (expression_of None (node.Text bytes) ∷ es)));
+            ∙ call_is (Some K.Int) m (expression_of None (node.Text bytes) ∷ []) es (map want.Sized ws) gs f ∙
+            (λ i. of_result (sym k i) (node.Call m (expression_of None (node.Text bytes) ∷ es)));
         clear = λ vs. ap (λ o. format_faults at o gs vs) text ∙ ap (λ o. printing_faults at o gs vs) wants ∙ wanted_clear at 40 es (map want.Sized ws) gs f vs;
       }
 
-  format_fits : (at first : ℕ) (m : List ℕ) (kind : Option IntKind) (xs : Arguments) → kind ≡ Some K.Int → FormatFits xs → AllPass first xs → Called at m kind (Some binding.Printf) (givens first xs) (arguments_in xs)
+  format_fits : (at first : ℕ) (m : List ℕ) (kind : Option IntKind) (xs : Arguments) → kind ≡ Some K.Int → FormatFits xs → AllPass first xs →
+      Called at m kind (Some binding.Printf) (givens first xs) (arguments_in xs)
   format_fits at first m kind NoArgument k f p = absurd f
   format_fits at first m kind (Argument (t.Typed none (t.Text bytes)) xs) k f p = by_wanted (wanted bytes) refl f
     where
-      by_wanted : (o : Option (List Bool)) → wanted bytes ≡ o → IsSomeAnd o (λ ws. ValuesFit ws xs) → Called at m kind (Some binding.Printf) (givens first (Argument (t.Typed none (t.Text bytes)) xs)) (arguments_in (Argument (t.Typed none (t.Text bytes)) xs))
+      by_wanted : (o : Option (List Bool)) → wanted bytes ≡ o → IsSomeAnd o (λ ws. ValuesFit ws xs) →
+          Called at m kind (Some binding.Printf) (givens first (Argument (t.Typed none (t.Text bytes)) xs))
+          (arguments_in (Argument (t.Typed none (t.Text bytes)) xs))
       by_wanted None w h = absurd h
       by_wanted (Some ws) w h =
           let e = (p.0).typed in
-          subst (λ o. Called at m kind (Some binding.Printf) (givens first (Argument (t.Typed none (t.Text bytes)) xs)) (expression_of o (node.Text bytes) ∷ arguments_in xs)) (sym (e.1))
-          (format_called at m kind bytes ws (given_of first (t.Typed none (t.Text bytes))) (givens (behind first (t.Typed none (t.Text bytes)) + 1) xs) (arguments_in xs) k w (e.0)
+          subst (λ o. Called at m kind (Some binding.Printf) (givens first (Argument (t.Typed none (t.Text bytes)) xs))
+          (expression_of o (node.Text bytes) ∷ arguments_in xs)) (sym (e.1))
+          (format_called at m kind bytes ws (given_of first (t.Typed none (t.Text bytes)))
+          (givens (behind first (t.Typed none (t.Text bytes)) + 1) xs) (arguments_in xs) k w (e.0)
           (values_fit ws xs (behind first (t.Typed none (t.Text bytes)) + 1) h (p.1)))
   format_fits at first m kind (Argument _ xs) k f p = absurd f
 
-  call_fits : (at first : ℕ) (m : List ℕ) (kind : Option IntKind) (c : Callee) (xs : Arguments) → CallFits n kind c xs → AllPass first xs → Called at m kind (function_of c) (givens first xs) (arguments_in xs)
-  call_fits at first m kind (Plain s) xs f p = plain_called at m kind s (givens first xs) (arguments_in xs) (f.0) (parameters_fit s.defined s.parameters xs first (f.1) p)
+  call_fits : (at first : ℕ) (m : List ℕ) (kind : Option IntKind) (c : Callee) (xs : Arguments) → CallFits n kind c xs → AllPass first xs →
+      Called at m kind (function_of c) (givens first xs) (arguments_in xs)
+  call_fits at first m kind (Plain s) xs f p = plain_called at m kind s (givens first xs) (arguments_in xs) (f.0)
+      (parameters_fit s.defined s.parameters xs first (f.1) p)
   call_fits at first m kind Printf xs f p = format_fits at first m kind xs (f.0) (f.1) p
   call_fits at first m kind Unknown xs f p = absurd f
 
@@ -293,7 +313,8 @@ module _ (n : Names) (env : Env) where
     pub typed : form_typed env form ≡ of_result kind (node.Call m (arguments_in xs))
     pub clear : (vs : Faults) → form_faults env form vs ≡ vs
 
-  pub call_reads : (at : ℕ) (m : List ℕ) (kind : Option IntKind) (xs : Arguments) → env.word at ≡ m → meaning env at ≡ function_of (callee n m) → CallFits n kind (callee n m) xs → AllPass (at + 1 + 1) xs
+  pub call_reads : (at : ℕ) (m : List ℕ) (kind : Option IntKind) (xs : Arguments) → env.word at ≡ m → meaning env at ≡ function_of (callee n m) →
+      CallFits n kind (callee n m) xs → AllPass (at + 1 + 1) xs
       → CallReads (unary_form at (call_of (arguments_of xs))) m kind xs
   call_reads at m kind xs w b f p =
       let first = at + 1 + 1 in

@@ -68,7 +68,8 @@ no_exits b c h = record { breaks_are = λ e. omega (arith, h); continues_are = �
 
 module _ (counts : FlatCounts) (ts : List Top) (f : Function) (ctx : Context) (r : IsResolvedFunction counts ts f) (result : ctx.result ≡ f.result)
     (labels : (l : ℕ) → l < length f.labels → found (label_name f l) ctx.labels ≡ Some l) where
-  pub body_good : (ss : List Scope) → ItemsPrint f (body_of f) → AreBound f.slots ss (body_of f) → AreGood (names_in ts f) f ctx ss f.params no_construct (body_of f)
+  pub body_good : (ss : List Scope) → ItemsPrint f (body_of f) → AreBound f.slots ss (body_of f) →
+      AreGood (names_in ts f) f ctx ss f.params no_construct (body_of f)
   body_good ss p b =
       let xs = body_of f in
       let nm = names_in ts f in
@@ -77,25 +78,32 @@ module _ (counts : FlatCounts) (ts : List Top) (f : Function) (ctx : Context) (r
       let two = both_everywhere (Both (HasSourceForm f) (ItemAgrees nm)) (ReturnFits f.result) xs one r.returns in
       let three = both_everywhere (Both (Both (HasSourceForm f) (ItemAgrees nm)) (ReturnFits f.result)) HasCases xs two r.cases in
       let four = both_everywhere (Both (Both (Both (HasSourceForm f) (ItemAgrees nm)) (ReturnFits f.result)) HasCases) (KeepsConsts nm) xs three r.consts in
-      let all = both_everywhere (Both (Both (Both (Both (HasSourceForm f) (ItemAgrees nm)) (ReturnFits f.result)) HasCases) (KeepsConsts nm)) (IsInitialised f.slots) xs four r.initialised in
+      let all = both_everywhere (Both (Both (Both (Both (HasSourceForm f) (ItemAgrees nm)) (ReturnFits f.result)) HasCases) (KeepsConsts nm))
+      (IsInitialised f.slots) xs four r.initialised in
       let count : slots_in xs ≡ length f.slots - f.params = sym (slots_counted xs) ∙ ap length form.slots ∙ counted f.params (length f.slots - f.params) in
-      good_in ts f ctx result labels (λ k s low e. length_at (drop f.params f.slots) (k - f.params) s r.lengths.others (behind f.slots f.params k low ∙ e)) xs ss f.params no_construct all p b
-      (form.slots ∙ ap (numbers_from f.params) (sym count)) (subst (λ ls. Each (λ l. l < length f.labels) ls) (sym form.labels) (all_below 0 (length f.labels) (length f.labels) (omega arith))) (omega arith)
+      good_in ts f ctx result labels (λ k s low e. length_at (drop f.params f.slots) (k - f.params) s r.lengths.others
+      (behind f.slots f.params k low ∙ e)) xs ss f.params no_construct all p b
+      (form.slots ∙ ap (numbers_from f.params) (sym count)) (subst (λ ls. Each (λ l. l < length f.labels) ls) (sym form.labels)
+      (all_below 0 (length f.labels) (length f.labels) (omega arith))) (omega arith)
       (no_exits (breaks xs) (continues xs) form.exits)
 
 -- ---- it reads back
 
-module _ (counts : FlatCounts) (ts : List Top) (f : Function) (word : ℕ → List ℕ) (notes : Anchor → List (List ℕ)) (x : tops.Function) (tokens : List Spelling) where
+module _ (counts : FlatCounts) (ts : List Top) (f : Function) (word : ℕ → List ℕ) (notes : Anchor → List (List ℕ)) (x : tops.Function)
+    (tokens : List Spelling) where
   -- with the labels of the function itself
   abbrev own : Context
   own = record { word = word; notes = notes; labels = numbers f.labels; result = f.result }
 
-  pub resolved_reads : (ss : List Scope) (w : Walk) (at depth : ℕ) (body : List Item) (ps : List Piece) → IsBody counts ts f ss body → AreWords word tokens → result_kind word x ≡ f.result → Standing (names_in ts f) ss f.params w
-      → NotesOfBody f.slots notes at (trees_of body) → Stands tokens at (braced (map (printed f) body) depth ps) → ResolvedBodyReads ts f word notes x tokens ss w at body ps
+  pub resolved_reads : (ss : List Scope) (w : Walk) (at depth : ℕ) (body : List Item) (ps : List Piece) → IsBody counts ts f ss body →
+      AreWords word tokens → result_kind word x ≡ f.result → Standing (names_in ts f) ss f.params w
+      → NotesOfBody f.slots notes at (trees_of body) → Stands tokens at (braced (map (printed f) body) depth ps) →
+      ResolvedBodyReads ts f word notes x tokens ss w at body ps
   resolved_reads ss w at depth body ps h words result st p b =
       let e : body_of f ≡ trees_of body = ap (λ o. option_map_or trees_of o Nil) (h.is) in
       let g = subst (λ xs. AreGood (names_in ts f) f own ss f.params no_construct xs) e
-      (body_good counts ts f own (h.resolved) refl (λ l k. labels_found f.labels (h.labels) l k) ss (subst (ItemsPrint f) (sym e) (h.prints)) (subst (AreBound f.slots ss) (sym e) (h.bound))) in
+      (body_good counts ts f own (h.resolved) refl (λ l k. labels_found f.labels (h.labels) l k) ss (subst (ItemsPrint f) (sym e) (h.prints))
+      (subst (AreBound f.slots ss) (sym e) (h.bound))) in
       let r = body_reads ts f own tokens words ss f.params w at depth body ps st g p b in
       let block = written_block at (items_of f.slots (trees_of body) NoItems) in
       let marks : gathered marked_label (trees_of body) ≡ numbers_from 0 (length f.labels) = ap (gathered marked_label) (sym e) ∙ h.resolved.form.labels in

@@ -43,7 +43,8 @@ module _ (ts : List Top) (f : Function) (ctx : Context) (tokens : List Spelling)
   names_end [] = refl
   names_end (x ∷ ns) = ap (λ l. x ∷ l) (names_end ns)
 
-  pub body_reads : (ss : List Scope) (k : ℕ) (w : Walk) (at depth : ℕ) (xs : List Item) (ps : List Piece) → Standing (names_in ts f) ss k w → AreGood (names_in ts f) f ctx ss k no_construct (trees_of xs)
+  pub body_reads : (ss : List Scope) (k : ℕ) (w : Walk) (at depth : ℕ) (xs : List Item) (ps : List Piece) → Standing (names_in ts f) ss k w →
+      AreGood (names_in ts f) f ctx ss k no_construct (trees_of xs)
       → NotesOfBody f.slots ctx.notes at (trees_of xs) → Stands tokens at (braced (map (printed f) xs) depth ps) → BodyReads ts f ctx tokens ss k w at xs ps
   body_reads ss k w at depth xs ps h g p b =
       let a = trees_of xs in
@@ -57,9 +58,12 @@ module _ (ts : List Top) (f : Function) (ctx : Context) (tokens : List Spelling)
       record {
         keywords = u.keywords NoItems tt;
         items = (λ i. list_items ctx (e i) w ++ map item.Note (p.1 i))
-            ∙ ap (λ l. l ++ map item.Note (trailing [] a)) (u.items source.NoItem ∙ nothing_behind (settled ts f ctx tokens words [] a)) ∙ all_settled ts f ctx tokens words a [] ∙ items_whole f xs;
-        standing = subst (λ v. Standing (names_in ts f) (behind_all f.slots ss a) (k + slots_in a) v) (sym (ap (λ l. behind_items ctx l w) e ∙ behind_front ts f ctx tokens words a (at + 1) source.NoItem w)) (u.standing);
+            ∙ ap (λ l. l ++ map item.Note (trailing [] a)) (u.items source.NoItem ∙ nothing_behind (settled ts f ctx tokens words [] a)) ∙
+            all_settled ts f ctx tokens words a [] ∙ items_whole f xs;
+        standing = subst (λ v. Standing (names_in ts f) (behind_all f.slots ss a) (k + slots_in a) v)
+            (sym (ap (λ l. behind_items ctx l w) e ∙ behind_front ts f ctx tokens words a (at + 1) source.NoItem w)) (u.standing);
         clear = λ vs. ap (λ l. list_faults ctx no_construct l w vs) e ∙ u.clear source.NoItem vs;
         labels = ap (λ l. map ctx.word (list_labels l [])) e ∙ u.labels source.NoItem [] ∙ names_end (names_of ts f ctx tokens words (gathered marked_label a));
-        behind = as_end f.slots tokens ctx.word words (items_end (at + 1) (items_of f.slots a NoItems) + 1) (x + 1) ps (ap (λ i. i + 1) (end_front ts f ctx tokens words a (at + 1) NoItems)) c;
+        behind = as_end f.slots tokens ctx.word words (items_end (at + 1) (items_of f.slots a NoItems) + 1) (x + 1) ps
+            (ap (λ i. i + 1) (end_front ts f ctx tokens words a (at + 1) NoItems)) c;
       }

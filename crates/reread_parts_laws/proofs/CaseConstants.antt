@@ -68,11 +68,13 @@ worth_is x h = by_value (constant_value x) h
     by_value None h = cc
     by_value (Some v) h = refl
 
-pub constant_here : (env : Env) (form : _) (x : ExpressionTree) → Reads env form x → IsConstantValue x → constant_of (form_typed env form) ≡ Some (expression_in x, worth x)
+pub constant_here : (env : Env) (form : _) (x : ExpressionTree) → Reads env form x → IsConstantValue x →
+    constant_of (form_typed env form) ≡ Some (expression_in x, worth x)
 constant_here env form x r h = ap constant_of (r.typed) ∙ constant_is x (worth x) (h.kind) (constant_same x (h.constant)) (worth_is x (h.untrapped))
 
 -- and it breaks no rule
-pub constant_clear : (env : Env) (first : ℕ) (form : _) (x : ExpressionTree) → Reads env form x → IsConstantValue x → (vs : Faults) → constant_faults env (At first form) vs ≡ vs
+pub constant_clear : (env : Env) (first : ℕ) (form : _) (x : ExpressionTree) → Reads env form x → IsConstantValue x → (vs : Faults) →
+    constant_faults env (At first form) vs ≡ vs
 constant_clear env first form x r h vs = λ i. fault_if (not (is_some (constant_here env form x r h i))) first 34 (used_clear env form x r (h.kind) first vs i)
 
 -- ---- the cases of a section
@@ -81,7 +83,8 @@ module _ (env : Env) where
   -- each is read
   abbrev pub CasesRead : ℕ → List ExpressionTree → Type 0
   CasesRead at [] = Unit {0}
-  CasesRead at (x ∷ xs) = Reads env (conditional_form (at + 1) (conditional_of x)) x × IsConstantValue x × CasesRead (conditional_end (at + 1) (conditional_of x) + 1) xs
+  CasesRead at (x ∷ xs) = Reads env (conditional_form (at + 1) (conditional_of x)) x × IsConstantValue x ×
+      CasesRead (conditional_end (at + 1) (conditional_of x) + 1) xs
 
   pub constants_are : (xs : List ExpressionTree) (at : ℕ) → CasesRead at xs → (ctx : _) → case_constants ctx env at xs ≡ map expression_in xs
   constants_are [] at h ctx = refl
@@ -90,7 +93,8 @@ module _ (env : Env) where
       λ i. ap constant_or_placeholder (constant_here env (conditional_form (at + 1) (conditional_of x)) x (h.0) (h.1)) i ∷ constants_are xs y (h.2) ctx i
 
   -- no violation but in a place outside of a switch
-  pub cases_clear : (xs : List ExpressionTree) (at : ℕ) (default : Bool) → CasesRead at xs → (vs : Faults) → labels_faults env true (section_list at xs default []) vs ≡ vs
+  pub cases_clear : (xs : List ExpressionTree) (at : ℕ) (default : Bool) → CasesRead at xs → (vs : Faults) →
+      labels_faults env true (section_list at xs default []) vs ≡ vs
   cases_clear [] at false h vs = refl
   cases_clear [] at true h vs = refl
   cases_clear (x ∷ xs) at default h vs =
@@ -113,7 +117,8 @@ module _ (env : Env) where
   nothing_behind [] = refl
   nothing_behind (x ∷ xs) = ap (λ l. x ∷ l) (nothing_behind xs)
 
-  pub entries_are : (xs : List ExpressionTree) (at : ℕ) (default : Bool) (found : List Entry) → CasesRead at xs → label_entries env (section_list at xs default []) found ≡ found ++ section_entries at xs default
+  pub entries_are : (xs : List ExpressionTree) (at : ℕ) (default : Bool) (found : List Entry) → CasesRead at xs →
+      label_entries env (section_list at xs default []) found ≡ found ++ section_entries at xs default
   entries_are [] at false found h = nothing_behind found
   entries_are [] at true found h = refl
   entries_are (x ∷ xs) at default found h =
@@ -140,7 +145,8 @@ match_both (Some x ∷ ls) ms (Other at ∷ es) fs h k = absurd h
 match_both (None ∷ ls) ms [] fs h k = absurd h
 match_both (None ∷ ls) ms (Value at v ∷ es) fs h k = absurd h
 
-pub section_match : (env : Env) (xs : List ExpressionTree) (at : ℕ) (default : Bool) → CasesRead env at xs → Match (section_labels xs default) (section_entries env at xs default)
+pub section_match : (env : Env) (xs : List ExpressionTree) (at : ℕ) (default : Bool) → CasesRead env at xs →
+    Match (section_labels xs default) (section_entries env at xs default)
 section_match env [] at false h = tt
 section_match env [] at true h = tt
 section_match env (x ∷ xs) at default h = (worth_is x (h.1.untrapped), section_match env xs (conditional_end (at + 1) (conditional_of x) + 1) default (h.2))
@@ -189,14 +195,16 @@ module _ (kind : IntKind) where
   one_default false n h = refl
   one_default true n h = let e = h refl in absurd (omega (arith, e))
 
-  fine : (ls : List (Option ExpressionTree)) (es : List Entry) (seen : List ℤ) (default : Bool) (vs : Faults) → Match ls es → AllDiffer (map (case_number kind) (cases_among ls)) → Each (NotSeen seen) (map (case_number kind) (cases_among ls))
+  fine : (ls : List (Option ExpressionTree)) (es : List Entry) (seen : List ℤ) (default : Bool) (vs : Faults) → Match ls es →
+      AllDiffer (map (case_number kind) (cases_among ls)) → Each (NotSeen seen) (map (case_number kind) (cases_among ls))
       → (default ≡ true → defaults_among ls ≡ 0) → defaults_among ls ≤ 1 → entry_faults kind seen default es vs ≡ vs
   fine [] [] seen default vs m d n o p = refl
   fine (Some x ∷ ls) (Value at v ∷ es) seen default vs m d n o p =
       let u = converted kind v in
       let e : case_number kind x ≡ Some u = ap (option_map (converted kind)) (m.0) in
       let here : is_among u seen ≡ false = subst (NotSeen seen) e (n.0) in
-      let later = unseen seen u (map (case_number kind) (cases_among ls)) (subst (λ q. Each (λ o. o ≢ q) (map (case_number kind) (cases_among ls))) e (d.0)) (n.1) in
+      let later = unseen seen u (map (case_number kind) (cases_among ls))
+      (subst (λ q. Each (λ o. o ≢ q) (map (case_number kind) (cases_among ls))) e (d.0)) (n.1) in
       ap (λ b. entry_faults kind (with_value u seen) default es (fault_if b at 30 vs)) here ∙ fine ls es (with_value u seen) default vs (m.1) (d.1) later o p
   fine (None ∷ ls) (Other at ∷ es) seen default vs m d n o p =
       let e : default ≡ false = one_default default (defaults_among ls) o in
@@ -213,5 +221,6 @@ module _ (kind : IntKind) where
   none_seen (Some u ∷ os) = (refl, none_seen os)
 
   -- no violation among the entries of a switch
-  pub entries_clear : (ls : List (Option ExpressionTree)) (es : List Entry) → Match ls es → AreLabels kind ls → (vs : Faults) → entry_faults kind [] false es vs ≡ vs
+  pub entries_clear : (ls : List (Option ExpressionTree)) (es : List Entry) → Match ls es → AreLabels kind ls → (vs : Faults) →
+      entry_faults kind [] false es vs ≡ vs
   entries_clear ls es m h vs = fine ls es [] false vs m (h.distinct) (none_seen (map (case_number kind) (cases_among ls))) (λ e. cc) (h.single)

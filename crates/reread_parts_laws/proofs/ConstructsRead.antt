@@ -63,7 +63,8 @@ module _ (ts : List Top) (f : Function) (ctx : Context) (tokens : List Spelling)
     pub clear : (vs : Faults) → value_faults (env_at ctx w) (expression_term at (test_of c)) vs ≡ vs
     pub behind_it : Stands tokens (expression_end at (test_of c) + 1) ps
 
-  pub test_read : (c : TestTree) (ss : List Scope) (k : ℕ) (w : Walk) (at : ℕ) (ps : List Piece) → Standing (names_in ts f) ss k w → IsTest (names_in ts f) f ctx ss c → Stands tokens at (test_text f.slots (test_in c) ps) → TestRead w (at + 1) c ps
+  pub test_read : (c : TestTree) (ss : List Scope) (k : ℕ) (w : Walk) (at : ℕ) (ps : List Piece) → Standing (names_in ts f) ss k w →
+      IsTest (names_in ts f) f ctx ss c → Stands tokens at (test_text f.slots (test_in c) ps) → TestRead w (at + 1) c ps
   test_read (Source x) ss k w at ps h g s =
       let m = a_mark ts f ctx tokens words at (codes "(") ((test_step f.slots (out-Test (test.Source (expression_in x))) ⨾ punctuator (codes ")")) ps) s in
       let b = subst (λ (y : Text). Stands tokens (at + 1) ((y ⨾ punctuator (codes ")")) ps)) (test_is f.slots (expression_in x)) m in
@@ -87,14 +88,18 @@ module _ (ts : List Top) (f : Function) (ctx : Context) (tokens : List Spelling)
     pub items : body_items ctx (written_body at x) w ≡ forest_in a
     pub standing : Standing (names_in ts f) ss (k + slots_in a) (behind_body ctx (written_body at x) w)
     pub clear : (vs : Faults) → body_faults ctx around (written_body at x) w vs ≡ vs
-    pub labels : (rest : List ℕ) → map ctx.word (body_labels (written_body at x) rest) ≡ names_of ts f ctx tokens words (gathered marked_label a) ++ map ctx.word rest
+    pub labels : (rest : List ℕ) → map ctx.word (body_labels (written_body at x) rest) ≡ names_of ts f ctx tokens words (gathered marked_label a) ++
+        map ctx.word rest
 
   nothing_behind : (xs : List Item) → xs ++ [] ≡ xs
   nothing_behind [] = refl
   nothing_behind (x ∷ xs) = ap (λ l. x ∷ l) (nothing_behind xs)
 
-  pub braced_read : (a : Forest) → ReadsList ts f ctx tokens words a → (ss : List Scope) (k : ℕ) (around : Around) (w : Walk) (at depth : ℕ) (ps : List Piece) → Standing (names_in ts f) ss k w → AreGood (names_in ts f) f ctx (inside ss) k around a
-      → NotesOfBody f.slots ctx.notes at a → Stands tokens at (braced (printed_forest f a) depth ps) → BodyRead ss k around w at (block (items_of f.slots a NoItems)) a ps
+  pub braced_read : (a : Forest) → ReadsList ts f ctx tokens words a →
+      (ss : List Scope) (k : ℕ) (around : Around) (w : Walk) (at depth : ℕ) (ps : List Piece) → Standing (names_in ts f) ss k w →
+      AreGood (names_in ts f) f ctx (inside ss) k around a
+      → NotesOfBody f.slots ctx.notes at a → Stands tokens at (braced (printed_forest f a) depth ps) →
+      BodyRead ss k around w at (block (items_of f.slots a NoItems)) a ps
   braced_read a r ss k around w at depth ps h g p s =
       let end = (indentation depth ⨾ punctuator (codes "}")) ps in
       let m = a_mark ts f ctx tokens words at (codes "{") (newline (list_text (printed_forest f a) (deeper depth) end)) s in
@@ -103,12 +108,16 @@ module _ (ts : List Top) (f : Function) (ctx : Context) (tokens : List Spelling)
       let b = a_mark ts f ctx tokens words x (codes "}") ps (past_indentation tokens x (punctuator (codes "}") ps) depth (u.behind_it)) in
       let e = written_front ts f ctx tokens words a (at + 1) NoItems in
       record {
-        behind_it = as_end f.slots tokens ctx.word words (items_end (at + 1) (items_of f.slots a NoItems) + 1) (x + 1) ps (ap (λ i. i + 1) (end_front ts f ctx tokens words a (at + 1) NoItems)) b;
+        behind_it = as_end f.slots tokens ctx.word words (items_end (at + 1) (items_of f.slots a NoItems) + 1) (x + 1) ps
+            (ap (λ i. i + 1) (end_front ts f ctx tokens words a (at + 1) NoItems)) b;
         keywords = u.keywords NoItems tt;
         items = (λ i. list_items ctx (e i) (enter w) ++ map item.Note (p.1 i))
-            ∙ ap (λ l. l ++ map item.Note (trailing [] a)) (u.items source.NoItem ∙ nothing_behind (settled ts f ctx tokens words [] a)) ∙ all_settled ts f ctx tokens words a [];
-        standing = subst (λ v. Standing (names_in ts f) ss (k + slots_in a) (leave w v)) (sym (ap (λ l. behind_items ctx l (enter w)) e ∙ behind_front ts f ctx tokens words a (at + 1) source.NoItem (enter w)))
-            (left (names_in ts f) ss (behind_all f.slots (inside ss) a) k (k + slots_in a) w (passed ts f ctx tokens words (at + 1) a (enter w)) h (u.standing));
+            ∙ ap (λ l. l ++ map item.Note (trailing [] a)) (u.items source.NoItem ∙ nothing_behind (settled ts f ctx tokens words [] a)) ∙
+            all_settled ts f ctx tokens words a [];
+        standing = subst (λ v. Standing (names_in ts f) ss (k + slots_in a) (leave w v))
+            (sym (ap (λ l. behind_items ctx l (enter w)) e ∙ behind_front ts f ctx tokens words a (at + 1) source.NoItem (enter w)))
+            (left (names_in ts f) ss (behind_all f.slots (inside ss) a) k (k + slots_in a) w (passed ts f ctx tokens words (at + 1) a (enter w)) h
+            (u.standing));
         labels = λ rest. ap (λ l. map ctx.word (list_labels l rest)) e ∙ u.labels source.NoItem rest;
         clear = λ vs. ap (λ l. list_faults ctx around l (enter w) vs) e ∙ u.clear source.NoItem vs;
       }
@@ -118,11 +127,19 @@ module _ (ts : List Top) (f : Function) (ctx : Context) (tokens : List Spelling)
   pub block_reads : (a : Forest) → ReadsList ts f ctx tokens words a → ReadsOne ts f ctx tokens words (t.Block a)
   block_reads a r ss k around w at depth ps h g p s =
       let u = braced_read a r ss k around w at depth (newline ps) h g p s in
-      record { behind_it = u.behind_it; keywords = u.keywords; items = λ i. notes_at ctx (Before at) ++ item.Block (u.items i) ∷ []; standing = u.standing; clear = u.clear; labels = u.labels }
+      record {
+        behind_it = u.behind_it;
+        keywords = u.keywords;
+        items = λ i. notes_at ctx (Before at) ++ item.Block (u.items i) ∷ [];
+        standing = u.standing;
+        clear = u.clear;
+        labels = u.labels;
+      }
 
   pub while_reads : (c : TestTree) (a : Forest) → ReadsList ts f ctx tokens words a → ReadsOne ts f ctx tokens words (t.While c a)
   while_reads c a r ss k around w at depth ps h g p s =
-      let m = keyword_here ts f ctx tokens words at (codes "while") ((space ⨾ test_text f.slots (test_in c) ⨾ space ⨾ braced (printed_forest f a) depth ⨾ newline) ps) s in
+      let m = keyword_here ts f ctx tokens words at (codes "while")
+      ((space ⨾ test_text f.slots (test_in c) ⨾ space ⨾ braced (printed_forest f a) depth ⨾ newline) ps) s in
       let o = test_read c ss k w (at + 1) ((space ⨾ braced (printed_forest f a) depth ⨾ newline) ps) h (g.0) (m.1) in
       let x = expression_end (at + 1 + 1) (test_of c) + 1 in
       let u = braced_read a r ss k (in_loop around) w x depth (newline ps) h (g.1) p (o.behind_it) in
@@ -160,17 +177,21 @@ module _ (ts : List Top) (f : Function) (ctx : Context) (tokens : List Spelling)
   else_statement x xs = cond (is_lone_if x xs) (statement_of f.slots x) (block (placed f.slots x (statement_of f.slots x) (items_of f.slots xs NoItems)))
 
   abbrev pub else_lines : Tree → Forest → ℕ → Text
-  else_lines x xs depth = cond (text.is_lone_if (printed_forest f (Then x xs))) ((printed_tree f x).lines depth) (braced (printed_forest f (Then x xs)) depth ⨾ newline)
+  else_lines x xs depth = cond (text.is_lone_if (printed_forest f (Then x xs))) ((printed_tree f x).lines depth)
+      (braced (printed_forest f (Then x xs)) depth ⨾ newline)
 
   abbrev pub ReadsElse : Forest → Type 0
   ReadsElse Nil = Unit {0}
   ReadsElse (Then x xs) =
-      (ss : List Scope) (k : ℕ) (around : Around) (w : Walk) (at depth : ℕ) (ps : List Piece) → Standing (names_in ts f) ss k w → AreGood (names_in ts f) f ctx (inside ss) k around (Then x xs)
-      → NotesOfElse f.slots ctx.notes at (Then x xs) → Stands tokens at (else_lines x xs depth ps) → BodyRead ss k around w at (else_statement x xs) (Then x xs) ps
+      (ss : List Scope) (k : ℕ) (around : Around) (w : Walk) (at depth : ℕ) (ps : List Piece) → Standing (names_in ts f) ss k w →
+      AreGood (names_in ts f) f ctx (inside ss) k around (Then x xs)
+      → NotesOfElse f.slots ctx.notes at (Then x xs) → Stands tokens at (else_lines x xs depth ps) →
+      BodyRead ss k around w at (else_statement x xs) (Then x xs) ps
 
   pub if_reads : (c : TestTree) (a b : Forest) → ReadsList ts f ctx tokens words a → ReadsElse b → ReadsOne ts f ctx tokens words (t.If c a b)
   if_reads c a Nil r q ss k around w at depth ps h g p s =
-      let m = keyword_here ts f ctx tokens words at (codes "if") ((space ⨾ test_text f.slots (test_in c) ⨾ space ⨾ braced (printed_forest f a) depth ⨾ newline) ps) s in
+      let m = keyword_here ts f ctx tokens words at (codes "if")
+      ((space ⨾ test_text f.slots (test_in c) ⨾ space ⨾ braced (printed_forest f a) depth ⨾ newline) ps) s in
       let o = test_read c ss k w (at + 1) ((space ⨾ braced (printed_forest f a) depth ⨾ newline) ps) h (g.0) (m.1) in
       let x = expression_end (at + 1 + 1) (test_of c) + 1 in
       let u = braced_read a r ss k around w x depth (newline ps) h (g.1) (p.0) (o.behind_it) in
@@ -185,7 +206,8 @@ module _ (ts : List Top) (f : Function) (ctx : Context) (tokens : List Spelling)
       }
   if_reads c a (Then y ys) r q ss k around w at depth ps h g p s =
       let behind_list = (space ⨾ word (codes "else") ⨾ space ⨾ else_lines y ys depth) ps in
-      let m = keyword_here ts f ctx tokens words at (codes "if") ((space ⨾ test_text f.slots (test_in c) ⨾ space ⨾ braced (printed_forest f a) depth) behind_list) s in
+      let m = keyword_here ts f ctx tokens words at (codes "if")
+      ((space ⨾ test_text f.slots (test_in c) ⨾ space ⨾ braced (printed_forest f a) depth) behind_list) s in
       let o = test_read c ss k w (at + 1) ((space ⨾ braced (printed_forest f a) depth) behind_list) h (g.0) (m.1) in
       let x = expression_end (at + 1 + 1) (test_of c) + 1 in
       let t1 = block (items_of f.slots a NoItems) in
@@ -201,7 +223,8 @@ module _ (ts : List Top) (f : Function) (ctx : Context) (tokens : List Spelling)
         keywords = (m.0, u.keywords, d.keywords);
         items = λ i. notes_at ctx (Before at) ++ item.If (o.test_is_read i) (u.items i) (d.items i) ∷ [];
         standing = subst (λ j. Standing (names_in ts f) ss j (behind_body ctx (written_body (z + 1) t2) v)) e (d.standing);
-        labels = λ rest. u.labels (body_labels (written_body (z + 1) t2) rest) ∙ ap (λ l. names_of ts f ctx tokens words (gathered marked_label a) ++ l) (d.labels rest)
+        labels = λ rest. u.labels (body_labels (written_body (z + 1) t2) rest) ∙
+            ap (λ l. names_of ts f ctx tokens words (gathered marked_label a) ++ l) (d.labels rest)
             ∙ names_both ts f ctx tokens words (gathered marked_label a) (gathered marked_label (Then y ys)) (map ctx.word rest);
         clear = λ vs. ap (λ l. body_faults ctx around (written_body (z + 1) t2) v (body_faults ctx around (written_body x t1) w l)) (o.clear vs)
             ∙ ap (body_faults ctx around (written_body (z + 1) t2) v) (u.clear vs) ∙ d.clear vs;

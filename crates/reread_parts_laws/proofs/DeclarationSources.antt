@@ -23,7 +23,8 @@ pub record Known (word : ℕ → List ℕ) (x : Syntax) (rule : Production) (fir
   pub ends : (part_of word x).after ≡ after
   pub holds : (part_of word x).content ≡ c
 
-pub known : (word : ℕ → List ℕ) (rule : Production) (first after : ℕ) (xs : List Syntax) (c : Content) → content word rule first after (map (part_of word) xs) ≡ c → Known word (node rule first after xs) rule first after c
+pub known : (word : ℕ → List ℕ) (rule : Production) (first after : ℕ) (xs : List Syntax) (c : Content) →
+    content word rule first after (map (part_of word) xs) ≡ c → Known word (node rule first after xs) rule first after c
 known word rule first after xs c e =
     let n = part_node word rule first after xs in
     record {
@@ -41,7 +42,8 @@ token_content word at = ap (λ (q : Part). q.content) (part_node word p.Token at
 pub gathered_none : {X : Type 0} (pick : Content → Option X) (q : Part) (qs : List Part) → pick q.content ≡ None → gathered pick (q ∷ qs) ≡ gathered pick qs
 gathered_none {X} pick q qs e = λ i. elim (e i) as (λ _. List X) [ Some x ↦ x ∷ gathered pick qs | None ↦ gathered pick qs ]
 
-pub gathered_some : {X : Type 0} (pick : Content → Option X) (q : Part) (qs : List Part) (x : X) → pick q.content ≡ Some x → gathered pick (q ∷ qs) ≡ x ∷ gathered pick qs
+pub gathered_some : {X : Type 0} (pick : Content → Option X) (q : Part) (qs : List Part) (x : X) → pick q.content ≡ Some x →
+    gathered pick (q ∷ qs) ≡ x ∷ gathered pick qs
 gathered_some {X} pick q qs x e = λ i. elim (e i) as (λ _. List X) [ Some y ↦ y ∷ gathered pick qs | None ↦ gathered pick qs ]
 
 module _ (word : ℕ → List ℕ) where
@@ -60,9 +62,11 @@ module _ (word : ℕ → List ℕ) where
   past_token at ps = λ i. cond (is_token (token_rule word at i)) (term_list ps) (term_in (token word at) ∷ term_list ps)
 
   one_term : (at : ℕ) (a : Assignment) (ps : List Part) → term_list (q (assignment_node at a) ∷ ps) ≡ At at (assignment_form at a) ∷ term_list ps
-  one_term at a ps = (λ i. cond (is_token ((assignment_writes word at a).ruled i)) (term_list ps) (term_in (q (assignment_node at a)) ∷ term_list ps)) ∙ (λ i. assignment_term_is at a i ∷ term_list ps)
+  one_term at a ps = (λ i. cond (is_token ((assignment_writes word at a).ruled i)) (term_list ps)
+      (term_in (q (assignment_node at a)) ∷ term_list ps)) ∙ (λ i. assignment_term_is at a i ∷ term_list ps)
 
-  rest_terms : (xs : List Assignment) (at : ℕ) (trailing : Bool) → term_list (map q (rest_parts assignment_end assignment_node at xs trailing)) ≡ further_terms at xs
+  rest_terms : (xs : List Assignment) (at : ℕ) (trailing : Bool) → term_list
+      (map q (rest_parts assignment_end assignment_node at xs trailing)) ≡ further_terms at xs
   rest_terms [] at true = past_token at (token word (at + 1) ∷ []) ∙ past_token (at + 1) []
   rest_terms [] at false = past_token at []
   rest_terms (a ∷ xs) at trailing =
@@ -80,10 +84,13 @@ module _ (word : ℕ → List ℕ) where
       let y = assignment_end (at + 1) a in
       let rest = map q (rest_parts assignment_end assignment_node y xs trailing) in
       listed (token word at) (q (assignment_node (at + 1) a)) rest
-      ∙ ap s.ValueList (past_token at (q (assignment_node (at + 1) a) ∷ rest) ∙ one_term (at + 1) a rest ∙ ap (λ l. At (at + 1) (assignment_form (at + 1) a) ∷ l) (rest_terms xs y trailing))
+      ∙ ap s.ValueList (past_token at (q (assignment_node (at + 1) a) ∷ rest) ∙ one_term (at + 1) a rest ∙
+      ap (λ l. At (at + 1) (assignment_form (at + 1) a) ∷ l) (rest_terms xs y trailing))
 
-  initialiser_known : (at : ℕ) (i : Initialiser) → Known word (initialiser_node at i) p.Initialiser at (initialiser_end at i) (OfInitialiser (written_initialiser at i))
-  initialiser_known at i = known word p.Initialiser at (initialiser_end at i) (initialiser_parts at i) (OfInitialiser (written_initialiser at i)) (ap OfInitialiser (initialiser_is at i))
+  initialiser_known : (at : ℕ) (i : Initialiser) → Known word (initialiser_node at i) p.Initialiser at (initialiser_end at i)
+      (OfInitialiser (written_initialiser at i))
+  initialiser_known at i = known word p.Initialiser at (initialiser_end at i) (initialiser_parts at i) (OfInitialiser (written_initialiser at i))
+      (ap OfInitialiser (initialiser_is at i))
 
   -- ---- declarators
 
@@ -93,43 +100,54 @@ module _ (word : ℕ → List ℕ) where
   abbrev a_declarator : ℕ → s.Size → s.Initialiser → s.Declarator
   a_declarator name size value = record { name = name; size = size; value = value }
 
-  declarator_is : (at : ℕ) (size : Size) (value : Option Initialiser) → declarator (map q (leaf at ∷ size_parts (at + 1) size ++ value_parts (size_end (at + 1) size) value)) ≡ written_declarator at (Declared size value)
+  declarator_is : (at : ℕ) (size : Size) (value : Option Initialiser) →
+      declarator (map q (leaf at ∷ size_parts (at + 1) size ++ value_parts (size_end (at + 1) size) value)) ≡ written_declarator at (Declared size value)
   declarator_is at NoSize None = λ i. a_declarator (token_first word at i) s.NoSize s.NoValue
   declarator_is at NoSize (Some v) =
       let k = initialiser_known (at + 1 + 1) v in
-      (λ i. cond (is_token (k.ruled i)) (a_declarator (token word at).first s.Unsized s.NoValue) (a_declarator (token_first word at i) s.NoSize (initialiser_in (k.holds i))))
-  declarator_is at Unsized None = λ i. cond (is_token (token_rule word (at + 1 + 1) i)) (a_declarator (token_first word at i) s.Unsized s.NoValue) (a_declarator (token word at).first s.NoSize (initialiser_in (token word (at + 1 + 1)).content))
-  declarator_is at Unsized (Some v) = let k = initialiser_known (at + 1 + 1 + 1 + 1) v in λ i. a_declarator (token_first word at i) s.Unsized (initialiser_in (k.holds i))
+      (λ i. cond (is_token (k.ruled i)) (a_declarator (token word at).first s.Unsized s.NoValue)
+      (a_declarator (token_first word at i) s.NoSize (initialiser_in (k.holds i))))
+  declarator_is at Unsized None = λ i. cond (is_token (token_rule word (at + 1 + 1) i)) (a_declarator (token_first word at i) s.Unsized s.NoValue)
+      (a_declarator (token word at).first s.NoSize (initialiser_in (token word (at + 1 + 1)).content))
+  declarator_is at Unsized (Some v) = let k = initialiser_known (at + 1 + 1 + 1 + 1) v in
+      λ i. a_declarator (token_first word at i) s.Unsized (initialiser_in (k.holds i))
   declarator_is at (Sized d) None = λ i. a_declarator (token_first word at i) (s.Sized (conditional_term_is (at + 1 + 1) d i)) s.NoValue
   declarator_is at (Sized d) (Some v) =
       let k = initialiser_known (conditional_end (at + 1 + 1) d + 1 + 1) v in
       λ i. a_declarator (token_first word at i) (s.Sized (conditional_term_is (at + 1 + 1) d i)) (initialiser_in (k.holds i))
 
-  declarator_known : (at : ℕ) (d : Declarator) → Known word (declarator_node at d) p.Declarator at (declarator_end at d) (OfDeclarator (written_declarator at d))
+  declarator_known : (at : ℕ) (d : Declarator) → Known word (declarator_node at d) p.Declarator at (declarator_end at d)
+      (OfDeclarator (written_declarator at d))
   declarator_known at (Declared size value) =
       let x = size_end (at + 1) size in
-      known word p.Declarator at (value_end x value) (leaf at ∷ size_parts (at + 1) size ++ value_parts x value) (OfDeclarator (written_declarator at (Declared size value))) (ap OfDeclarator (declarator_is at size value))
+      known word p.Declarator at (value_end x value) (leaf at ∷ size_parts (at + 1) size ++ value_parts x value)
+      (OfDeclarator (written_declarator at (Declared size value))) (ap OfDeclarator (declarator_is at size value))
 
   -- ---- declarations
 
   no_token : (at : ℕ) (ps : List Part) → gathered declarator_in (token word at ∷ ps) ≡ gathered declarator_in ps
   no_token at ps = gathered_none declarator_in (token word at) ps (ap declarator_in (token_content word at))
 
-  one_declarator : (at : ℕ) (d : Declarator) (ps : List Part) → gathered declarator_in (q (declarator_node at d) ∷ ps) ≡ written_declarator at d ∷ gathered declarator_in ps
-  one_declarator at d ps = gathered_some declarator_in (q (declarator_node at d)) ps (written_declarator at d) (ap declarator_in ((declarator_known at d).holds))
+  one_declarator : (at : ℕ) (d : Declarator) (ps : List Part) → gathered declarator_in (q (declarator_node at d) ∷ ps) ≡ written_declarator at
+      d ∷ gathered declarator_in ps
+  one_declarator at d ps = gathered_some declarator_in (q (declarator_node at d)) ps (written_declarator at d)
+      (ap declarator_in ((declarator_known at d).holds))
 
-  more_declarators : (ds : List Declarator) (at : ℕ) (x : ℕ) → gathered declarator_in (map q (more_parts declarator_end declarator_node at ds ++ leaf x ∷ [])) ≡ further_declarators at ds
+  more_declarators : (ds : List Declarator) (at : ℕ) (x : ℕ) → gathered declarator_in
+      (map q (more_parts declarator_end declarator_node at ds ++ leaf x ∷ [])) ≡ further_declarators at ds
   more_declarators [] at x = no_token x []
   more_declarators (d ∷ ds) at x =
       let y = declarator_end (at + 1) d in
       let rest = map q (more_parts declarator_end declarator_node y ds ++ leaf x ∷ []) in
-      no_token at (q (declarator_node (at + 1) d) ∷ rest) ∙ one_declarator (at + 1) d rest ∙ ap (λ l. written_declarator (at + 1) d ∷ l) (more_declarators ds y x)
+      no_token at (q (declarator_node (at + 1) d) ∷ rest) ∙ one_declarator (at + 1) d rest ∙
+      ap (λ l. written_declarator (at + 1) d ∷ l) (more_declarators ds y x)
 
   type_content : (at : ℕ) (n : NumberType) → (q (type_node at n)).content ≡ OfType
   type_content at n = ap (λ (r : Part). r.content) (part_node word p.NumberType at (type_end at n) _)
 
   names_are : (at : ℕ) (n : NumberType) (d : Declarator) (ds : List Declarator) (x : ℕ) → let y = type_end at n in
-      gathered declarator_in (map q (type_node at n ∷ declarator_node y d ∷ more_parts declarator_end declarator_node (declarator_end y d) ds ++ leaf x ∷ [])) ≡ written_declarator y d ∷ further_declarators (declarator_end y d) ds
+      gathered declarator_in (map q (type_node at n ∷ declarator_node y d ∷ more_parts declarator_end declarator_node (declarator_end y d) ds ++
+      leaf x ∷ [])) ≡ written_declarator y d ∷ further_declarators (declarator_end y d) ds
   names_are at n d ds x =
       let y = type_end at n in
       let rest = map q (more_parts declarator_end declarator_node (declarator_end y d) ds ++ leaf x ∷ []) in
@@ -140,12 +158,17 @@ module _ (word : ℕ → List ℕ) where
   a_declaration constant words names = record { constant = constant; words = words; names = names }
 
   -- of two parts and more
-  of_parts : (x y : Part) (zs : List Part) (constant : Bool) → is_token x.rule ≡ constant → declaration (x ∷ y ∷ zs) ≡ a_declaration constant (at (x ∷ y ∷ zs) (cond constant 1 0)).firsts (gathered declarator_in (x ∷ y ∷ zs))
+  of_parts : (x y : Part) (zs : List Part) (constant : Bool) → is_token x.rule ≡ constant →
+      declaration (x ∷ y ∷ zs) ≡ a_declaration constant (at (x ∷ y ∷ zs) (cond constant 1 0)).firsts (gathered declarator_in (x ∷ y ∷ zs))
   of_parts x y zs constant e =
-      (λ i. cond (le-leb 2 (suc (suc (length zs))) (omega arith) i) (a_declaration (e i) (at (x ∷ y ∷ zs) (cond (e i) 1 0)).firsts (gathered declarator_in (x ∷ y ∷ zs))) (a_declaration false [] []))
+      (λ i. cond (le-leb 2 (suc (suc (length zs))) (omega arith) i)
+      (a_declaration (e i) (at (x ∷ y ∷ zs) (cond (e i) 1 0)).firsts (gathered declarator_in (x ∷ y ∷ zs))) (a_declaration false [] []))
 
-  declaration_is : (at : ℕ) (constant : Bool) (n : NumberType) (d : Declarator) (ds : List Declarator) → let x = word_end at constant in let y = type_end x n in let z = more_end declarator_end (declarator_end y d) ds in
-      declaration (map q (word_parts at constant ++ type_node x n ∷ declarator_node y d ∷ more_parts declarator_end declarator_node (declarator_end y d) ds ++ leaf z ∷ [])) ≡ written_declaration at (Locals constant n d ds)
+  declaration_is : (at : ℕ) (constant : Bool) (n : NumberType) (d : Declarator) (ds : List Declarator) → let x = word_end at constant in let y =
+      type_end x n in
+      let z = more_end declarator_end (declarator_end y d) ds in
+      declaration (map q (word_parts at constant ++ type_node x n ∷ declarator_node y d ∷ more_parts declarator_end declarator_node
+      (declarator_end y d) ds ++ leaf z ∷ [])) ≡ written_declaration at (Locals constant n d ds)
   declaration_is at true n d ds =
       let x = at + 1 in
       let y = type_end x n in
@@ -165,5 +188,6 @@ module _ (word : ℕ → List ℕ) where
       let x = word_end at constant in
       let y = type_end x n in
       let z = more_end declarator_end (declarator_end y d) ds in
-      known word p.Local at (z + 1) (word_parts at constant ++ type_node x n ∷ declarator_node y d ∷ more_parts declarator_end declarator_node (declarator_end y d) ds ++ leaf z ∷ []) (OfLocal (written_declaration at (Locals constant n d ds)))
+      known word p.Local at (z + 1) (word_parts at constant ++ type_node x n ∷ declarator_node y d ∷ more_parts declarator_end declarator_node
+      (declarator_end y d) ds ++ leaf z ∷ []) (OfLocal (written_declaration at (Locals constant n d ds)))
       (ap OfLocal (declaration_is at constant n d ds))

@@ -69,7 +69,8 @@ module _ (n : Names) (ss : List Scope) (env : Env) (tokens : List Spelling) (her
     clear : (vs : Faults) → each_faults (value_faults env) (further_terms at (map assignment_of xs)) vs ≡ vs
     behind : Stands tokens (rest_end assignment_end at (map assignment_of xs) false) ps
 
-  further_read : (xs : List ExpressionTree) (at : ℕ) (ps : List Piece) → Each (IsValueOf n ss) xs → Stands tokens at (more (operands (map (tree_text n.slots) xs)) (punctuator (codes "}") ps)) → FurtherRead at xs ps
+  further_read : (xs : List ExpressionTree) (at : ℕ) (ps : List Piece) → Each (IsValueOf n ss) xs →
+      Stands tokens at (more (operands (map (tree_text n.slots) xs)) (punctuator (codes "}") ps)) → FurtherRead at xs ps
   further_read [] at ps h s = record { values = refl; clear = λ vs. refl; behind = (mark_here n.slots tokens env.word here.words at (codes "}") ps s).1 }
   further_read (x ∷ xs) at ps h s =
       let rest = more (operands (map (tree_text n.slots) xs)) (punctuator (codes "}") ps) in
@@ -80,7 +81,8 @@ module _ (n : Names) (ss : List Scope) (env : Env) (tokens : List Spelling) (her
       let r = further_read xs y ps (h.1) (u.behind) in
       record {
         values = λ i. value_is_in env (at + 1) x form (u.reads) ((h.0).kind) i ∷ r.values i;
-        clear = λ vs. ap (each_faults (value_faults env) (further_terms y (map assignment_of xs))) (value_clear env (at + 1) x form (u.reads) ((h.0).kind) vs) ∙ r.clear vs;
+        clear = λ vs. ap (each_faults (value_faults env) (further_terms y (map assignment_of xs)))
+            (value_clear env (at + 1) x form (u.reads) ((h.0).kind) vs) ∙ r.clear vs;
         behind = r.behind;
       }
 
@@ -91,7 +93,8 @@ module _ (n : Names) (ss : List Scope) (env : Env) (tokens : List Spelling) (her
     pub behind : Stands tokens (value_end at (given_of cells given)) ps
 
   -- a number has one value, an array a list of them
-  pub values_read : (cells : Option ℕ) (given : Option (List ExpressionTree)) (at : ℕ) (ps : List Piece) → ValuesPrint n.slots cells given → IfSome given (Each (IsValueOf n ss))
+  pub values_read : (cells : Option ℕ) (given : Option (List ExpressionTree)) (at : ℕ) (ps : List Piece) → ValuesPrint n.slots cells given →
+      IfSome given (Each (IsValueOf n ss))
       → Stands tokens at (initialisers_text n.slots cells (option_map (map expression_in) given) ps) → ValuesRead at cells given ps
   values_read None None at ps v h s = record { values = refl; clear = λ vs. refl; behind = s }
   values_read (Some c) None at ps v h s = record { values = refl; clear = λ vs. refl; behind = s }
@@ -109,7 +112,8 @@ module _ (n : Names) (ss : List Scope) (env : Env) (tokens : List Spelling) (her
         behind = u.behind;
       }
   values_read (Some c) (Some (x ∷ xs)) at ps v h s =
-      let b = subst (λ l. Stands tokens at ((spaced (codes "=") ⨾ punctuator (codes "{") ⨾ listed (operands l) ⨾ punctuator (codes "}")) ps)) (texts_in n.slots (x ∷ xs)) s in
+      let b = subst (λ l. Stands tokens at ((spaced (codes "=") ⨾ punctuator (codes "{") ⨾ listed (operands l) ⨾ punctuator (codes "}")) ps))
+      (texts_in n.slots (x ∷ xs)) s in
       let rest = more (operands (map (tree_text n.slots) xs)) (punctuator (codes "}") ps) in
       let m = mark_here n.slots tokens env.word here.words at (codes "=") (space (punctuator (codes "{") (tree_text n.slots x 2 rest))) b in
       let o = mark_here n.slots tokens env.word here.words (at + 1) (codes "{") (tree_text n.slots x 2 rest) (m.1) in
@@ -119,13 +123,15 @@ module _ (n : Names) (ss : List Scope) (env : Env) (tokens : List Spelling) (her
       let r = further_read xs y ps (h.1) (u.behind) in
       record {
         values = λ i. Some (value_is_in env (at + 1 + 1) x form (u.reads) ((h.0).kind) i ∷ r.values i);
-        clear = λ vs. ap (each_faults (value_faults env) (further_terms y (map assignment_of xs))) (value_clear env (at + 1 + 1) x form (u.reads) ((h.0).kind) vs) ∙ r.clear vs;
+        clear = λ vs. ap (each_faults (value_faults env) (further_terms y (map assignment_of xs)))
+            (value_clear env (at + 1 + 1) x form (u.reads) ((h.0).kind) vs) ∙ r.clear vs;
         behind = r.behind;
       }
 
 -- ---- constants
 
-pub constant_is : (x : ExpressionTree) (v : ℤ) → HasKind (kind_of x) → is_constant x ≡ true → constant_value x ≡ Some v → constant_of (typed_of x) ≡ Some (expression_in x, v)
+pub constant_is : (x : ExpressionTree) (v : ℤ) → HasKind (kind_of x) → is_constant x ≡ true → constant_value x ≡ Some v →
+    constant_of (typed_of x) ≡ Some (expression_in x, v)
 constant_is (t.Typed None y) v k c e = absurd k
 constant_is (t.Typed (Some kind) y) v k c e =
     let x = t.Typed (Some kind) y in
@@ -180,7 +186,8 @@ further_count [] at = refl
 further_count (x ∷ xs) at = ap suc (further_count xs (assignment_end (at + 1) (assignment_of x)))
 
 -- no more than there are cells, and not too many
-pub well_shaped : (local : Bool) (most : ℕ) (slots : List Slot) (cells : Option ℕ) (given : Option (List ExpressionTree)) (at : ℕ) → (local ≡ true → most ≡ 1024) → ValuesPrint slots cells given → IsLength cells → IfSome given (AreInitialisers most cells)
+pub well_shaped : (local : Bool) (most : ℕ) (slots : List Slot) (cells : Option ℕ) (given : Option (List ExpressionTree)) (at : ℕ) →
+    (local ≡ true → most ≡ 1024) → ValuesPrint slots cells given → IsLength cells → IfSome given (AreInitialisers most cells)
     → is_bad_shape local (length_of cells) (written_value at (given_of cells given)) ≡ false
 well_shaped local most slots None None at e v l h = refl
 well_shaped local most slots None (Some (x ∷ [])) at e v l h = refl
@@ -188,7 +195,8 @@ well_shaped local most slots (Some c) None at e v l h = (λ i. not (is_some (bou
 well_shaped local most slots (Some c) (Some (x ∷ xs)) at e v l h =
     let y = assignment_end (at + 1 + 1) (assignment_of x) in
     let a = h.0 in
-    let few : nat_lt c (suc (length (further_terms y (map assignment_of xs)))) ≡ false = ap (λ z. nat_lt c (suc z)) (further_count xs y) ∙ le-ltb c (suc (length xs)) a in
+    let few : nat_lt c (suc (length (further_terms y (map assignment_of xs)))) ≡ false =
+    ap (λ z. nat_lt c (suc z)) (further_count xs y) ∙ le-ltb c (suc (length xs)) a in
     (λ i. not (is_some (bounds c l i)) || is_bad_value local (of_length (bounds c l i)) (written_value at (given_of (Some c) (Some (x ∷ xs)))))
     ∙ (λ i. few i || (local && nat_lt 1024 c)) ∙ by_local local e (h.1)
   where
@@ -215,10 +223,12 @@ pub record WordsRead (tokens : List Spelling) (word : ℕ → List ℕ) (at : �
   pub kind_is_read : kind_of_words word (type_words (word_end at s.constant) (type_of s.kind)) ≡ s.kind
   pub behind : Stands tokens (type_end (word_end at s.constant) (type_of s.kind)) ps
 
-pub words_read : (slots : List Slot) (tokens : List Spelling) (word : ℕ → List ℕ) → AreWords word tokens → (s : Slot) (at : ℕ) (ps : List Piece) → Stands tokens at (kind_words s ps) → WordsRead tokens word at s ps
+pub words_read : (slots : List Slot) (tokens : List Spelling) (word : ℕ → List ℕ) → AreWords word tokens → (s : Slot) (at : ℕ) (ps : List Piece) →
+    Stands tokens at (kind_words s ps) → WordsRead tokens word at s ps
 words_read slots tokens word words s at ps h = by_const s.constant h
   where
-    by_const : (b : Bool) → Stands tokens at ((only_if b (p.word (codes "const") ⨾ space) ⨾ kind_text s.kind) ps) → WordsRead tokens word at (record { name = s.name; kind = s.kind; cells = s.cells; constant = b }) ps
+    by_const : (b : Bool) → Stands tokens at ((only_if b (p.word (codes "const") ⨾ space) ⨾ kind_text s.kind) ps) →
+        WordsRead tokens word at (record { name = s.name; kind = s.kind; cells = s.cells; constant = b }) ps
     by_const true h =
         let m = word_here slots tokens word words at (codes "const") (space (kind_text s.kind ps)) h in
         let k = kind_here slots tokens word words s.kind (at + 1) ps (m.1) in
@@ -242,18 +252,23 @@ module _ (n : Names) (word : ℕ → List ℕ) (tokens : List Spelling) (words :
     pub clear : (vs : Faults) → local_faults word (kinds_of s) (declarator_at at s given) w vs ≡ vs
 
   -- the walk behind the name
-  walked : (ss : List Scope) (k : ℕ) (w : Walk) (at : ℕ) (s : Slot) (given : Option (List ExpressionTree)) → Standing n ss k w → IsVariable n ss k s given → word at ≡ s.name
-      → length_in (env_in word w) (written_size (at + 1) (size_of s.cells)) ≡ length_of s.cells → Standing n (with_slot k s ss) (suc k) (declared word (kinds_of s) (declarator_at at s given) w)
+  walked : (ss : List Scope) (k : ℕ) (w : Walk) (at : ℕ) (s : Slot) (given : Option (List ExpressionTree)) → Standing n ss k w →
+      IsVariable n ss k s given → word at ≡ s.name
+      → length_in (env_in word w) (written_size (at + 1) (size_of s.cells)) ≡ length_of s.cells →
+      Standing n (with_slot k s ss) (suc k) (declared word (kinds_of s) (declarator_at at s given) w)
   walked ss k w at s given here v named e =
       let d = declarator_at at s given in
       let shape : shape_of (kinds_of s) d ≡ shape_in s = λ i. record { kind = s.kind; array = array_is (at + 1) s.cells i; constant = s.constant } in
-      let cells : cells_of (extent_of (length_in (env_in word w) d.size) d.value) ≡ s.cells = ap (λ z. cells_of (extent_of z d.value)) e ∙ extent_is s.cells d.value (v.length) in
-      let b : Some (binding.Local k (shape_in s)) ≡ option_map (λ (r : Slot). binding.Local k (shape_in r)) (slice_get n.slots k) = ap (option_map (λ (r : Slot). binding.Local k (shape_in r))) (sym (v.slot_is)) in
+      let cells : cells_of (extent_of (length_in (env_in word w) d.size) d.value) ≡ s.cells =
+      ap (λ z. cells_of (extent_of z d.value)) e ∙ extent_is s.cells d.value (v.length) in
+      let b : Some (binding.Local k (shape_in s)) ≡ option_map (λ (r : Slot). binding.Local k (shape_in r)) (slice_get n.slots k) =
+      ap (option_map (λ (r : Slot). binding.Local k (shape_in r))) (sym (v.slot_is)) in
       record {
         inside = inside_bound ss (here.inside);
         same = subst (λ z. AreSameScopes n (with_slot k s ss) z) (λ i. scopes.bind (sym named i) (binding.Local (sym (here.count) i) (sym shape i)) w.scopes)
             (bind_same n s.name (AVariable (H.Slot k)) (binding.Local k (shape_in s)) ss w.scopes (here.same) (here.inside) (v.new) b);
-        slots_are = (λ i. (here.slots_are) i ++ (record { name = named i; kind = s.kind; cells = cells i; constant = s.constant }) ∷ []) ∙ sym (take_next k n.slots s (v.slot_is));
+        slots_are = (λ i. (here.slots_are) i ++ (record { name = named i; kind = s.kind; cells = cells i; constant = s.constant }) ∷ []) ∙
+            sym (take_next k n.slots s (v.slot_is));
         count = length-append w.slots (slot_of (env_in word w) (kinds_of s) d ∷ []) ∙ ap (λ z. z + 1) (here.count) ∙ one_more k;
       }
     where
@@ -264,7 +279,8 @@ module _ (n : Names) (word : ℕ → List ℕ) (tokens : List Spelling) (words :
       one_more : (k : ℕ) → k + 1 ≡ suc k
       one_more k = omega arith
 
-  pub declarator_read : (ss : List Scope) (k : ℕ) (w : Walk) (at : ℕ) (s : Slot) (given : Option (List ExpressionTree)) (ps : List Piece) → Standing n ss k w → IsVariable n ss k s given
+  pub declarator_read : (ss : List Scope) (k : ℕ) (w : Walk) (at : ℕ) (s : Slot) (given : Option (List ExpressionTree)) (ps : List Piece) →
+      Standing n ss k w → IsVariable n ss k s given
       → Stands tokens at (declarator_text n.slots s (option_map (map expression_in) given) ps) → DeclaratorRead ss k w at s given ps
   declarator_read ss k w at s given ps here v h =
       let d = declarator_at at s given in
@@ -274,14 +290,18 @@ module _ (n : Names) (word : ℕ → List ℕ) (tokens : List Spelling) (words :
       let after = walked ss k w at s given here v (m.0) (l.length_is) in
       let x = size_end (at + 1) (size_of s.cells) in
       let inner = declared word (kinds_of s) d w in
-      let r = values_read n (with_slot k s ss) (env_in word inner) tokens (place_at (with_slot k s ss) (suc k) inner after) s.cells given x ps (v.prints.values) (v.values) (l.behind) in
-      let shaped : is_bad_shape true (length_in (env_in word w) d.size) d.value ≡ false = ap (λ z. is_bad_shape true z d.value) (l.length_is) ∙ well_shaped true 1024 n.slots s.cells given x (λ e. refl) (v.prints.values) (v.length) (v.fits) in
+      let r = values_read n (with_slot k s ss) (env_in word inner) tokens (place_at (with_slot k s ss) (suc k) inner after) s.cells given x ps
+      (v.prints.values) (v.values) (l.behind) in
+      let shaped : is_bad_shape true (length_in (env_in word w) d.size) d.value ≡ false =
+      ap (λ z. is_bad_shape true z d.value) (l.length_is) ∙ well_shaped true 1024 n.slots s.cells given x (λ e. refl) (v.prints.values)
+      (v.length) (v.fits) in
       record {
         behind = r.behind;
         standing = after;
         local_is = λ i. item.Local (here.count i) (r.values i);
         clear = λ vs.
-            r.clear (fault_if (is_bound (word at) w.scopes) at 21 (fault_if (is_bad_shape true (length_in (env_in word w) d.size) d.value) at 35 (size_faults (env_in word w) d.size vs)))
+            r.clear (fault_if (is_bound (word at) w.scopes) at 21
+            (fault_if (is_bad_shape true (length_in (env_in word w) d.size) d.value) at 35 (size_faults (env_in word w) d.size vs)))
             ∙ (λ i. fault_if (unbound (m.0) i) at 21 (fault_if (shaped i) at 35 (l.clear vs i)));
       }
     where

@@ -39,9 +39,12 @@ module _ (ts : List Top) (f : Function) (ctx : Context) (tokens : List Spelling)
   nothing_behind [] = refl
   nothing_behind (x ∷ xs) = ap (λ l. x ∷ l) (nothing_behind xs)
 
-  lone : (c : TestTree) (a b : Forest) (x : source.Item) (ss : List Scope) (k : ℕ) (around : Around) (w : Walk) (at : ℕ) (ps : List Piece) → source_of ts f ctx tokens words at (t.If c a b) ≡ x
-      → written_body at (statement_of f.slots (t.If c a b)) ≡ source.Lone at (statement_end at (statement_of f.slots (t.If c a b))) x → Standing (names_in ts f) ss k w → ctx.notes (Before at) ≡ [] → ctx.notes (AtEnd at) ≡ []
-      → ItemRead ts f ctx tokens words (inside ss) k around (enter w) at (t.If c a b) ps → BodyRead ts f ctx tokens words ss k around w at (statement_of f.slots (t.If c a b)) (Then (t.If c a b) Nil) ps
+  lone : (c : TestTree) (a b : Forest) (x : source.Item) (ss : List Scope) (k : ℕ) (around : Around) (w : Walk) (at : ℕ) (ps : List Piece) →
+      source_of ts f ctx tokens words at (t.If c a b) ≡ x
+      → written_body at (statement_of f.slots (t.If c a b)) ≡ source.Lone at (statement_end at (statement_of f.slots (t.If c a b))) x →
+      Standing (names_in ts f) ss k w → ctx.notes (Before at) ≡ [] → ctx.notes (AtEnd at) ≡ []
+      → ItemRead ts f ctx tokens words (inside ss) k around (enter w) at (t.If c a b) ps →
+      BodyRead ts f ctx tokens words ss k around w at (statement_of f.slots (t.If c a b)) (Then (t.If c a b) Nil) ps
   lone c a b x ss k around w at ps e l h first last r =
       let y = source_of ts f ctx tokens words at (t.If c a b) in
       let i : k + slots_of (t.If c a b) ≡ k + (slots_of (t.If c a b) + 0) = omega arith in
@@ -51,8 +54,10 @@ module _ (ts : List Top) (f : Function) (ctx : Context) (tokens : List Spelling)
         keywords = r.keywords;
         items = ap (λ z. body_items ctx z w) body ∙ (λ j. (r.items ∙ ap (λ z. map item.Note z ++ tree_in (t.If c a b) ∷ []) first) j ++ map item.Note (last j));
         standing = subst (λ z. Standing (names_in ts f) ss (k + (slots_of (t.If c a b) + 0)) (behind_body ctx z w)) (sym body)
-            (subst (λ j. Standing (names_in ts f) ss j (leave w (behind_item ctx y (enter w)))) i (left (names_in ts f) ss (inside ss) k (k + slots_of (t.If c a b)) w (behind_item ctx y (enter w)) h (r.standing)));
-        labels = λ rest. ap (λ z. map ctx.word (body_labels z rest)) body ∙ r.labels rest ∙ names_alone ts f ctx tokens words (gathered_of marked_label (t.If c a b)) (map ctx.word rest);
+            (subst (λ j. Standing (names_in ts f) ss j (leave w (behind_item ctx y (enter w)))) i
+            (left (names_in ts f) ss (inside ss) k (k + slots_of (t.If c a b)) w (behind_item ctx y (enter w)) h (r.standing)));
+        labels = λ rest. ap (λ z. map ctx.word (body_labels z rest)) body ∙ r.labels rest ∙
+            names_alone ts f ctx tokens words (gathered_of marked_label (t.If c a b)) (map ctx.word rest);
         clear = λ vs. ap (λ z. body_faults ctx around z w vs) body ∙ r.clear vs;
       }
 
@@ -65,21 +70,37 @@ module _ (ts : List Top) (f : Function) (ctx : Context) (tokens : List Spelling)
   lone_no_else c a r ss k around w at depth ps h g p s =
       lone c a Nil _ ss k around w at ps refl refl h (p.0) (p.2) (r (inside ss) k around (enter w) at depth ps (entered (names_in ts f) ss k w h) (g.0) (p.1) s)
 
-  lone_with_else : (c : TestTree) (a : Forest) (y : Tree) (ys : Forest) → ReadsOne ts f ctx tokens words (t.If c a (Then y ys)) → ReadsElse ts f ctx tokens words (Then (t.If c a (Then y ys)) Nil)
+  lone_with_else : (c : TestTree) (a : Forest) (y : Tree) (ys : Forest) → ReadsOne ts f ctx tokens words (t.If c a (Then y ys)) →
+      ReadsElse ts f ctx tokens words (Then (t.If c a (Then y ys)) Nil)
   lone_with_else c a y ys r ss k around w at depth ps h g p s =
-      lone c a (Then y ys) _ ss k around w at ps refl refl h (p.0) (p.2) (r (inside ss) k around (enter w) at depth ps (entered (names_in ts f) ss k w h) (g.0) (p.1) s)
+      lone c a (Then y ys) _ ss k around w at ps refl refl h (p.0) (p.2)
+      (r (inside ss) k around (enter w) at depth ps (entered (names_in ts f) ss k w h) (g.0) (p.1) s)
 
-  past_line : (ss : List Scope) (k : ℕ) (around : Around) (w : Walk) (at : ℕ) (x : g.Statement) (a : Forest) (ps : List Piece) → BodyRead ts f ctx tokens words ss k around w at x a (newline ps) → BodyRead ts f ctx tokens words ss k around w at x a ps
-  past_line ss k around w at x a ps r = record { behind_it = r.behind_it; keywords = r.keywords; items = r.items; standing = r.standing; clear = r.clear; labels = r.labels }
+  past_line : (ss : List Scope) (k : ℕ) (around : Around) (w : Walk) (at : ℕ) (x : g.Statement) (a : Forest) (ps : List Piece) →
+      BodyRead ts f ctx tokens words ss k around w at x a (newline ps) → BodyRead ts f ctx tokens words ss k around w at x a ps
+  past_line ss k around w at x a ps r = record {
+    behind_it = r.behind_it;
+    keywords = r.keywords;
+    items = r.items;
+    standing = r.standing;
+    clear = r.clear;
+    labels = r.labels;
+  }
 
   more_reads : (x y : Tree) (ys : Forest) → ReadsList ts f ctx tokens words (Then x (Then y ys)) → ReadsElse ts f ctx tokens words (Then x (Then y ys))
-  more_reads (t.Note bytes) y ys r = λ ss k around w at depth ps h g p s. past_line ss k around w at _ (Then (t.Note bytes) (Then y ys)) ps (braced_read ts f ctx tokens words (Then (t.Note bytes) (Then y ys)) r ss k around w at depth (newline ps) h g p s)
-  more_reads (t.If c a b) y ys r = λ ss k around w at depth ps h g p s. past_line ss k around w at _ (Then (t.If c a b) (Then y ys)) ps (braced_read ts f ctx tokens words (Then (t.If c a b) (Then y ys)) r ss k around w at depth (newline ps) h g p s)
-  more_reads x y ys r = λ ss k around w at depth ps h g p s. past_line ss k around w at _ (Then x (Then y ys)) ps (braced_read ts f ctx tokens words (Then x (Then y ys)) r ss k around w at depth (newline ps) h g p s)
+  more_reads (t.Note bytes) y ys r = λ ss k around w at depth ps h g p s.
+      past_line ss k around w at _ (Then (t.Note bytes) (Then y ys)) ps
+      (braced_read ts f ctx tokens words (Then (t.Note bytes) (Then y ys)) r ss k around w at depth (newline ps) h g p s)
+  more_reads (t.If c a b) y ys r = λ ss k around w at depth ps h g p s.
+      past_line ss k around w at _ (Then (t.If c a b) (Then y ys)) ps
+      (braced_read ts f ctx tokens words (Then (t.If c a b) (Then y ys)) r ss k around w at depth (newline ps) h g p s)
+  more_reads x y ys r = λ ss k around w at depth ps h g p s. past_line ss k around w at _ (Then x (Then y ys)) ps
+      (braced_read ts f ctx tokens words (Then x (Then y ys)) r ss k around w at depth (newline ps) h g p s)
 
   pub else_reads : (b : Forest) → ReadsList ts f ctx tokens words b → ReadsLone b → ReadsElse ts f ctx tokens words b
   else_reads Nil r q = tt
   else_reads (Then (t.If c a Nil) Nil) r q = lone_no_else c a q
   else_reads (Then (t.If c a (Then y ys)) Nil) r q = lone_with_else c a y ys q
-  else_reads (Then x Nil) r q = λ ss k around w at depth ps h g p s. past_line ss k around w at _ (Then x Nil) ps (braced_read ts f ctx tokens words (Then x Nil) r ss k around w at depth (newline ps) h g p s)
+  else_reads (Then x Nil) r q = λ ss k around w at depth ps h g p s. past_line ss k around w at _ (Then x Nil) ps
+      (braced_read ts f ctx tokens words (Then x Nil) r ss k around w at depth (newline ps) h g p s)
   else_reads (Then x (Then y ys)) r q = more_reads x y ys r

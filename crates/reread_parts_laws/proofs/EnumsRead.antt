@@ -68,7 +68,8 @@ module _ (ts : List Top) (ss : List Scope) (env : Env) (tokens : List Spelling) 
     clear : (vs : Faults) → value_faults env name (written_constant at (conditional_given o)) (Some before) vs ≡ vs
     behind_it : Stands tokens (constant_end at (conditional_given o)) ps
 
-  value_read : (x : EnumItem) (name : ℕ) (o : Option Expression) (before : ℤ) (at : ℕ) (ps : List Piece) → HasNextValue ts before x o → is_in_range Int x.value ≡ true → GivenPrints o → IsBoundGiven ss o → Stands tokens at (given_text o ps) → ValueRead x name o before at ps
+  value_read : (x : EnumItem) (name : ℕ) (o : Option Expression) (before : ℤ) (at : ℕ) (ps : List Piece) → HasNextValue ts before x o →
+      is_in_range Int x.value ≡ true → GivenPrints o → IsBoundGiven ss o → Stands tokens at (given_text o ps) → ValueRead x name o before at ps
   value_read x name None before at ps h r p b s = record {
     value = ap an_int (sym h) ∙ an_int_is x.value r;
     given = refl;
@@ -79,13 +80,16 @@ module _ (ts : List Top) (ss : List Scope) (env : Env) (tokens : List Spelling) 
       let y = expression_tree e in
       let m = mark_here [] tokens env.word here.words at (codes "=") (space (expression_text [] e 3 ps)) s in
       let c : IsConstantHere ts ss env tokens 3 y = record { constant = h.0; bound = b; prints = p } in
-      let u = chosen_full n ss env tokens here (at + 1) ps y (constant_expression ts ss env tokens 3 y c) (stands_tree n ss env tokens here 3 (at + 1) ps e (m.1)) in
+      let u = chosen_full n ss env tokens here (at + 1) ps y (constant_expression ts ss env tokens 3 y c)
+      (stands_tree n ss env tokens here 3 (at + 1) ps e (m.1)) in
       let form = conditional_form (at + 1) (conditional_of y) in
-      let w : value_worth env (At (at + 1) form) ≡ Some x.value = constant_worth ts ss env tokens (at + 1) form y (u.reads) (h.0) ∙ ap (λ o. Some (unwrap_or o (pos 0))) (h.1) in
+      let w : value_worth env (At (at + 1) form) ≡ Some x.value = constant_worth ts ss env tokens (at + 1) form y (u.reads) (h.0) ∙
+      ap (λ o. Some (unwrap_or o (pos 0))) (h.1) in
       record {
         value = ap (option_and_then an_int) w ∙ an_int_is x.value r;
         given = ap Some (constant_read ts ss env tokens (at + 1) form y (u.reads) (h.0) ∙ whole e);
-        clear = λ vs. (λ i. int_fault (at + 1) (w i) (constant_clear ts ss env tokens (at + 1) form y (u.reads) (h.0) vs i)) ∙ (λ i. fault_if (not (r i)) (at + 1) 34 vs);
+        clear = λ vs. (λ i. int_fault (at + 1) (w i) (constant_clear ts ss env tokens (at + 1) form y (u.reads) (h.0) vs i)) ∙
+            (λ i. fault_if (not (r i)) (at + 1) 34 vs);
         behind_it = u.behind;
       }
 
@@ -115,13 +119,17 @@ module _ (ts : List Top) (the_word : ℕ → List ℕ) (tokens : List Spelling) 
   abbrev Further : List EnumItem → Type 0
   Further xs =
       (ss : List Scope) (scopes : List kinds.Scope) (before : ℤ) (at : ℕ) (ps : List Piece) → IsInScope ss → AreSameScopes file ss scopes
-      → HaveValues ts before xs → EnumeratorsPrint xs → ConstantsAreBound ss xs → AreNotMain xs → Stands tokens at ((more (map enumerator_text xs) ⨾ enum_end) ps)
+      → HaveValues ts before xs → EnumeratorsPrint xs → ConstantsAreBound ss xs → AreNotMain xs →
+      Stands tokens at ((more (map enumerator_text xs) ⨾ enum_end) ps)
       → These ss scopes before (further_enumerators at (map given_of xs)) xs (rest_end enumerator_end at (map given_of xs) false + 1) (newline ps)
 
   -- from the name of a constant on
-  named_read : (x : EnumItem) (xs : List EnumItem) → Further xs → (ss : List Scope) (scopes : List kinds.Scope) (before : ℤ) (at : ℕ) (ps : List Piece) → IsInScope ss → AreSameScopes file ss scopes
-      → HaveValues ts before (x ∷ xs) → EnumeratorsPrint (x ∷ xs) → ConstantsAreBound ss (x ∷ xs) → AreNotMain (x ∷ xs) → Stands tokens at ((enumerator_text x ⨾ more (map enumerator_text xs) ⨾ enum_end) ps)
-      → These ss scopes before (constants_from at x xs) (x ∷ xs) (rest_end enumerator_end (enumerator_end at (given_of x)) (map given_of xs) false + 1) (newline ps)
+  named_read : (x : EnumItem) (xs : List EnumItem) → Further xs → (ss : List Scope) (scopes : List kinds.Scope) (before : ℤ) (at : ℕ)
+      (ps : List Piece) → IsInScope ss → AreSameScopes file ss scopes
+      → HaveValues ts before (x ∷ xs) → EnumeratorsPrint (x ∷ xs) → ConstantsAreBound ss (x ∷ xs) → AreNotMain (x ∷ xs) →
+      Stands tokens at ((enumerator_text x ⨾ more (map enumerator_text xs) ⨾ enum_end) ps)
+      → These ss scopes before (constants_from at x xs) (x ∷ xs)
+      (rest_end enumerator_end (enumerator_end at (given_of x)) (map given_of xs) false + 1) (newline ps)
   named_read x xs further ss scopes before at ps there same h p b f s =
       let env = env_in scopes in
       let end = (more (map enumerator_text xs) ⨾ enum_end) ps in
@@ -141,9 +149,11 @@ module _ (ts : List Top) (the_word : ℕ → List ℕ) (tokens : List Spelling) 
       let unknown : is_known (the_word at) ≡ false = ap is_known (m.0) ∙ (b.0).1 in
       let step = further inside inner x.value y ps (in_scope x.name x.value ss there) same_there (h.2) (p.1) (b.2) (f.1) (v.behind_it) in
       record {
-        items = (λ i. record { name = m.0 i; given = v.given i; value = or_zero (v.value i) } ∷ enum_items others (v.value i) (enumerated d (v.value i) env)) ∙ ap (λ l. x ∷ l) (step.items);
+        items = (λ i. record { name = m.0 i; given = v.given i; value = or_zero (v.value i) } ∷ enum_items others (v.value i)
+            (enumerated d (v.value i) env)) ∙ ap (λ l. x ∷ l) (step.items);
         clear = λ vs.
-            (λ i. enum_faults others (v.value i) (enumerated d (v.value i) env) (fault_if (unbound i) at 21 (fault_if (other i) at 36 (fault_if (unknown i) at 21 (v.clear vs i)))))
+            (λ i. enum_faults others (v.value i) (enumerated d (v.value i) env)
+            (fault_if (unbound i) at 21 (fault_if (other i) at 36 (fault_if (unknown i) at 21 (v.clear vs i)))))
             ∙ step.clear vs;
         same = subst (λ o. AreSameScopes file (bind_constants xs inside) (behind_enum others o (enumerated d o env)).scopes) (sym (v.value)) (step.same);
         behind_it = step.behind_it;
@@ -158,7 +168,8 @@ module _ (ts : List Top) (the_word : ℕ → List ℕ) (tokens : List Spelling) 
       let m = mark_here [] tokens the_word words at (codes ",") (space ((enumerator_text x ⨾ more (map enumerator_text xs) ⨾ enum_end) ps)) s in
       named_read x xs (further_read xs) ss scopes before (at + 1) ps there same h p b f (m.1)
 
-  pub enum_reads : (x : EnumItem) (xs : List EnumItem) (ss : List Scope) (scopes : List kinds.Scope) (at : ℕ) (ps : List Piece) → IsInScope ss → AreSameScopes file ss scopes → IsEnum ts (x ∷ xs) ss → Stands tokens at (enum_text (x ∷ xs) ps)
+  pub enum_reads : (x : EnumItem) (xs : List EnumItem) (ss : List Scope) (scopes : List kinds.Scope) (at : ℕ) (ps : List Piece) → IsInScope ss →
+      AreSameScopes file ss scopes → IsEnum ts (x ∷ xs) ss → Stands tokens at (enum_text (x ∷ xs) ps)
       → EnumReads ts (x ∷ xs) ss (env_in scopes) tokens (written_enumeration at (enumeration_of x xs)) (enumeration_end at (enumeration_of x xs)) (newline ps)
   enum_reads x xs ss scopes at ps there same h s =
       let rest = (enumerator_text x ⨾ more (map enumerator_text xs) ⨾ enum_end) ps in

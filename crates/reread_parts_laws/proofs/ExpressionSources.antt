@@ -49,7 +49,8 @@ writes word rule first after xs form e =
       formed = ap (λ (q : Part). form_in q.content) n ∙ form_content word rule first after (map (part_of word) xs) ∙ e;
     }
 
-pub term_is : (word : ℕ → List ℕ) (x : Syntax) (rule : Production) (first : ℕ) (form : Form) → Writes word x rule first form → term_in (part_of word x) ≡ At first form
+pub term_is : (word : ℕ → List ℕ) (x : Syntax) (rule : Production) (first : ℕ) (form : Form) → Writes word x rule first form →
+    term_in (part_of word x) ≡ At first form
 term_is word x rule first form w = λ i. At (w.begins i) (w.formed i)
 
 -- ---- more than one assignment, and calls
@@ -103,18 +104,23 @@ module _ (word : ℕ → List ℕ) where
   past_token : (at : ℕ) (ps : List Part) → terms_in (token word at ∷ ps) ≡ terms_in ps
   past_token at ps = rw (token_rule word at) refl
 
-  whole_expression : (at : ℕ) (e : Expression) → of_expression (map q (expression_parts at e)) ≡ expression_form at e → Writes word (expression_node at e) p.Expression at (expression_form at e)
+  whole_expression : (at : ℕ) (e : Expression) → of_expression (map q (expression_parts at e)) ≡ expression_form at e →
+      Writes word (expression_node at e) p.Expression at (expression_form at e)
   whole_expression at e h = writes word p.Expression at (expression_end at e) (expression_parts at e) (expression_form at e) h
 
   whole_unary : (at : ℕ) (u : Unary) → form_by p.Unary (map q (unary_parts at u)) ≡ unary_form at u → Writes word (unary_node at u) p.Unary at (unary_form at u)
   whole_unary at u h = writes word p.Unary at (unary_end at u) (unary_parts at u) (unary_form at u) h
 
   called : (at : ℕ) (y : Part) (ys : List Part) → postfix_form (token word at ∷ token word (at + 1) ∷ y ∷ ys) ≡ s.Call at (terms_in (y ∷ ys))
-  called at y ys = of_brackets (token word at) (token word (at + 1)) y ys ∙ rw (token_rule word (at + 1)) (λ i. s.Call (token_first word at i) (terms_in (y ∷ ys)))
+  called at y ys = of_brackets (token word at) (token word (at + 1)) y ys ∙
+      rw (token_rule word (at + 1)) (λ i. s.Call (token_first word at i) (terms_in (y ∷ ys)))
 
-  call_writes : (at : ℕ) (xs : Arguments) (x : ℕ) → postfix_form (map q (leaf at ∷ leaf (at + 1) ∷ arguments_parts (at + 1 + 1) xs ++ leaf x ∷ [])) ≡ s.Call at (terms_in (map q (arguments_parts (at + 1 + 1) xs ++ leaf x ∷ [])))
+  call_writes : (at : ℕ) (xs : Arguments) (x : ℕ) → postfix_form
+      (map q (leaf at ∷ leaf (at + 1) ∷ arguments_parts (at + 1 + 1) xs ++ leaf x ∷ [])) ≡ s.Call at
+      (terms_in (map q (arguments_parts (at + 1 + 1) xs ++ leaf x ∷ [])))
   call_writes at (Last y) x = called at (q (argument_node (at + 1 + 1) y)) (token word x ∷ [])
-  call_writes at (Then y ys) x = called at (q (argument_node (at + 1 + 1) y)) (map q (leaf (argument_end (at + 1 + 1) y) ∷ arguments_parts (argument_end (at + 1 + 1) y + 1) ys ++ leaf x ∷ []))
+  call_writes at (Then y ys) x = called at (q (argument_node (at + 1 + 1) y))
+      (map q (leaf (argument_end (at + 1 + 1) y) ∷ arguments_parts (argument_end (at + 1 + 1) y + 1) ys ++ leaf x ∷ []))
 
   texts_write : (at : ℕ) (n : Texts) → form_by p.Argument (map q (texts_parts at n)) ≡ s.Texts (text_tokens at n)
   texts_write at OneText = rw (token_rule word at) (ap s.Texts (texts_firsts at OneText))
@@ -126,7 +132,8 @@ module _ (word : ℕ → List ℕ) where
     parts_write at (More a e) =
         let x = assignment_end at a in
         of_commas (q (assignment_node at a)) (token word x) (map q (expression_parts (x + 1) e))
-        ∙ (λ i. s.Commas (term_is word (assignment_node at a) p.Assignment at (assignment_form at a) (assignment_writes at a) i) ((past_token x (map q (expression_parts (x + 1) e)) ∙ terms_write (x + 1) e) i))
+        ∙ (λ i. s.Commas (term_is word (assignment_node at a) p.Assignment at (assignment_form at a) (assignment_writes at a) i)
+        ((past_token x (map q (expression_parts (x + 1) e)) ∙ terms_write (x + 1) e) i))
 
     terms_write : (at : ℕ) (e : Expression) → terms_in (map q (expression_parts at e)) ≡ expression_terms at e
     terms_write at (One a) =
@@ -135,7 +142,8 @@ module _ (word : ℕ → List ℕ) where
     terms_write at (More a e) =
         let x = assignment_end at a in
         let w = assignment_writes at a in
-        rw (w.ruled) (λ i. s.Then (term_is word (assignment_node at a) p.Assignment at (assignment_form at a) w i) ((past_token x (map q (expression_parts (x + 1) e)) ∙ terms_write (x + 1) e) i))
+        rw (w.ruled) (λ i. s.Then (term_is word (assignment_node at a) p.Assignment at (assignment_form at a) w i)
+        ((past_token x (map q (expression_parts (x + 1) e)) ∙ terms_write (x + 1) e) i))
 
     pub assignment_writes : (at : ℕ) (a : Assignment) → Writes word (assignment_node at a) p.Assignment at (assignment_form at a)
     assignment_writes at (To t m a) =
@@ -144,7 +152,8 @@ module _ (word : ℕ → List ℕ) where
         let w = assignment_writes (x + 1) a in
         writes word p.Assignment at (assignment_end (x + 1) a) (target_node at t ∷ leaf x ∷ assignment_node (x + 1) a ∷ []) (assignment_form at (To t m a))
         (λ i. s.Assign (token_first word x i) (At (v.begins i) (v.formed i)) (At (w.begins i) (w.formed i)))
-    assignment_writes at (Value d) = writes word p.Assignment at (conditional_end at d) (conditional_node at d ∷ []) (assignment_form at (Value d)) (conditional_writes at d).formed
+    assignment_writes at (Value d) = writes word p.Assignment at (conditional_end at d) (conditional_node at d ∷ []) (assignment_form at (Value d))
+        (conditional_writes at d).formed
 
     pub conditional_writes : (at : ℕ) (d : Conditional) → Writes word (conditional_node at d) p.Conditional at (conditional_form at d)
     conditional_writes at (Choose b e d) =
@@ -153,12 +162,15 @@ module _ (word : ℕ → List ℕ) where
         let u = binary_writes at b in
         let v = whole_expression (x + 1) e (parts_write (x + 1) e) in
         let w = conditional_writes (y + 1) d in
-        writes word p.Conditional at (conditional_end (y + 1) d) (binary_node at b ∷ leaf x ∷ expression_node (x + 1) e ∷ leaf y ∷ conditional_node (y + 1) d ∷ []) (conditional_form at (Choose b e d))
+        writes word p.Conditional at (conditional_end (y + 1) d)
+        (binary_node at b ∷ leaf x ∷ expression_node (x + 1) e ∷ leaf y ∷ conditional_node (y + 1) d ∷ []) (conditional_form at (Choose b e d))
         (λ i. s.Choice (At (u.begins i) (u.formed i)) (At (v.begins i) (v.formed i)) (At (w.begins i) (w.formed i)))
-    conditional_writes at (Only b) = writes word p.Conditional at (binary_end at b) (binary_node at b ∷ []) (conditional_form at (Only b)) (binary_writes at b).formed
+    conditional_writes at (Only b) = writes word p.Conditional at (binary_end at b) (binary_node at b ∷ []) (conditional_form at (Only b))
+        (binary_writes at b).formed
 
     binary_writes : (at : ℕ) (b : Binary) → Writes word (binary_node at b) p.Binary at (binary_form at b)
-    binary_writes at (Single u) = writes word p.Binary at (unary_end at u) (unary_node at u ∷ []) (binary_form at (Single u)) (whole_unary at u (unary_parts_write at u)).formed
+    binary_writes at (Single u) = writes word p.Binary at (unary_end at u) (unary_node at u ∷ []) (binary_form at (Single u))
+        (whole_unary at u (unary_parts_write at u)).formed
     binary_writes at (Both a m b) =
         let x = binary_end at a in
         let v = binary_writes at a in
@@ -167,7 +179,8 @@ module _ (word : ℕ → List ℕ) where
         (λ i. s.Binary (token_first word x i) (At (v.begins i) (v.formed i)) (At (w.begins i) (w.formed i)))
 
     unary_parts_write : (at : ℕ) (u : Unary) → form_by p.Unary (map q (unary_parts at u)) ≡ unary_form at u
-    unary_parts_write at (Prefixed m u) = let w = whole_unary (at + 1) u (unary_parts_write (at + 1) u) in λ i. s.Prefix (token_first word at i) (At (w.begins i) (w.formed i))
+    unary_parts_write at (Prefixed m u) = let w = whole_unary (at + 1) u (unary_parts_write (at + 1) u) in
+        λ i. s.Prefix (token_first word at i) (At (w.begins i) (w.formed i))
     unary_parts_write at (StepTo t) = let w = target_writes (at + 1) t in λ i. s.Prefix (token_first word at i) (At (w.begins i) (w.formed i))
     unary_parts_write at (CastTo n u) =
         let x = type_end (at + 1) n in
@@ -182,7 +195,8 @@ module _ (word : ℕ → List ℕ) where
     unary_parts_write at (StepAfter t) =
         let x = target_end at t in
         let w = target_writes at t in
-        (writes word p.Postfix at (x + 1) (target_node at t ∷ leaf x ∷ []) (unary_form at (StepAfter t)) (λ i. s.Suffix (token_first word x i) (At (w.begins i) (w.formed i)))).formed
+        (writes word p.Postfix at (x + 1) (target_node at t ∷ leaf x ∷ []) (unary_form at (StepAfter t))
+        (λ i. s.Suffix (token_first word x i) (At (w.begins i) (w.formed i)))).formed
     unary_parts_write at CallNone =
         (writes word p.Postfix at (at + 1 + 1 + 1) (leaf at ∷ leaf (at + 1) ∷ leaf (at + 1 + 1) ∷ []) (unary_form at CallNone)
         (rw (token_rule word (at + 1)) (λ i. s.Call (token_first word at i) (past_token (at + 1 + 1) [] i)))).formed
@@ -190,8 +204,10 @@ module _ (word : ℕ → List ℕ) where
         let x = arguments_end (at + 1 + 1) xs in
         (writes word p.Postfix at (x + 1) (leaf at ∷ leaf (at + 1) ∷ arguments_parts (at + 1 + 1) xs ++ leaf x ∷ []) (unary_form at (CallWith xs))
         (call_writes at xs x ∙ ap (s.Call at) (arguments_write (at + 1 + 1) xs x))).formed
-    unary_parts_write at Number = (writes word p.Postfix at (at + 1) (leaf at ∷ []) (s.Constant at) (rw (token_rule word at) (λ i. s.Constant (token_first word at i)))).formed
-    unary_parts_write at Character = (writes word p.Postfix at (at + 1) (leaf at ∷ []) (s.Constant at) (rw (token_rule word at) (λ i. s.Constant (token_first word at i)))).formed
+    unary_parts_write at Number = (writes word p.Postfix at (at + 1) (leaf at ∷ []) (s.Constant at)
+        (rw (token_rule word at) (λ i. s.Constant (token_first word at i)))).formed
+    unary_parts_write at Character = (writes word p.Postfix at (at + 1) (leaf at ∷ []) (s.Constant at)
+        (rw (token_rule word at) (λ i. s.Constant (token_first word at i)))).formed
     unary_parts_write at (Within e) =
         let x = expression_end (at + 1) e in
         let w = whole_expression (at + 1) e (parts_write (at + 1) e) in
@@ -204,7 +220,8 @@ module _ (word : ℕ → List ℕ) where
     arguments_write at (Then y ys) x =
         let z = argument_end at y in
         let w = argument_writes at y in
-        rw (w.ruled) (λ i. s.Then (At (w.begins i) (w.formed i)) ((past_token z (map q (arguments_parts (z + 1) ys ++ leaf x ∷ [])) ∙ arguments_write (z + 1) ys x) i))
+        rw (w.ruled) (λ i. s.Then (At (w.begins i) (w.formed i))
+        ((past_token z (map q (arguments_parts (z + 1) ys ++ leaf x ∷ [])) ∙ arguments_write (z + 1) ys x) i))
 
     argument_writes : (at : ℕ) (x : Argument) → Writes word (argument_node at x) p.Argument at (argument_form at x)
     argument_writes at (Given a) =
@@ -217,7 +234,8 @@ module _ (word : ℕ → List ℕ) where
     target_writes at (Cell e) =
         let x = expression_end (at + 1 + 1) e in
         let w = whole_expression (at + 1 + 1) e (parts_write (at + 1 + 1) e) in
-        writes word p.Target at (x + 1) (leaf at ∷ leaf (at + 1) ∷ expression_node (at + 1 + 1) e ∷ leaf x ∷ []) (target_form at (Cell e)) (λ i. s.Cell (token_first word at i) (At (w.begins i) (w.formed i)))
+        writes word p.Target at (x + 1) (leaf at ∷ leaf (at + 1) ∷ expression_node (at + 1 + 1) e ∷ leaf x ∷ []) (target_form at (Cell e))
+        (λ i. s.Cell (token_first word at i) (At (w.begins i) (w.formed i)))
     target_writes at (Round t) =
         let x = target_end (at + 1) t in
         writes word p.Target at (x + 1) (leaf at ∷ target_node (at + 1) t ∷ leaf x ∷ []) (target_form (at + 1) t) (target_writes (at + 1) t).formed

@@ -108,7 +108,8 @@ pub argument_end_is : (at : ℕ) (x : ExpressionTree) → argument_end at (argum
 argument_end_is at (Typed kind (t.Text bytes)) = refl
 argument_end_is at (Typed kind n) = (assigned at (Typed kind n)).end_is
 
-arguments_end_is : (xs : Arguments) (at : ℕ) (x : ExpressionTree) → arguments_end at (listed_of (argument_of x (derivation_of x)) (arguments_of xs)) ≡ more_end (ending 2 at x) xs
+arguments_end_is : (xs : Arguments) (at : ℕ) (x : ExpressionTree) → arguments_end at
+    (listed_of (argument_of x (derivation_of x)) (arguments_of xs)) ≡ more_end (ending 2 at x) xs
 arguments_end_is NoArgument at x = argument_end_is at x
 arguments_end_is (Argument y ys) at x =
     ap (λ k. arguments_end (k + 1) (listed_of (argument_of y (derivation_of y)) (arguments_of ys))) (argument_end_is at x)
@@ -138,7 +139,8 @@ module _ (slots : List Slot) (tokens : List Spelling) (the_word : ℕ → List �
   pub mark_here : (at : ℕ) (w : List ℕ) (ps : List Piece) → Stands tokens at (punctuator w ps) → (the_word at ≡ marked w) × Stands tokens (at + 1) ps
   mark_here at w ps s = let n = at_punctuator tokens at ps w s in (words at _ n.here, n.behind)
 
-  pub kind_here : (kind : IntKind) (at : ℕ) (ps : List Piece) → Stands tokens at (kind_text kind ps) → TypeIsSpelled the_word at kind × Stands tokens (type_end at (type_of kind)) ps
+  pub kind_here : (kind : IntKind) (at : ℕ) (ps : List Piece) → Stands tokens at (kind_text kind ps) →
+      TypeIsSpelled the_word at kind × Stands tokens (type_end at (type_of kind)) ps
   kind_here K.Char at ps s = word_here at (codes "char") ps s
   kind_here K.UChar at ps s =
       let a = word_here at (codes "unsigned") ((space ⨾ word (codes "char")) ps) s in
@@ -152,14 +154,16 @@ module _ (slots : List Slot) (tokens : List Spelling) (the_word : ℕ → List �
       let b = word_here (at + 1) (codes "long") ps (a.1) in
       ((a.0, b.0), b.1)
 
-  pub result_here : (result : Option IntKind) (at : ℕ) (ps : List Piece) → Stands tokens at (result_text result ps) → ResultIsSpelled the_word at result × Stands tokens (result_end at result) ps
+  pub result_here : (result : Option IntKind) (at : ℕ) (ps : List Piece) → Stands tokens at (result_text result ps) →
+      ResultIsSpelled the_word at result × Stands tokens (result_end at result) ps
   result_here None at ps s = (tt, (word_here at (codes "void") ps s).1)
   result_here (Some kind) at ps s = kind_here kind at ps s
 
   -- in brackets, if they stand there
   in_brackets : (b : Bool) (at : ℕ) (ps : List Piece) (s : Text) (S : ℕ → Type 0) (e : g.Expression)
       → ((i : ℕ) (qs : List Piece) → Stands tokens i (s qs) → S i × Stands tokens (expression_end i e) qs)
-      → Stands tokens at ((only_if b (punctuator (codes "(")) ⨾ s ⨾ only_if b (punctuator (codes ")"))) ps) → S (past b at) × Stands tokens (bracketed_end b at e) ps
+      → Stands tokens at ((only_if b (punctuator (codes "(")) ⨾ s ⨾ only_if b (punctuator (codes ")"))) ps) →
+      S (past b at) × Stands tokens (bracketed_end b at e) ps
   in_brackets true at ps s S e f h =
       let o = mark_here at (codes "(") (s (punctuator (codes ")") ps)) h in
       let r = f (at + 1) (punctuator (codes ")") ps) (o.1) in
@@ -167,7 +171,8 @@ module _ (slots : List Slot) (tokens : List Spelling) (the_word : ℕ → List �
   in_brackets false at ps s S e f h = f at ps h
 
   -- what takes no brackets
-  bare : (need at : ℕ) (ps : List Piece) (S : ℕ → Type 0) (e : g.Expression) → need ≤ 14 → S at × Stands tokens (expression_end at e) ps → S (past (nat_lt 14 need) at) × Stands tokens (bracketed_end (nat_lt 14 need) at e) ps
+  bare : (need at : ℕ) (ps : List Piece) (S : ℕ → Type 0) (e : g.Expression) → need ≤ 14 → S at × Stands tokens (expression_end at e) ps →
+      S (past (nat_lt 14 need) at) × Stands tokens (bracketed_end (nat_lt 14 need) at e) ps
   bare need at ps S e n h = subst (λ b. S (past b at) × Stands tokens (bracketed_end b at e) ps) (sym (le-ltb 14 need n)) h
 
   past_unary : (op : UnaryOp) (s : Text) (at : ℕ) (ps : List Piece) → Stands tokens at ((gap op s ⨾ s) ps) → Stands tokens at (s ps)
@@ -179,15 +184,18 @@ module _ (slots : List Slot) (tokens : List Spelling) (the_word : ℕ → List �
   abbrev The : ℕ → ExpressionTree → Type 0
   The at x = Spelled slots the_word at x
 
-  cast_end : (kind : Option IntKind) (at : ℕ) (a : ExpressionTree) (ps : List Piece) → Stands tokens (ending 14 (result_end (at + 1) kind + 1) a) ps → Stands tokens (unary_end at (cast_of kind (as_unary (derivation_of a)))) ps
+  cast_end : (kind : Option IntKind) (at : ℕ) (a : ExpressionTree) (ps : List Piece) → Stands tokens (ending 14 (result_end (at + 1) kind + 1) a) ps →
+      Stands tokens (unary_end at (cast_of kind (as_unary (derivation_of a)))) ps
   cast_end None at a ps s = as_end _ _ ps (tight (at + 1 + 1 + 1) a).end_is s
   cast_end (Some kind) at a ps s = as_end _ _ ps (tight (type_end (at + 1) (type_of kind) + 1) a).end_is s
 
   mutual
-    pub spelled : (x : ExpressionTree) (need at : ℕ) (ps : List Piece) → need ≤ 14 → Stands tokens at (tree_text slots x need ps) → The (beginning need at x) x × Stands tokens (ending need at x) ps
+    pub spelled : (x : ExpressionTree) (need at : ℕ) (ps : List Piece) → need ≤ 14 → Stands tokens at (tree_text slots x need ps) →
+        The (beginning need at x) x × Stands tokens (ending need at x) ps
     spelled (Typed kind n) need at ps h s = node_spelled n kind need at ps h s
 
-    node_spelled : (n : NodeTree) (kind : Option IntKind) (need at : ℕ) (ps : List Piece) → need ≤ 14 → Stands tokens at (tree_text slots (Typed kind n) need ps)
+    node_spelled : (n : NodeTree) (kind : Option IntKind) (need at : ℕ) (ps : List Piece) → need ≤ 14 →
+        Stands tokens at (tree_text slots (Typed kind n) need ps)
         → The (beginning need at (Typed kind n)) (Typed kind n) × Stands tokens (ending need at (Typed kind n)) ps
     node_spelled (t.Number z) kind need at ps h s =
         let x = Typed kind (t.Number z) in
@@ -212,13 +220,15 @@ module _ (slots : List Slot) (tokens : List Spelling) (the_word : ℕ → List �
         bare need at ps (λ i. The i x) (derivation_of x) h (place_spelled p at ps s)
     node_spelled (t.Unary op a) kind need at ps h s =
         let x = Typed kind (t.Unary op a) in
-        in_brackets (nat_lt 14 need) at ps (punctuator (unary_spelling op) ⨾ gap op (tree_text slots a 14) ⨾ tree_text slots a 14) (λ i. The i x) (derivation_of x)
+        in_brackets (nat_lt 14 need) at ps (punctuator (unary_spelling op) ⨾ gap op (tree_text slots a 14) ⨾ tree_text slots a 14) (λ i. The i x)
+        (derivation_of x)
         (λ i qs k. let m = mark_here i (unary_spelling op) ((gap op (tree_text slots a 14) ⨾ tree_text slots a 14) qs) k in
         let r = spelled a 14 (i + 1) qs (omega arith) (past_unary op (tree_text slots a 14) (i + 1) qs (m.1)) in
         ((m.0, r.0), as_end _ _ qs (tight (i + 1) a).end_is (r.1))) s
     node_spelled (t.Cast a) kind need at ps h s =
         let x = Typed kind (t.Cast a) in
-        in_brackets (nat_lt 14 need) at ps (punctuator (codes "(") ⨾ result_text kind ⨾ punctuator (codes ")") ⨾ tree_text slots a 14) (λ i. The i x) (derivation_of x)
+        in_brackets (nat_lt 14 need) at ps (punctuator (codes "(") ⨾ result_text kind ⨾ punctuator (codes ")") ⨾ tree_text slots a 14) (λ i. The i x)
+        (derivation_of x)
         (λ i qs k. let m = mark_here i (codes "(") ((result_text kind ⨾ punctuator (codes ")") ⨾ tree_text slots a 14) qs) k in
         let u = result_here kind (i + 1) ((punctuator (codes ")") ⨾ tree_text slots a 14) qs) (m.1) in
         let v = mark_here (result_end (i + 1) kind) (codes ")") (tree_text slots a 14 qs) (u.1) in
@@ -233,11 +243,15 @@ module _ (slots : List Slot) (tokens : List Spelling) (the_word : ℕ → List �
         (λ i qs k. let u = spelled a n i ((spaced (binary_spelling op) ⨾ tree_text slots b (n + 1)) qs) (omega (arith, low)) k in
         let y = ending n i a in
         let m = mark_here y (binary_spelling op) ((space ⨾ tree_text slots b (n + 1)) qs) (u.1) in
-        let r = spelled b (n + 1) (y + 1) qs (omega (arith, low)) (m.1) in
-        ((u.0, m.0, r.0), as_end _ _ qs (ap (λ e. binary_end (e + 1) (as_binary (n + 1) (derivation_of b))) (bound n i a high).end_is ∙ (bound (n + 1) (y + 1) b (omega (arith, high))).end_is) (r.1))) s
+        let r = spelled b (n + 1) (y + 1) qs (omega (arith, low)) (m.1) in (
+          (u.0, m.0, r.0),
+          as_end _ _ qs (ap (λ e. binary_end (e + 1) (as_binary (n + 1) (derivation_of b))) (bound n i a high).end_is ∙
+              (bound (n + 1) (y + 1) b (omega (arith, high))).end_is) (r.1),
+        )) s
     node_spelled (t.Conditional a b c) kind need at ps h s =
         let x = Typed kind (t.Conditional a b c) in
-        in_brackets (nat_lt 3 need) at ps (tree_text slots a 4 ⨾ spaced (codes "?") ⨾ tree_text slots b 1 ⨾ spaced (codes ":") ⨾ tree_text slots c 3) (λ i. The i x) (derivation_of x)
+        in_brackets (nat_lt 3 need) at ps (tree_text slots a 4 ⨾ spaced (codes "?") ⨾ tree_text slots b 1 ⨾ spaced (codes ":") ⨾ tree_text slots c 3)
+        (λ i. The i x) (derivation_of x)
         (λ i qs k. let u = spelled a 4 i ((spaced (codes "?") ⨾ tree_text slots b 1 ⨾ spaced (codes ":") ⨾ tree_text slots c 3) qs) (omega arith) k in
         let y = ending 4 i a in
         let m = mark_here y (codes "?") ((space ⨾ tree_text slots b 1 ⨾ spaced (codes ":") ⨾ tree_text slots c 3) qs) (u.1) in
@@ -307,7 +321,8 @@ module _ (slots : List Slot) (tokens : List Spelling) (the_word : ℕ → List �
         let r = more_spelled xs (ending 2 at x) (punctuator (codes ")") ps) (u.1) in
         ((u.0, r.0), (mark_here (more_end (ending 2 at x) xs) (codes ")") ps (r.1)).1)
 
-    more_spelled : (xs : Arguments) (at : ℕ) (ps : List Piece) → Stands tokens at (more (operands (argument_texts slots xs)) ps) → AllAreSpelled slots the_word (at + 1) xs × Stands tokens (more_end at xs) ps
+    more_spelled : (xs : Arguments) (at : ℕ) (ps : List Piece) → Stands tokens at (more (operands (argument_texts slots xs)) ps) →
+        AllAreSpelled slots the_word (at + 1) xs × Stands tokens (more_end at xs) ps
     more_spelled NoArgument at ps s = (tt, s)
     more_spelled (Argument x xs) at ps s =
         let m = mark_here at (codes ",") ((space ⨾ tree_text slots x 2 ⨾ more (operands (argument_texts slots xs))) ps) s in
@@ -315,7 +330,8 @@ module _ (slots : List Slot) (tokens : List Spelling) (the_word : ℕ → List �
         let r = more_spelled xs (ending 2 (at + 1) x) ps (u.1) in
         ((u.0, r.0), r.1)
 
-    place_spelled : (p : PlaceTree) (at : ℕ) (ps : List Piece) → Stands tokens at (place_tree_text slots p ps) → PlaceIsSpelled slots the_word at p × Stands tokens (target_end at (target_of p)) ps
+    place_spelled : (p : PlaceTree) (at : ℕ) (ps : List Piece) → Stands tokens at (place_tree_text slots p ps) →
+        PlaceIsSpelled slots the_word at p × Stands tokens (target_end at (target_of p)) ps
     place_spelled (t.Var home) at ps s = word_here at (home_name slots home) ps s
     place_spelled (t.Cell home a) at ps s =
         let w = word_here at (home_name slots home) ((punctuator (codes "[") ⨾ tree_text slots a 1 ⨾ punctuator (codes "]")) ps) s in

@@ -67,7 +67,8 @@ module _ (ts : List Top) (f : Function) (ctx : Context) (tokens : List Spelling)
   -- ---- the names of a declaration behind the first
 
   -- declarators, each behind a comma, of a kind
-  pub record Declares (after : List Scope) (next : ℕ) (w : Walk) (at : ℕ) (kd : Kinded) (ds : List g.Declarator) (xs : List Item) (ps : List Piece) : Type 0 where
+  pub record Declares (after : List Scope) (next : ℕ) (w : Walk) (at : ℕ) (kd : Kinded) (ds : List g.Declarator) (xs : List Item) (ps : List Piece) :
+      Type 0 where
     pub behind_it : Stands tokens (more_end declarator_end at ds) ps
     pub locals_are : locals ctx.word kd (further_declarators at ds) w ≡ xs
     pub standing : Standing nm after next (all_declared ctx.word kd (further_declarators at ds) w)
@@ -77,11 +78,13 @@ module _ (ts : List Top) (f : Function) (ctx : Context) (tokens : List Spelling)
   further_lines xs = joined (map (λ (y : Printed). y.further) (printed_forest f xs))
 
   abbrev FurtherRead : Slot → Forest → Type 0
-  FurtherRead s xs = (ss : List Scope) (k : ℕ) (w : Walk) (at : ℕ) (ps : List Piece) → Standing nm ss k w → AreFurther nm f ctx ss k s xs → Stands tokens at (further_lines xs ps)
+  FurtherRead s xs = (ss : List Scope) (k : ℕ) (w : Walk) (at : ℕ) (ps : List Piece) → Standing nm ss k w → AreFurther nm f ctx ss k s xs →
+      Stands tokens at (further_lines xs ps)
       → Declares (behind_all f.slots ss xs) (k + slots_in xs) w at (kinds_of s) (declarators_of f.slots xs) (forest_in xs) ps
 
   -- one more, whose slot is known
-  one_more : (s r : Slot) (given : Option (List ExpressionTree)) (ss after : List Scope) (k next : ℕ) (w : Walk) (at : ℕ) (ds : List g.Declarator) (xs : List Item) (rest ps : List Piece) → r.kind ≡ s.kind → r.constant ≡ s.constant → Standing nm ss k w → IsVariable nm ss k r given
+  one_more : (s r : Slot) (given : Option (List ExpressionTree)) (ss after : List Scope) (k next : ℕ) (w : Walk) (at : ℕ) (ds : List g.Declarator)
+      (xs : List Item) (rest ps : List Piece) → r.kind ≡ s.kind → r.constant ≡ s.constant → Standing nm ss k w → IsVariable nm ss k r given
       → Stands tokens at (comma (declarator_text f.slots r (option_map (map expression_in) given) rest))
       → ((v : Walk) (z : ℕ) → Standing nm (with_slot k r ss) (suc k) v → Stands tokens z rest → Declares after next v z (kinds_of s) ds xs ps)
       → Declares after next w at (kinds_of s) (declarator_of r given ∷ ds) (item.Local k (option_map (map expression_in) given) ∷ xs) ps
@@ -99,24 +102,32 @@ module _ (ts : List Top) (f : Function) (ctx : Context) (tokens : List Spelling)
         behind_it = l.behind_it;
         locals_are = λ i. u2 i ∷ l.locals_are i;
         standing = l.standing;
-        clear = λ vs. ap (locals_faults ctx.word (kinds_of s) (further_declarators y ds) v1) (subst (λ z. local_faults ctx.word z d w vs ≡ vs) same (u.clear vs)) ∙ l.clear vs;
+        clear = λ vs. ap (locals_faults ctx.word (kinds_of s) (further_declarators y ds) v1)
+            (subst (λ z. local_faults ctx.word z d w vs ≡ vs) same (u.clear vs)) ∙ l.clear vs;
       }
 
   -- at the number of its slot
-  further_at : (s : Slot) (k : ℕ) (given : Option (List ExpressionTree)) (xs : Forest) → FurtherRead s xs → (o : Option Slot) → slice_get f.slots k ≡ o → (ss : List Scope) (w : Walk) (at : ℕ) (ps : List Piece) → Standing nm ss k w
+  further_at : (s : Slot) (k : ℕ) (given : Option (List ExpressionTree)) (xs : Forest) → FurtherRead s xs → (o : Option Slot) →
+      slice_get f.slots k ≡ o → (ss : List Scope) (w : Walk) (at : ℕ) (ps : List Piece) → Standing nm ss k w
       → IsSomeAnd o (λ r. IsVariable nm ss k r given × (r.kind ≡ s.kind) × (r.constant ≡ s.constant) × AreFurther nm f ctx (with_slot k r ss) (suc k) s xs)
-      → Stands tokens at ((option_map_or (λ (q : Slot). comma ⨾ declarator_text f.slots q (option_map (map expression_in) given)) o nothing ⨾ further_lines xs) ps)
-      → Declares (behind_all f.slots (bind (option_map_or (λ (q : Slot). q.name) o []) (AVariable (H.Slot k)) ss) xs) (k + (1 + slots_in xs)) w at (kinds_of s) (option_map_or (λ (q : Slot). declarator_of q given) o no_declarator ∷ declarators_of f.slots xs)
+      → Stands tokens at ((option_map_or (λ (q : Slot). comma ⨾ declarator_text f.slots q (option_map (map expression_in) given)) o
+      nothing ⨾ further_lines xs) ps)
+      → Declares (behind_all f.slots (bind (option_map_or (λ (q : Slot). q.name) o []) (AVariable (H.Slot k)) ss) xs) (k + (1 + slots_in xs)) w at
+      (kinds_of s) (option_map_or (λ (q : Slot). declarator_of q given) o no_declarator ∷ declarators_of f.slots xs)
       (item.Local k (option_map (map expression_in) given) ∷ forest_in xs) ps
   further_at s k given xs later None is ss w at ps h g b = absurd g
   further_at s k given xs later (Some r) is ss w at ps h g b =
       let count : suc k + slots_in xs ≡ k + (1 + slots_in xs) = omega arith in
-      one_more s r given ss (behind_all f.slots (with_slot k r ss) xs) k (k + (1 + slots_in xs)) w at (declarators_of f.slots xs) (forest_in xs) (further_lines xs ps) ps (g.1) (g.2) h (g.0) b
-      (λ v z st a. subst (λ i. Declares (behind_all f.slots (with_slot k r ss) xs) i v z (kinds_of s) (declarators_of f.slots xs) (forest_in xs) ps) count (later (with_slot k r ss) (suc k) v z ps st (g.3) a))
+      one_more s r given ss (behind_all f.slots (with_slot k r ss) xs) k (k + (1 + slots_in xs)) w at (declarators_of f.slots xs) (forest_in xs)
+      (further_lines xs ps) ps (g.1) (g.2) h (g.0) b
+      (λ v z st a. subst (λ i. Declares (behind_all f.slots (with_slot k r ss) xs) i v z (kinds_of s) (declarators_of f.slots xs) (forest_in xs) ps)
+      count (later (with_slot k r ss) (suc k) v z ps st (g.3) a))
 
   further_local : (s : Slot) (j : ℕ) (given : Option (List ExpressionTree)) (xs : Forest) → FurtherRead s xs → FurtherRead s (Then (t.Local j given) xs)
   further_local s j given xs later ss k w at ps h g b =
-      subst (λ i. Stands tokens at (further_lines (Then (t.Local i given) xs) ps) → Declares (behind_all f.slots ss (Then (t.Local i given) xs)) (k + slots_in (Then (t.Local i given) xs)) w at (kinds_of s) (declarators_of f.slots (Then (t.Local i given) xs)) (forest_in (Then (t.Local i given) xs)) ps)
+      subst (λ i. Stands tokens at (further_lines (Then (t.Local i given) xs) ps) →
+      Declares (behind_all f.slots ss (Then (t.Local i given) xs)) (k + slots_in (Then (t.Local i given) xs)) w at (kinds_of s)
+      (declarators_of f.slots (Then (t.Local i given) xs)) (forest_in (Then (t.Local i given) xs)) ps)
       (sym (g.0)) (λ c. further_at s k given xs later (slice_get f.slots k) refl ss w at ps h (g.1) c) b
 
   further_none : (s : Slot) → FurtherRead s Nil
@@ -137,9 +148,11 @@ module _ (ts : List Top) (f : Function) (ctx : Context) (tokens : List Spelling)
     pub clear : (vs : Faults) → declaration_faults ctx (written_declaration at x) w vs ≡ vs
 
   -- by its first slot
-  first_at : (s : Slot) (given : Option (List ExpressionTree)) (ss after : List Scope) (k next : ℕ) (w : Walk) (at : ℕ) (ds : List g.Declarator) (xs : List Item) (rest ps : List Piece) → Standing nm ss k w → IsVariable nm ss k s given
+  first_at : (s : Slot) (given : Option (List ExpressionTree)) (ss after : List Scope) (k next : ℕ) (w : Walk) (at : ℕ) (ds : List g.Declarator)
+      (xs : List Item) (rest ps : List Piece) → Standing nm ss k w → IsVariable nm ss k s given
       → Stands tokens at (declaration_text f.slots s (option_map (map expression_in) given) rest)
-      → ((v : Walk) (z : ℕ) → Standing nm (with_slot k s ss) (suc k) v → Stands tokens z rest → Declares after next v z (kinds_of s) ds xs (punctuator (codes ";") ps))
+      → ((v : Walk) (z : ℕ) → Standing nm (with_slot k s ss) (suc k) v → Stands tokens z rest →
+      Declares after next v z (kinds_of s) ds xs (punctuator (codes ";") ps))
       → Declaring after next w at (declaration_of s given ds) (item.Local k (option_map (map expression_in) given) ∷ xs) ps
   first_at s given ss after k next w at ds xs rest ps h v b later =
       let es = option_map (map expression_in) given in
@@ -156,14 +169,18 @@ module _ (ts : List Top) (f : Function) (ctx : Context) (tokens : List Spelling)
         behind_it = a_mark ts f ctx tokens words (more_end declarator_end z ds) (codes ";") ps (l.behind_it);
         locals_are = ap (λ j. locals ctx.word j whole.names w) kd ∙ (λ i. u.local_is i ∷ l.locals_are i);
         standing = subst (λ j. Standing nm after next (all_declared ctx.word j whole.names w)) (sym kd) (l.standing);
-        clear = λ vs. ap (λ j. locals_faults ctx.word j whole.names w vs) kd ∙ ap (locals_faults ctx.word (kinds_of s) (further_declarators z ds) v1) (u.clear vs) ∙ l.clear vs;
+        clear = λ vs. ap (λ j. locals_faults ctx.word j whole.names w vs) kd ∙
+            ap (locals_faults ctx.word (kinds_of s) (further_declarators z ds) v1) (u.clear vs) ∙ l.clear vs;
       }
 
   -- ---- a variable of a block
 
-  local_at : (k : ℕ) (given : Option (List ExpressionTree)) (o : Option Slot) → (ss : List Scope) (w : Walk) (at : ℕ) (ps : List Piece) → Standing nm ss k w → IsSomeAnd o (λ s. IsVariable nm ss k s given)
-      → Stands tokens at ((option_map_or (λ (q : Slot). declaration_text f.slots q (option_map (map expression_in) given)) o nothing ⨾ punctuator (codes ";")) ps)
-      → Declaring (bind (option_map_or (λ (q : Slot). q.name) o []) (AVariable (H.Slot k)) ss) (k + 1) w at (option_map_or (λ (q : Slot). declaration_of q given []) o no_local) (item.Local k (option_map (map expression_in) given) ∷ []) ps
+  local_at : (k : ℕ) (given : Option (List ExpressionTree)) (o : Option Slot) → (ss : List Scope) (w : Walk) (at : ℕ) (ps : List Piece) →
+      Standing nm ss k w → IsSomeAnd o (λ s. IsVariable nm ss k s given)
+      → Stands tokens at ((option_map_or (λ (q : Slot). declaration_text f.slots q (option_map (map expression_in) given)) o nothing ⨾ punctuator
+      (codes ";")) ps)
+      → Declaring (bind (option_map_or (λ (q : Slot). q.name) o []) (AVariable (H.Slot k)) ss) (k + 1) w at
+      (option_map_or (λ (q : Slot). declaration_of q given []) o no_local) (item.Local k (option_map (map expression_in) given) ∷ []) ps
   local_at k given None ss w at ps h g b = absurd g
   local_at k given (Some s) ss w at ps h g b =
       let count : suc k ≡ k + 1 = omega arith in
@@ -172,9 +189,17 @@ module _ (ts : List Top) (f : Function) (ctx : Context) (tokens : List Spelling)
 
   pub local_reads : (j : ℕ) (given : Option (List ExpressionTree)) → ReadsOne ts f ctx tokens words (t.Local j given)
   local_reads j given ss k around w at depth ps h g p b =
-      subst (λ i. Stands tokens at ((printed_tree f (t.Local i given)).lines depth ps) → ItemRead ts f ctx tokens words ss k around w at (t.Local i given) ps) (sym (g.0))
+      subst (λ i. Stands tokens at ((printed_tree f (t.Local i given)).lines depth ps) →
+      ItemRead ts f ctx tokens words ss k around w at (t.Local i given) ps) (sym (g.0))
       (λ c. let u = local_at k given (slice_get f.slots k) ss w at (newline ps) h (g.1) c in
-      record { behind_it = u.behind_it; keywords = tt; items = ap (λ l. notes_at ctx (Before at) ++ l) (u.locals_are); standing = u.standing; clear = u.clear; labels = λ rest. refl }) b
+      record {
+        behind_it = u.behind_it;
+        keywords = tt;
+        items = ap (λ l. notes_at ctx (Before at) ++ l) (u.locals_are);
+        standing = u.standing;
+        clear = u.clear;
+        labels = λ rest. refl;
+      }) b
 
   -- ---- the first part of a `for`, up to its `;`
 
@@ -184,26 +209,40 @@ module _ (ts : List Top) (f : Function) (ctx : Context) (tokens : List Spelling)
     pub standing : Standing nm (behind_all f.slots ss first) (k + slots_in first) (behind_start ctx (written_start at (start_of f.slots first)) w)
     pub clear : (vs : Faults) → start_faults ctx (written_start at (start_of f.slots first)) w vs ≡ vs
 
-  names_at : (k : ℕ) (given : Option (List ExpressionTree)) (xs : Forest) (o : Option Slot) → (ss : List Scope) (w : Walk) (at : ℕ) (ps : List Piece) → Standing nm ss k w
+  names_at : (k : ℕ) (given : Option (List ExpressionTree)) (xs : Forest) (o : Option Slot) →
+      (ss : List Scope) (w : Walk) (at : ℕ) (ps : List Piece) → Standing nm ss k w
       → IsSomeAnd o (λ s. IsVariable nm ss k s given × AreFurther nm f ctx (with_slot k s ss) (suc k) s xs)
-      → Stands tokens at ((option_map_or (λ (q : Slot). declaration_text f.slots q (option_map (map expression_in) given)) o nothing ⨾ further_lines xs ⨾ punctuator (codes ";")) ps)
-      → Declaring (behind_all f.slots (bind (option_map_or (λ (q : Slot). q.name) o []) (AVariable (H.Slot k)) ss) xs) (k + (1 + slots_in xs)) w at (option_map_or (λ (q : Slot). declaration_of q given (declarators_of f.slots xs)) o no_local)
+      → Stands tokens at ((option_map_or (λ (q : Slot). declaration_text f.slots q (option_map (map expression_in) given)) o nothing ⨾ further_lines
+      xs ⨾ punctuator (codes ";")) ps)
+      → Declaring (behind_all f.slots (bind (option_map_or (λ (q : Slot). q.name) o []) (AVariable (H.Slot k)) ss) xs) (k + (1 + slots_in xs)) w at
+      (option_map_or (λ (q : Slot). declaration_of q given (declarators_of f.slots xs)) o no_local)
       (item.Local k (option_map (map expression_in) given) ∷ forest_in xs) ps
   names_at k given xs None ss w at ps h g b = absurd g
   names_at k given xs (Some s) ss w at ps h g b =
       let count : suc k + slots_in xs ≡ k + (1 + slots_in xs) = omega arith in
-      first_at s given ss (behind_all f.slots (with_slot k s ss) xs) k (k + (1 + slots_in xs)) w at (declarators_of f.slots xs) (forest_in xs) (further_lines xs (punctuator (codes ";") ps)) ps h (g.0) b
-      (λ v z st a. subst (λ i. Declares (behind_all f.slots (with_slot k s ss) xs) i v z (kinds_of s) (declarators_of f.slots xs) (forest_in xs) (punctuator (codes ";") ps)) count (further_reads s xs (with_slot k s ss) (suc k) v z (punctuator (codes ";") ps) st (g.1) a))
+      first_at s given ss (behind_all f.slots (with_slot k s ss) xs) k (k + (1 + slots_in xs)) w at (declarators_of f.slots xs) (forest_in xs)
+      (further_lines xs (punctuator (codes ";") ps)) ps h (g.0) b
+      (λ v z st a. subst (λ i. Declares (behind_all f.slots (with_slot k s ss) xs) i v z (kinds_of s) (declarators_of f.slots xs) (forest_in xs)
+      (punctuator (codes ";") ps)) count (further_reads s xs (with_slot k s ss) (suc k) v z (punctuator (codes ";") ps) st (g.1) a))
 
-  start_local : (j : ℕ) (given : Option (List ExpressionTree)) (xs : Forest) (ss : List Scope) (k : ℕ) (w : Walk) (at : ℕ) (ps : List Piece) → Standing nm ss k w → IsStart nm f ctx ss k (Then (t.Local j given) xs)
-      → Stands tokens at ((first_text (printed_forest f (Then (t.Local j given) xs)) ⨾ punctuator (codes ";")) ps) → StartRead ss k w at (Then (t.Local j given) xs) ps
+  start_local : (j : ℕ) (given : Option (List ExpressionTree)) (xs : Forest) (ss : List Scope) (k : ℕ) (w : Walk) (at : ℕ) (ps : List Piece) →
+      Standing nm ss k w → IsStart nm f ctx ss k (Then (t.Local j given) xs)
+      → Stands tokens at ((first_text (printed_forest f (Then (t.Local j given) xs)) ⨾ punctuator (codes ";")) ps) →
+      StartRead ss k w at (Then (t.Local j given) xs) ps
   start_local j given xs ss k w at ps h g b =
-      subst (λ i. Stands tokens at ((first_text (printed_forest f (Then (t.Local i given) xs)) ⨾ punctuator (codes ";")) ps) → StartRead ss k w at (Then (t.Local i given) xs) ps) (sym (g.0))
+      subst (λ i. Stands tokens at ((first_text (printed_forest f (Then (t.Local i given) xs)) ⨾ punctuator (codes ";")) ps) →
+      StartRead ss k w at (Then (t.Local i given) xs) ps) (sym (g.0))
       (λ c. let u = names_at k given xs (slice_get f.slots k) ss w at ps h (g.1) c in
       record { behind_it = u.behind_it; items = u.locals_are; standing = u.standing; clear = u.clear }) b
 
-  pub start_read : (first : Forest) (ss : List Scope) (k : ℕ) (w : Walk) (at : ℕ) (ps : List Piece) → Standing nm ss k w → IsStart nm f ctx ss k first → Stands tokens at ((first_text (printed_forest f first) ⨾ punctuator (codes ";")) ps) → StartRead ss k w at first ps
-  start_read Nil ss k w at ps h g b = record { behind_it = a_mark ts f ctx tokens words at (codes ";") ps b; items = refl; standing = still nm ss k w h; clear = λ vs. refl }
+  pub start_read : (first : Forest) (ss : List Scope) (k : ℕ) (w : Walk) (at : ℕ) (ps : List Piece) → Standing nm ss k w →
+      IsStart nm f ctx ss k first → Stands tokens at ((first_text (printed_forest f first) ⨾ punctuator (codes ";")) ps) → StartRead ss k w at first ps
+  start_read Nil ss k w at ps h g b = record {
+    behind_it = a_mark ts f ctx tokens words at (codes ";") ps b;
+    items = refl;
+    standing = still nm ss k w h;
+    clear = λ vs. refl;
+  }
   start_read (Then (t.Evaluate x) Nil) ss k w at ps h g b =
       let u = full_read ts f ctx tokens words ss k w at x (punctuator (codes ";") ps) h g b in
       record {
@@ -220,7 +259,8 @@ module _ (ts : List Top) (f : Function) (ctx : Context) (tokens : List Spelling)
   further_no_marks : (xs : Forest) (ss : List Scope) (k : ℕ) (s : Slot) → AreFurther nm f ctx ss k s xs → gathered marked_label xs ≡ []
   further_no_marks Nil ss k s h = refl
   further_no_marks (Then (t.Local j given) xs) ss k s h =
-      let y = there (slice_get f.slots k) (λ r. IsVariable nm ss k r given × (r.kind ≡ s.kind) × (r.constant ≡ s.constant) × AreFurther nm f ctx (with_slot k r ss) (suc k) s xs) (h.1) in
+      let y = there (slice_get f.slots k) (λ r. IsVariable nm ss k r given × (r.kind ≡ s.kind) × (r.constant ≡ s.constant) ×
+      AreFurther nm f ctx (with_slot k r ss) (suc k) s xs) (h.1) in
       further_no_marks xs (with_slot k (y.slot) ss) (suc k) s ((y.holds).3)
   further_no_marks (Then _ xs) ss k s h = absurd h
 
@@ -236,23 +276,28 @@ module _ (ts : List Top) (f : Function) (ctx : Context) (tokens : List Spelling)
   -- ---- `for`
 
   -- a part that may be left out, up to what stands behind it
-  values_part : (e : Option ExpressionTree) (ss : List Scope) (k : ℕ) (w : Walk) (at : ℕ) (ps : List Piece) → Standing nm ss k w → IfSome e (IsValueOf nm ss) → Stands tokens at (part_text f.slots (option_map expression_in e) ps)
-      → (option_map (value_at (env_at ctx w)) (optional_term at (option_map derivation_of e)) ≡ option_map expression_in e) × ((vs : Faults) → optional_faults (value_faults (env_at ctx w)) (optional_term at (option_map derivation_of e)) vs ≡ vs)
+  values_part : (e : Option ExpressionTree) (ss : List Scope) (k : ℕ) (w : Walk) (at : ℕ) (ps : List Piece) → Standing nm ss k w →
+      IfSome e (IsValueOf nm ss) → Stands tokens at (part_text f.slots (option_map expression_in e) ps)
+      → (option_map (value_at (env_at ctx w)) (optional_term at (option_map derivation_of e)) ≡ option_map expression_in e) ×
+      ((vs : Faults) → optional_faults (value_faults (env_at ctx w)) (optional_term at (option_map derivation_of e)) vs ≡ vs)
       × Stands tokens (optional_end at (option_map derivation_of e)) ps
   values_part None ss k w at ps h g b = (refl, λ vs. refl, b)
   values_part (Some x) ss k w at ps h g b =
       let u = full_read ts f ctx tokens words ss k w at x ps h (g.good) b in
       (ap Some (value_here ts f ctx tokens words ss w at x _ u (g.kind)), λ vs. values_clear ts f ctx tokens words ss w at x _ u (g.kind) vs, u.behind_it)
 
-  dropped_part : (e : Option ExpressionTree) (ss : List Scope) (k : ℕ) (w : Walk) (at : ℕ) (ps : List Piece) → Standing nm ss k w → IfSome e (IsExpressionOf nm ss) → Stands tokens at (part_text f.slots (option_map expression_in e) ps)
-      → (option_map (dropped_at (env_at ctx w)) (optional_term at (option_map derivation_of e)) ≡ option_map expression_in e) × ((vs : Faults) → optional_faults (dropped_faults (env_at ctx w)) (optional_term at (option_map derivation_of e)) vs ≡ vs)
+  dropped_part : (e : Option ExpressionTree) (ss : List Scope) (k : ℕ) (w : Walk) (at : ℕ) (ps : List Piece) → Standing nm ss k w →
+      IfSome e (IsExpressionOf nm ss) → Stands tokens at (part_text f.slots (option_map expression_in e) ps)
+      → (option_map (dropped_at (env_at ctx w)) (optional_term at (option_map derivation_of e)) ≡ option_map expression_in e) ×
+      ((vs : Faults) → optional_faults (dropped_faults (env_at ctx w)) (optional_term at (option_map derivation_of e)) vs ≡ vs)
       × Stands tokens (optional_end at (option_map derivation_of e)) ps
   dropped_part None ss k w at ps h g b = (refl, λ vs. refl, b)
   dropped_part (Some x) ss k w at ps h g b =
       let u = full_read ts f ctx tokens words ss k w at x ps h g b in
       (ap Some (dropped_is ts f ctx tokens words ss w at x _ u), λ vs. drops_clear ts f ctx tokens words ss w at x _ u vs, u.behind_it)
 
-  pub for_reads : (first : Forest) (c u : Option ExpressionTree) (a : Forest) → ReadsList ts f ctx tokens words a → ReadsOne ts f ctx tokens words (t.For first c u a)
+  pub for_reads : (first : Forest) (c u : Option ExpressionTree) (a : Forest) → ReadsList ts f ctx tokens words a →
+      ReadsOne ts f ctx tokens words (t.For first c u a)
   for_reads first c u a r ss k around w at depth ps h g p b =
       let p4 = (space ⨾ braced (printed_forest f a) depth ⨾ newline) ps in
       let p3 = punctuator (codes ")") p4 in
@@ -281,10 +326,15 @@ module _ (ts : List Top) (f : Function) (ctx : Context) (tokens : List Spelling)
         behind_it = l.behind_it;
         keywords = (m.0, l.keywords);
         items = λ j. notes_at ctx (Before at) ++ item.For (st.items j) (tc.0 j) (tu.0 j) (l.items j) ∷ [];
-        standing = subst (λ j. Standing nm ss j (leave w (behind_body ctx body v))) count (left nm ss rs k (i + slots_in a) w (behind_body ctx body v) h (l.standing));
-        labels = λ rest. l.labels rest ∙ (λ j. names_of ts f ctx tokens words (sym (no_marks first (inside ss) k (g.0)) j ++ gathered marked_label a) ++ map ctx.word rest);
+        standing = subst (λ j. Standing nm ss j (leave w (behind_body ctx body v))) count
+            (left nm ss rs k (i + slots_in a) w (behind_body ctx body v) h (l.standing));
+        labels = λ rest. l.labels rest ∙
+            (λ j. names_of ts f ctx tokens words (sym (no_marks first (inside ss) k (g.0)) j ++ gathered marked_label a) ++ map ctx.word rest);
         clear = λ vs.
-            ap (λ q. body_faults ctx (in_loop around) body v (optional_faults (dropped_faults (env_at ctx v)) (optional_term (y + 1) (option_map derivation_of u)) (optional_faults (value_faults (env_at ctx v)) (optional_term x (option_map derivation_of c)) q))) (st.clear vs)
-            ∙ ap (λ q. body_faults ctx (in_loop around) body v (optional_faults (dropped_faults (env_at ctx v)) (optional_term (y + 1) (option_map derivation_of u)) q)) (tc.1 vs)
+            ap (λ q. body_faults ctx (in_loop around) body v
+            (optional_faults (dropped_faults (env_at ctx v)) (optional_term (y + 1) (option_map derivation_of u))
+            (optional_faults (value_faults (env_at ctx v)) (optional_term x (option_map derivation_of c)) q))) (st.clear vs)
+            ∙ ap (λ q. body_faults ctx (in_loop around) body v
+            (optional_faults (dropped_faults (env_at ctx v)) (optional_term (y + 1) (option_map derivation_of u)) q)) (tc.1 vs)
             ∙ ap (body_faults ctx (in_loop around) body v) (tu.1 vs) ∙ l.clear vs;
       }

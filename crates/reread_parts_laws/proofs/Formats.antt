@@ -53,15 +53,22 @@ module _ (b : ℕ) (bs : List ℕ) (out : List Want) where
 
   abbrev Percents : Bool → Bool → Type 0
   Percents x y =
-      elim (cond (x || is_short b) (Some Plain) (cond y (Some PercentLong) None)) as (λ _. Option (List Want)) [ None ↦ None | Some next ↦ wanted_from (out ++ cond (is_short b) (Sized false ∷ []) []) next bs ]
+      elim (cond (x || is_short b) (Some Plain) (cond y (Some PercentLong) None)) as (λ _. Option (List Want))
+      [ None ↦ None | Some next ↦ wanted_from (out ++ cond (is_short b) (Sized false ∷ []) []) next bs ]
       ≡ behind out (elim x as (λ _. Option (List Bool)) [
         | true ↦ wanted bs
-        | false ↦ elim y as (λ _. Option (List Bool)) [ true ↦ after_l bs | false ↦ elim (is_short b) as (λ _. Option (List Bool)) [ true ↦ option_map (λ ws. false ∷ ws) (wanted bs) | false ↦ None ] ]
+        | false ↦ elim y as (λ _. Option (List Bool)) [
+          | true ↦ after_l bs
+          | false ↦ elim (is_short b) as (λ _. Option (List Bool))
+              [ true ↦ option_map (λ ws. false ∷ ws) (wanted bs) | false ↦ None ]
+        ]
       ])
 
-  percent_by : (x y : Bool) → (b == 37) ≡ x → (b == 108) ≡ y → Follows Plain (wanted bs) → Follows PercentLong (after_l bs) → wanted_from out Percent (b ∷ bs) ≡ behind out (after_percent (b ∷ bs))
+  percent_by : (x y : Bool) → (b == 37) ≡ x → (b == 108) ≡ y → Follows Plain (wanted bs) → Follows PercentLong (after_l bs) →
+      wanted_from out Percent (b ∷ bs) ≡ behind out (after_percent (b ∷ bs))
   percent_by true y e h f g = subst (λ c. wanted_from out Percent (c ∷ bs) ≡ behind out (after_percent (c ∷ bs))) (sym (eqb-true b 37 e)) (percent_at_37 f)
-  percent_by false true e h f g = subst (λ c. wanted_from out Percent (c ∷ bs) ≡ behind out (after_percent (c ∷ bs))) (sym (eqb-true b 108 h)) (percent_at_108 g)
+  percent_by false true e h f g = subst (λ c. wanted_from out Percent (c ∷ bs) ≡ behind out (after_percent (c ∷ bs))) (sym (eqb-true b 108 h))
+      (percent_at_108 g)
   percent_by false false e h f g = subst (λ x. Percents x (b == 108)) (sym e) (subst (λ y. Percents false y) (sym h) (short_by (is_short b) f))
 
 mutual

@@ -70,7 +70,8 @@ pub record FullReads (env : Env) (tokens : List Spelling) (form : Form) (end : �
   pub behind : Stands tokens end ps
 
 module _ (n : Names) (ss : List Scope) (env : Env) (tokens : List Spelling) (here : IsPlace n ss env tokens) where
-  full : (need at : ℕ) (ps : List Piece) (x : ExpressionTree) (form : Form) (end : ℕ) → need ≤ 14 → Lying need at x form end → IsExpressionOf n ss x → Stands tokens at (tree_text n.slots x need ps)
+  full : (need at : ℕ) (ps : List Piece) (x : ExpressionTree) (form : Form) (end : ℕ) → need ≤ 14 → Lying need at x form end → IsExpressionOf n ss x →
+      Stands tokens at (tree_text n.slots x need ps)
       → FullReads env tokens form end ps x
   full need at ps x form end h l g s =
       let w = spelled n.slots tokens env.word (here.words) x need at ps h s in
@@ -99,12 +100,14 @@ module _ (n : Names) (ss : List Scope) (env : Env) (tokens : List Spelling) (her
       ap (λ o. of_result o.kind o.node) (sym (out-roll-Expression (record { kind = kind; node = node_in y })))
       ∙ ap (λ (i : Expression). of_result (out-Expression i).kind (out-Expression i).node) h
 
-  pub reads_whole : (term : Term) (first : ℕ) (form : Form) (end : ℕ) (ps : List Piece) (e : Expression) → term ≡ At first form → FullReads env tokens form end ps (expression_tree e) → ReadsAs env tokens term end ps e
+  pub reads_whole : (term : Term) (first : ℕ) (form : Form) (end : ℕ) (ps : List Piece) (e : Expression) → term ≡ At first form →
+      FullReads env tokens form end ps (expression_tree e) → ReadsAs env tokens term end ps e
   reads_whole term first form end ps e h r = record {
     typed_as = ap (typed env) h ∙ r.reads.typed ∙ typed_whole (expression_tree e) e (whole e);
     clear = λ vs. ap (λ y. faults env y vs) h ∙ r.reads.clear vs;
     behind = r.behind;
   }
 
-  pub stands_tree : (need at : ℕ) (ps : List Piece) (e : Expression) → Stands tokens at (expression_text n.slots e need ps) → Stands tokens at (tree_text n.slots (expression_tree e) need ps)
+  pub stands_tree : (need at : ℕ) (ps : List Piece) (e : Expression) → Stands tokens at (expression_text n.slots e need ps) →
+      Stands tokens at (tree_text n.slots (expression_tree e) need ps)
   stands_tree need at ps e s = subst (λ f. Stands tokens at (f need ps)) (text_of_tree n.slots e) s

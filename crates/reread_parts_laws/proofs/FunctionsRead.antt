@@ -88,13 +88,16 @@ at_drop (suc k) (x ∷ xs) s rest e = at_drop k xs s rest e
 -- ---- parameters
 
 module _ (n : Names) (ctx : Context) (tokens : List Spelling) (here : AreWords ctx.word tokens) where
-  parameters_good : (m : ℕ) (xs : List Slot) (k : ℕ) (ss : List Scope) (defines : Bool) → drop k n.slots ≡ xs → AreNewParameters m k xs ss → AreLengths IsParameterLength (take m xs) → (defines ≡ true → Each HasName (take m xs))
+  parameters_good : (m : ℕ) (xs : List Slot) (k : ℕ) (ss : List Scope) (defines : Bool) → drop k n.slots ≡ xs → AreNewParameters m k xs ss →
+      AreLengths IsParameterLength (take m xs) → (defines ≡ true → Each HasName (take m xs))
       → AreParameters n ctx tokens here ss k (take m xs) defines
   parameters_good zero xs k ss defines e h l d = tt
   parameters_good (suc m) [] k ss defines e h l d = tt
   parameters_good (suc m) (s ∷ xs) k ss defines e h l d =
-      let q = at_drop k n.slots s xs e in
-      (record { slot_is = q.0; lengths = l.0; new = h.0; named = λ x. (d x).0 }, parameters_good m xs (suc k) (bind_parameter s.name k ss) defines (q.1) (h.1) (l.1) (λ x. (d x).1))
+      let q = at_drop k n.slots s xs e in (
+        record { slot_is = q.0; lengths = l.0; new = h.0; named = λ x. (d x).0 },
+        parameters_good m xs (suc k) (bind_parameter s.name k ss) defines (q.1) (h.1) (l.1) (λ x. (d x).1),
+      )
 
   parameters_scopes : (m : ℕ) (xs : List Slot) (k : ℕ) (ss : List Scope) → behind_parameters n ctx tokens here ss k (take m xs) ≡ with_parameters m k xs ss
   parameters_scopes zero xs k ss = refl
@@ -103,7 +106,8 @@ module _ (n : Names) (ctx : Context) (tokens : List Spelling) (here : AreWords c
 
 -- ---- the head of a function
 
-pub static_read : (slots : List Slot) (tokens : List Spelling) (the_word : ℕ → List ℕ) → AreWords the_word tokens → (b : Bool) (at : ℕ) (ps : List Piece) → Stands tokens at ((only_if b (word (codes "static") ⨾ space)) ps) → Stands tokens (word_end at b) ps
+pub static_read : (slots : List Slot) (tokens : List Spelling) (the_word : ℕ → List ℕ) → AreWords the_word tokens →
+    (b : Bool) (at : ℕ) (ps : List Piece) → Stands tokens at ((only_if b (word (codes "static") ⨾ space)) ps) → Stands tokens (word_end at b) ps
 static_read slots tokens the_word here true at ps s = (word_here slots tokens the_word here at (codes "static") (space ps) s).1
 static_read slots tokens the_word here false at ps s = s
 
@@ -111,11 +115,13 @@ result_ends : (at : ℕ) (o : Option IntKind) → words.result_end at o ≡ resu
 result_ends at None = refl
 result_ends at (Some kind) = refl
 
-result_is : (the_word : ℕ → List ℕ) (at : ℕ) (o : Option IntKind) → ResultIsSpelled the_word at o → option_map (kind_of the_word) (result_words at (option_map type_of o)) ≡ o
+result_is : (the_word : ℕ → List ℕ) (at : ℕ) (o : Option IntKind) → ResultIsSpelled the_word at o →
+    option_map (kind_of the_word) (result_words at (option_map type_of o)) ≡ o
 result_is the_word at None h = refl
 result_is the_word at (Some kind) h = ap Some (kind_is the_word kind at h)
 
-module _ (counts : FlatCounts) (ts : List Top) (f : Function) (the_word : ℕ → List ℕ) (notes : Anchor → List (List ℕ)) (tokens : List Spelling) (ss : List Scope) (scopes : List kinds.Scope) (at : ℕ)
+module _ (counts : FlatCounts) (ts : List Top) (f : Function) (the_word : ℕ → List ℕ) (notes : Anchor → List (List ℕ)) (tokens : List Spelling)
+    (ss : List Scope) (scopes : List kinds.Scope) (at : ℕ)
     (h : IsFunction counts ts f ss) (here : AreWords the_word tokens) (same : AreSameScopes (names_in ts f) ss scopes) where
   abbrev nm : Names
   nm = names_in ts f
@@ -152,7 +158,8 @@ module _ (counts : FlatCounts) (ts : List Top) (f : Function) (the_word : ℕ �
     brackets : Stands tokens (p1 + 1 + 1) (parameters_text params (punctuator (codes ")") ((body_text f o ⨾ newline) ps)))
 
   head_read : (o : Option (List Item)) (ps : List Piece)
-      → Stands tokens at ((only_if f.file_only (word (codes "static") ⨾ space) ⨾ result_text f.result ⨾ space ⨾ word f.name ⨾ punctuator (codes "(") ⨾ parameters_text params ⨾ punctuator (codes ")") ⨾ body_text f o ⨾ newline) ps) → HeadRead ps o
+      → Stands tokens at ((only_if f.file_only (word (codes "static") ⨾ space) ⨾ result_text f.result ⨾ space ⨾ word f.name ⨾ punctuator
+      (codes "(") ⨾ parameters_text params ⨾ punctuator (codes ")") ⨾ body_text f o ⨾ newline) ps) → HeadRead ps o
   head_read o ps b =
       let q4 = (body_text f o ⨾ newline) ps in
       let q3 = punctuator (codes ")") q4 in
@@ -165,7 +172,12 @@ module _ (counts : FlatCounts) (ts : List Top) (f : Function) (the_word : ℕ �
       let b2 = (mark_here f.slots tokens the_word here (p1 + 1) (codes "(") q2 (m.1)).1 in
       let ctx = prototype_context the_word (source o) in
       let all = all_read nm ctx tokens here params (p1 + 1 + 1) q3 b2 in
-      record { result = result_is the_word p0 f.result (r.0); name = m.0; behind_it = (mark_here f.slots tokens the_word here p2 (codes ")") q4 (all.behind_it)).1; brackets = b2 }
+      record {
+        result = result_is the_word p0 f.result (r.0);
+        name = m.0;
+        behind_it = (mark_here f.slots tokens the_word here p2 (codes ")") q4 (all.behind_it)).1;
+        brackets = b2;
+      }
 
   few : f.params ≤ length f.slots
   few = h.resolved.form.parameters
@@ -173,8 +185,10 @@ module _ (counts : FlatCounts) (ts : List Top) (f : Function) (the_word : ℕ �
   params_count : length params ≡ f.params
   params_count = took f.params f.slots few
 
-  params_good : (ctx : Context) (words_in : AreWords ctx.word tokens) (defines : Bool) → (defines ≡ true → is_some f.body ≡ true) → AreParameters nm ctx tokens words_in (inside ss) 0 params defines
-  params_good ctx words_in defines d = parameters_good nm ctx tokens words_in f.params f.slots 0 (inside ss) defines refl h.parameters h.resolved.lengths.parameters (λ x. h.spelled.all_named (d x))
+  params_good : (ctx : Context) (words_in : AreWords ctx.word tokens) (defines : Bool) → (defines ≡ true → is_some f.body ≡ true) →
+      AreParameters nm ctx tokens words_in (inside ss) 0 params defines
+  params_good ctx words_in defines d = parameters_good nm ctx tokens words_in f.params f.slots 0 (inside ss) defines refl h.parameters
+      h.resolved.lengths.parameters (λ x. h.spelled.all_named (d x))
 
   -- as FunctionReads, by the body
   record At (o : Option (List Item)) (ps : List Piece) : Type 0 where
@@ -183,7 +197,8 @@ module _ (counts : FlatCounts) (ts : List Top) (f : Function) (the_word : ℕ �
     name : the_word p1 ≡ f.name
     result : result_kind the_word (source o) ≡ f.result
     wants : (external : Bool) → map (want_of the_word external) (source o).parameters ≡ wants_in external params
-    clear : (flat : List Item → Option (ℕ × ℕ)) (vs : Faults) → function_faults flat the_word notes (source o) scopes vs ≡ measured flat the_word (source o) (source o).body o vs
+    clear : (flat : List Item → Option (ℕ × ℕ)) (vs : Faults) → function_faults flat the_word notes (source o) scopes vs ≡ measured flat the_word
+        (source o) (source o).body o vs
     behind_it : Stands tokens (function_end at (derived o)) ps
 
   prototype : (ps : List Piece) → f.body ≡ None → HeadRead ps None → At None ps
@@ -223,7 +238,8 @@ module _ (counts : FlatCounts) (ts : List Top) (f : Function) (the_word : ℕ �
       = ap slots_in (sym xs) ∙ sym (slots_counted (body_of f)) ∙ ap length h.resolved.form.slots ∙ counted f.params (length f.slots - f.params) in
       omega (arith, c, few)
 
-  definition : (body : List Item) (ps : List Piece) → f.body ≡ Some body → NotesOfBody f.slots notes (p2 + 1) (trees_of body) → HeadRead ps (Some body) → At (Some body) ps
+  definition : (body : List Item) (ps : List Piece) → f.body ≡ Some body → NotesOfBody f.slots notes (p2 + 1) (trees_of body) →
+      HeadRead ps (Some body) → At (Some body) ps
   definition body ps e notes_here head =
       let x = source (Some body) in
       let block = written_block (p2 + 1) (items_of f.slots (trees_of body) NoItems) in
@@ -233,8 +249,16 @@ module _ (counts : FlatCounts) (ts : List Top) (f : Function) (the_word : ℕ �
       let w = bind_parameters the_word x.parameters w0 in
       let rs = with_parameters f.params 0 f.slots (inside ss) in
       let k : 0 + length params ≡ f.params = let a = params_count in omega (arith, a) in
-      let st : Standing nm rs f.params w = subst (λ z. Standing nm z f.params w) (parameters_scopes nm ctx tokens here f.params f.slots 0 (inside ss)) (subst (λ i. Standing nm (behind_parameters nm ctx tokens here (inside ss) 0 params) i w) k (p.standing)) in
-      let is_body : IsBody counts ts f rs body = record { is = e; resolved = h.resolved; labels = h.spelled.labels; prints = prints_of body e; bound = subst (BodyIsBound f ss) e h.bound } in
+      let st : Standing nm rs f.params w = subst (λ z. Standing nm z f.params w) (parameters_scopes nm ctx tokens here f.params f.slots 0 (inside ss))
+      (subst (λ i. Standing nm (behind_parameters nm ctx tokens here (inside ss) 0 params) i w) k (p.standing)) in
+      let is_body : IsBody counts ts f rs body = record {
+        is = e;
+        resolved = h.resolved;
+        labels = h.spelled.labels;
+        prints = prints_of body e;
+        bound =
+            subst (BodyIsBound f ss) e h.bound;
+      } in
       let r = resolved_reads counts ts f the_word notes x tokens rs w (p2 + 1) 0 body (newline ps) is_body here (head.result) st notes_here (head.behind_it) in
       let slots = r.reads.standing.slots_are ∙ take_all f.slots (f.params + slots_in (trees_of body)) (slots_all body e) in
       record {
@@ -254,7 +278,8 @@ module _ (counts : FlatCounts) (ts : List Top) (f : Function) (the_word : ℕ �
         wants = p.wants;
         clear = λ flat vs.
             (λ i. tangle_fault flat the_word x block (r.reads.items i) (body_faults ctx block w (twice_faults the_word (body_labels block []) (p.clear vs i))))
-            ∙ (λ i. tangle_fault flat the_word x block body (body_faults ctx block w (r.once vs i))) ∙ (λ i. tangle_fault flat the_word x block body (r.reads.clear vs i));
+            ∙ (λ i. tangle_fault flat the_word x block body (body_faults ctx block w (r.once vs i))) ∙
+            (λ i. tangle_fault flat the_word x block body (r.reads.clear vs i));
         behind_it = r.reads.behind;
       }
 
@@ -262,7 +287,8 @@ module _ (counts : FlatCounts) (ts : List Top) (f : Function) (the_word : ℕ �
   by_body None ps e q head = prototype ps e head
   by_body (Some body) ps e q head = definition body ps e q head
 
-  pub function_reads : (ps : List Piece) → NotesOfFunction f notes (body_at at f) f.body → Stands tokens at (function_text f ps) → FunctionReads f the_word notes tokens scopes at ps
+  pub function_reads : (ps : List Piece) → NotesOfFunction f notes (body_at at f) f.body → Stands tokens at (function_text f ps) →
+      FunctionReads f the_word notes tokens scopes at ps
   function_reads ps q b =
       let r = by_body f.body ps refl q (head_read f.body ps b) in
       record { keywords = r.keywords; function = r.function_is; name = r.name; result = r.result; wants = r.wants; clear = r.clear; behind = r.behind_it }

@@ -67,25 +67,39 @@ behind_other ts us e (T.Enum es ∷ xs) h = (tt, behind_other ts us e xs (h.1))
 behind_other ts us e (T.Function f ∷ xs) h = (tt, behind_other ts us e xs (h.1))
 behind_other ts us e (T.Global g ∷ xs) h = (e g.slot.name ∙ h.0, behind_other ts us e xs (h.1))
 
-behind_global : (s : Slot) (ts us : List Top) → ((m : List ℕ) → the_global m us ≡ cond (bytes_eq s.name m) (Some s) (the_global m ts)) → (xs : List Top) → Each (Differs s.name) xs → Each (IsFound ts) xs → Each (IsFound us) xs
+behind_global : (s : Slot) (ts us : List Top) → ((m : List ℕ) → the_global m us ≡ cond (bytes_eq s.name m) (Some s) (the_global m ts)) →
+    (xs : List Top) → Each (Differs s.name) xs → Each (IsFound ts) xs → Each (IsFound us) xs
 behind_global s ts us e [] d h = tt
 behind_global s ts us e (T.Include bytes ∷ xs) d h = (tt, behind_global s ts us e xs (d.1) (h.1))
 behind_global s ts us e (T.Note bytes ∷ xs) d h = (tt, behind_global s ts us e xs (d.1) (h.1))
 behind_global s ts us e (T.Enum es ∷ xs) d h = (tt, behind_global s ts us e xs (d.1) (h.1))
 behind_global s ts us e (T.Function f ∷ xs) d h = (tt, behind_global s ts us e xs (d.1) (h.1))
-behind_global s ts us e (T.Global g ∷ xs) d h = (e g.slot.name ∙ ap (λ b. cond b (Some s) (the_global g.slot.name ts)) (d.0) ∙ h.0, behind_global s ts us e xs (d.1) (h.1))
+behind_global s ts us e (T.Global g ∷ xs) d h = (
+  e g.slot.name ∙ ap (λ b. cond b (Some s) (the_global g.slot.name ts)) (d.0) ∙ h.0,
+  behind_global s ts
+      us e xs (d.1) (h.1),
+)
 
 all_found : (xs : List Top) (ss : List Scope) → IsInScope ss → TopsAreBound ss xs → Each (IsFound xs) xs
 all_found [] ss there b = tt
 all_found (T.Include bytes ∷ xs) ss there b = (tt, behind_other xs (T.Include bytes ∷ xs) (λ m. refl) xs (all_found xs ss there (b.1)))
 all_found (T.Note bytes ∷ xs) ss there b = (tt, behind_other xs (T.Note bytes ∷ xs) (λ m. refl) xs (all_found xs ss there (b.1)))
-all_found (T.Enum es ∷ xs) ss there b = (tt, behind_other xs (T.Enum es ∷ xs) (λ m. refl) xs (all_found xs (bind_constants es ss) (constants_inside es ss there) (b.1)))
-all_found (T.Function f ∷ xs) ss there b = (tt, behind_other xs (T.Function f ∷ xs) (λ m. refl) xs (all_found xs (behind_top ss (T.Function f)) (bind_inside f.name AFunction ss there) (b.1)))
+all_found (T.Enum es ∷ xs) ss there b = (
+  tt,
+  behind_other xs (T.Enum es ∷ xs) (λ m. refl) xs
+      (all_found xs (bind_constants es ss) (constants_inside es ss there) (b.1)),
+)
+all_found (T.Function f ∷ xs) ss there b = (
+  tt,
+  behind_other xs (T.Function f ∷ xs) (λ m. refl) xs
+      (all_found xs (behind_top ss (T.Function f)) (bind_inside f.name AFunction ss there) (b.1)),
+)
 all_found (T.Global g ∷ xs) ss there b =
     let meaning = AVariable (H.Global g.slot.name) in
     let behind = behind_top ss (T.Global g) in (
       ap (λ t. cond t (Some g.slot) (the_global g.slot.name xs)) (names_same g.slot.name g.slot.name refl),
-      behind_global g.slot xs (T.Global g ∷ xs) (λ m. refl) xs (later g.slot.name xs behind (bound_there g.slot.name meaning ss there) (b.1)) (all_found xs behind (bind_inside g.slot.name meaning ss there) (b.1)),
+      behind_global g.slot xs (T.Global g ∷ xs) (λ m. refl) xs (later g.slot.name xs behind (bound_there g.slot.name meaning ss there) (b.1))
+          (all_found xs behind (bind_inside g.slot.name meaning ss there) (b.1)),
     )
 
 pub globals_found : (ts : List Top) → NamesAreBound ts → Each (IsFound ts) ts

@@ -87,7 +87,8 @@ mutual
 
   counted_in : (c : Sections) → length (gathered_in declared_slot c) ≡ slots_within c
   counted_in NoSection = refl
-  counted_in (Section cases default a ends c) = length-append (gathered declared_slot a) (gathered_in declared_slot c) ∙ (λ i. slots_counted a i + counted_in c i)
+  counted_in (Section cases default a ends c) = length-append (gathered declared_slot a) (gathered_in declared_slot c) ∙
+      (λ i. slots_counted a i + counted_in c i)
 
 record Split (a b : List ℕ) (k m n : ℕ) : Type 0 where
   first : a ≡ numbers_from k m
@@ -150,10 +151,18 @@ pub record Exits (around : Around) (b c : ℕ) : Type 0 where
   pub continues_are : around.loop ≡ false → c ≡ 0
 
 exits_first : (around : Around) (b c d e : ℕ) → Exits around (b + d) (c + e) → Exits around b c
-exits_first around b c d e h = record { breaks_are = λ x. let y = h.breaks_are x in omega (arith, y); continues_are = λ x. let y = h.continues_are x in omega (arith, y) }
+exits_first around b c d e h = record {
+  breaks_are = λ x. let y = h.breaks_are x in
+      omega (arith, y);
+  continues_are = λ x. let y = h.continues_are x in omega (arith, y);
+}
 
 exits_last : (around : Around) (b c d e : ℕ) → Exits around (b + d) (c + e) → Exits around d e
-exits_last around b c d e h = record { breaks_are = λ x. let y = h.breaks_are x in omega (arith, y); continues_are = λ x. let y = h.continues_are x in omega (arith, y) }
+exits_last around b c d e h = record {
+  breaks_are = λ x. let y = h.breaks_are x in omega (arith, y);
+  continues_are = λ x. let y = h.continues_are x in
+      omega (arith, y);
+}
 
 -- in a loop neither leaves it
 of_loop : (around : Around) (b c : ℕ) → Exits (in_loop around) b c
@@ -170,7 +179,8 @@ is_there : (b : Bool) (n : ℕ) → 1 ≤ n → (b ≡ false → n ≡ 0) → b 
 is_there true n l h = refl
 is_there false n l h = let e = h refl in absurd (omega (arith, l, e))
 
-module _ (ts : List Top) (f : Function) (ctx : Context) (result : ctx.result ≡ f.result) (labels : (l : ℕ) → l < length f.labels → found (label_name f l) ctx.labels ≡ Some l)
+module _ (ts : List Top) (f : Function) (ctx : Context) (result : ctx.result ≡ f.result)
+    (labels : (l : ℕ) → l < length f.labels → found (label_name f l) ctx.labels ≡ Some l)
     (lengths : (k : ℕ) (s : Slot) → f.params ≤ k → slice_get f.slots k ≡ Some s → IsLength s.cells) where
   abbrev nm : Names
   nm = names_in ts f
@@ -199,13 +209,16 @@ module _ (ts : List Top) (f : Function) (ctx : Context) (result : ctx.result ≡
 
   -- ---- expressions
 
-  expression_good : (ss : List Scope) (need : ℕ) (x : ExpressionTree) → KindsAgree nm x → IsBound f.slots ss x → Within (WritesNoConst nm) x → IsOperand x → FullPrints f.slots need x → IsExpressionOf nm ss x
+  expression_good : (ss : List Scope) (need : ℕ) (x : ExpressionTree) → KindsAgree nm x → IsBound f.slots ss x → Within (WritesNoConst nm) x →
+      IsOperand x → FullPrints f.slots need x → IsExpressionOf nm ss x
   expression_good ss need x k b c o p = record { kinds = k; bound = b; consts = c; operand = o; prints = p.prints }
 
-  value_good : (ss : List Scope) (need : ℕ) (x : ExpressionTree) → KindsAgree nm x → IsBound f.slots ss x → Within (WritesNoConst nm) x → HasValue x → FullPrints f.slots need x → IsValueOf nm ss x
+  value_good : (ss : List Scope) (need : ℕ) (x : ExpressionTree) → KindsAgree nm x → IsBound f.slots ss x → Within (WritesNoConst nm) x → HasValue x →
+      FullPrints f.slots need x → IsValueOf nm ss x
   value_good ss need x k b c v p = record { good = expression_good ss need x k b c (v.operand) p; kind = v.kind }
 
-  values_good : (ss : List Scope) (xs : List ExpressionTree) → Each (KindsAgree nm) xs → Each (IsBound f.slots ss) xs → Each (Within (WritesNoConst nm)) xs → Each HasValue xs → ListPrints f.slots 2 xs → Each (IsValueOf nm ss) xs
+  values_good : (ss : List Scope) (xs : List ExpressionTree) → Each (KindsAgree nm) xs → Each (IsBound f.slots ss) xs →
+      Each (Within (WritesNoConst nm)) xs → Each HasValue xs → ListPrints f.slots 2 xs → Each (IsValueOf nm ss) xs
   values_good ss [] k b c v p = tt
   values_good ss (x ∷ xs) k b c v p = (value_good ss 2 x (k.0) (b.0) (c.0) (v.0) (p.0), values_good ss xs (k.1) (b.1) (c.1) (v.1) (p.1))
 
@@ -216,7 +229,9 @@ module _ (ts : List Top) (f : Function) (ctx : Context) (result : ctx.result ≡
   given_prints None (x ∷ y ∷ xs) h = absurd h
   given_prints (Some c) [] h = absurd h
 
-  given_good : (ss : List Scope) (cells : Option ℕ) (given : Option (List ExpressionTree)) → IfSome given (Each (KindsAgree nm)) → IfSome given (Each (IsBound f.slots ss)) → IfSome given (Each (Within (WritesNoConst nm))) → IfSome given (Each HasValue) → ValuesPrint f.slots cells given
+  given_good : (ss : List Scope) (cells : Option ℕ) (given : Option (List ExpressionTree)) → IfSome given (Each (KindsAgree nm)) →
+      IfSome given (Each (IsBound f.slots ss)) → IfSome given (Each (Within (WritesNoConst nm))) → IfSome given (Each HasValue) →
+      ValuesPrint f.slots cells given
       → IfSome given (Each (IsValueOf nm ss))
   given_good ss cells None k b c v p = k
   given_good ss cells (Some xs) k b c v p = values_good ss xs k b c v (given_prints cells xs p)
@@ -228,11 +243,13 @@ module _ (ts : List Top) (f : Function) (ctx : Context) (result : ctx.result ≡
     is : slice_get f.slots k ≡ Some slot
     good : IsVariable nm ss k slot given
 
-  local_good : (ss : List Scope) (k : ℕ) (given : Option (List ExpressionTree)) → Fact (t.Local k given) → SlotPrints f.slots (slice_get f.slots k) given → ItemIsBound f.slots ss (t.Local k given) → f.params ≤ k → LocalGood ss k given
+  local_good : (ss : List Scope) (k : ℕ) (given : Option (List ExpressionTree)) → Fact (t.Local k given) →
+      SlotPrints f.slots (slice_get f.slots k) given → ItemIsBound f.slots ss (t.Local k given) → f.params ≤ k → LocalGood ss k given
   local_good ss k given h p b low = by_slot (slice_get f.slots k) refl p (initial_in (t.Local k given) h) b
     where
       by_slot : (o : Option Slot) → slice_get f.slots k ≡ o → SlotPrints f.slots o given → IsInitialised (f.slots) (t.Local k given)
-          → (resolved.IsNew (slot_name f.slots k) ss × IfSome given (Each (IsBound f.slots (bind (slot_name f.slots k) (AVariable (H.Slot k)) ss)))) → LocalGood ss k given
+          → (resolved.IsNew (slot_name f.slots k) ss × IfSome given (Each (IsBound f.slots (bind (slot_name f.slots k) (AVariable (H.Slot k)) ss)))) →
+          LocalGood ss k given
       by_slot None q p i b = absurd p
       by_slot (Some s) q p i b =
           let name : slot_name f.slots k ≡ s.name = ap (λ o. option_map_or (λ (r : Slot). r.name) o []) q in
@@ -246,7 +263,9 @@ module _ (ts : List Top) (f : Function) (ctx : Context) (result : ctx.result ≡
               length = lengths k s low q;
               fits = subst (λ o. IsSomeAnd o (λ r. IfSome given (AreInitialisers 1024 r.cells))) q i;
               new = subst (λ m. resolved.IsNew m ss) name (b.0);
-              values = given_good (with_slot k s ss) s.cells given (ks.kinds) (subst (λ m. IfSome given (Each (IsBound f.slots (bind m (AVariable (H.Slot k)) ss)))) name (b.1)) (consts_in (t.Local k given) h) (ks.values) (p.values);
+              values = given_good (with_slot k s ss) s.cells given (ks.kinds)
+                  (subst (λ m. IfSome given (Each (IsBound f.slots (bind m (AVariable (H.Slot k)) ss)))) name (b.1)) (consts_in (t.Local k given) h)
+                  (ks.values) (p.values);
             };
           }
 
@@ -263,7 +282,8 @@ module _ (ts : List Top) (f : Function) (ctx : Context) (result : ctx.result ≡
       same x y e = cc
 
   -- further variables of one declaration
-  further_good : (xs : Forest) (s : Slot) (ss : List Scope) (k : ℕ) → AreAlike f.slots s xs → Everywhere Fact xs → FurtherPrint f.slots xs → AreBound f.slots ss xs → Ordered k (gathered declared_slot xs) (slots_in xs) → f.params ≤ k → AreFurther nm f ctx ss k s xs
+  further_good : (xs : Forest) (s : Slot) (ss : List Scope) (k : ℕ) → AreAlike f.slots s xs → Everywhere Fact xs → FurtherPrint f.slots xs →
+      AreBound f.slots ss xs → Ordered k (gathered declared_slot xs) (slots_in xs) → f.params ≤ k → AreFurther nm f ctx ss k s xs
   further_good Nil s ss k a h p b o low = tt
   further_good (Then (t.Local j given) xs) s ss k a h p b o low =
       let q = here j k (gathered declared_slot xs) (slots_in xs) o in
@@ -273,12 +293,19 @@ module _ (ts : List Top) (f : Function) (ctx : Context) (result : ctx.result ≡
       let alike = subst (λ z. IsSomeAnd z (λ r. (r.kind ≡ s.kind) × (r.constant ≡ s.constant))) (l.is) (a.0) in
       let rest = further_good xs s (bind (slot_name f.slots j) (AVariable (H.Slot j)) ss) (suc k) (a.1) (h.1) (p.1) (b.1) (q.1) (omega (arith, low)) in (
         q.0,
-        some_slot (slice_get f.slots k) r (λ r. IsVariable nm ss k r given × (r.kind ≡ s.kind) × (r.constant ≡ s.constant) × AreFurther nm f ctx (with_slot k r ss) (suc k) s xs) (ap (slice_get f.slots) (sym (q.0)) ∙ l.is)
-            (subst (λ i. IsVariable nm ss i r given) (q.0) (l.good), alike.0, alike.1, subst (λ i. AreFurther nm f ctx (bind r.name (AVariable (H.Slot i)) ss) (suc k) s xs) (q.0) (subst (λ m. AreFurther nm f ctx (bind m (AVariable (H.Slot j)) ss) (suc k) s xs) name rest)),
+        some_slot (slice_get f.slots k) r (λ r. IsVariable nm ss k r given × (r.kind ≡ s.kind) × (r.constant ≡ s.constant) ×
+            AreFurther nm f ctx (with_slot k r ss) (suc k) s xs) (ap (slice_get f.slots) (sym (q.0)) ∙ l.is) (
+              subst (λ i. IsVariable nm ss i r given) (q.0) (l.good),
+              alike.0,
+              alike.1,
+              subst (λ i. AreFurther nm f ctx (bind r.name (AVariable (H.Slot i)) ss) (suc k) s xs) (q.0)
+                  (subst (λ m. AreFurther nm f ctx (bind m (AVariable (H.Slot j)) ss) (suc k) s xs) name rest),
+            ),
       )
   further_good (Then _ xs) s ss k a h p b o low = absurd a
 
-  start_good : (first : Forest) (ss : List Scope) (k : ℕ) → IsFirstPart f.slots first → Everywhere Fact first → StartPrints f.slots first → AreBound f.slots ss first → Ordered k (gathered declared_slot first) (slots_in first) → f.params ≤ k → IsStart nm f ctx ss k first
+  start_good : (first : Forest) (ss : List Scope) (k : ℕ) → IsFirstPart f.slots first → Everywhere Fact first → StartPrints f.slots first →
+      AreBound f.slots ss first → Ordered k (gathered declared_slot first) (slots_in first) → f.params ≤ k → IsStart nm f ctx ss k first
   start_good Nil ss k a h p b o low = tt
   start_good (Then (t.Evaluate x) Nil) ss k a h p b o low =
       let w = h.0 in
@@ -292,30 +319,38 @@ module _ (ts : List Top) (f : Function) (ctx : Context) (result : ctx.result ≡
       let alike = subst (λ z. IsSomeAnd z (λ s. AreAlike f.slots s xs)) (l.is) a in
       let rest = further_good xs r (bind (slot_name f.slots j) (AVariable (H.Slot j)) ss) (suc k) alike (h.1) (p.1) (b.1) (q.1) (omega (arith, low)) in (
         q.0,
-        some_slot (slice_get f.slots k) r (λ r. IsVariable nm ss k r given × AreFurther nm f ctx (with_slot k r ss) (suc k) r xs) (ap (slice_get f.slots) (sym (q.0)) ∙ l.is)
-            (subst (λ i. IsVariable nm ss i r given) (q.0) (l.good), subst (λ i. AreFurther nm f ctx (bind r.name (AVariable (H.Slot i)) ss) (suc k) r xs) (q.0) (subst (λ m. AreFurther nm f ctx (bind m (AVariable (H.Slot j)) ss) (suc k) r xs) name rest)),
+        some_slot (slice_get f.slots k) r (λ r. IsVariable nm ss k r given × AreFurther nm f ctx (with_slot k r ss) (suc k) r xs)
+            (ap (slice_get f.slots) (sym (q.0)) ∙ l.is) (
+              subst (λ i. IsVariable nm ss i r given) (q.0) (l.good),
+              subst (λ i. AreFurther nm f ctx (bind r.name (AVariable (H.Slot i)) ss) (suc k) r xs) (q.0)
+                  (subst (λ m. AreFurther nm f ctx (bind m (AVariable (H.Slot j)) ss) (suc k) r xs) name rest),
+            ),
       )
   start_good (Then (t.Evaluate x) (Then y ys)) ss k a h p b o low = absurd a
   start_good (Then _ xs) ss k a h p b o low = absurd a
 
   -- ---- items
 
-  test_good : (ss : List Scope) (c : TestTree) → TestExpression (KindsAgree nm) c → TestExpression (IsBound f.slots ss) c → TestExpression (Within (WritesNoConst nm)) c → TestExpression HasValue c → TestPrints f.slots c → IsTest nm f ctx ss c
+  test_good : (ss : List Scope) (c : TestTree) → TestExpression (KindsAgree nm) c → TestExpression (IsBound f.slots ss) c →
+      TestExpression (Within (WritesNoConst nm)) c → TestExpression HasValue c → TestPrints f.slots c → IsTest nm f ctx ss c
   test_good ss (Source x) k b c v p = value_good ss 1 x k b c v p
   test_good ss (On l) k b c v p = absurd p
   test_good ss (Off l) k b c v p = absurd p
   test_good ss (AndOff l x) k b c v p = absurd p
   test_good ss (OrOn l x) k b c v p = absurd p
 
-  optional_value : (ss : List Scope) (o : Option ExpressionTree) → IfSome o (KindsAgree nm) → IfSome o (IsBound f.slots ss) → IfSome o (Within (WritesNoConst nm)) → IfSome o HasValue → OptionPrints f.slots o → IfSome o (IsValueOf nm ss)
+  optional_value : (ss : List Scope) (o : Option ExpressionTree) → IfSome o (KindsAgree nm) → IfSome o (IsBound f.slots ss) →
+      IfSome o (Within (WritesNoConst nm)) → IfSome o HasValue → OptionPrints f.slots o → IfSome o (IsValueOf nm ss)
   optional_value ss None k b c v p = k
   optional_value ss (Some x) k b c v p = value_good ss 1 x k b c v p
 
-  optional_dropped : (ss : List Scope) (o : Option ExpressionTree) → IfSome o (KindsAgree nm) → IfSome o (IsBound f.slots ss) → IfSome o (Within (WritesNoConst nm)) → IfSome o IsOperand → OptionPrints f.slots o → IfSome o (IsExpressionOf nm ss)
+  optional_dropped : (ss : List Scope) (o : Option ExpressionTree) → IfSome o (KindsAgree nm) → IfSome o (IsBound f.slots ss) →
+      IfSome o (Within (WritesNoConst nm)) → IfSome o IsOperand → OptionPrints f.slots o → IfSome o (IsExpressionOf nm ss)
   optional_dropped ss None k b c v p = k
   optional_dropped ss (Some x) k b c v p = expression_good ss 1 x k b c v p
 
-  selector_good : (ss : List Scope) (s : SelectorTree) → KindsAgree nm (selector_source s) → IsBound f.slots ss (selector_source s) → Within (WritesNoConst nm) (selector_source s) → HasValue (selector_source s) → SelectorPrints f.slots s → IsSelector nm f ctx ss s
+  selector_good : (ss : List Scope) (s : SelectorTree) → KindsAgree nm (selector_source s) → IsBound f.slots ss (selector_source s) →
+      Within (WritesNoConst nm) (selector_source s) → HasValue (selector_source s) → SelectorPrints f.slots s → IsSelector nm f ctx ss s
   selector_good ss (Selects x) k b c v p = value_good ss 1 x k b c v p
   selector_good ss (Pick l i x) k b c v p = absurd p
 
@@ -330,9 +365,16 @@ module _ (ts : List Top) (f : Function) (ctx : Context) (result : ctx.result ≡
   abbrev Marks : List ℕ → Type 0
   Marks ls = Each (λ l. l < length f.labels) ls
 
-  cases_good : (ss : List Scope) (xs : List ExpressionTree) → Each (KindsAgree nm) xs → Each (IsBound f.slots ss) xs → Each (Within (WritesNoConst nm)) xs → Each IsConstantValue xs → ListPrints f.slots 3 xs → Each (IsCase nm f ctx ss) xs
+  cases_good : (ss : List Scope) (xs : List ExpressionTree) → Each (KindsAgree nm) xs → Each (IsBound f.slots ss) xs →
+      Each (Within (WritesNoConst nm)) xs → Each IsConstantValue xs → ListPrints f.slots 3 xs → Each (IsCase nm f ctx ss) xs
   cases_good ss [] k b c v p = tt
-  cases_good ss (x ∷ xs) k b c v p = (record { good = expression_good ss 3 x (k.0) (b.0) (c.0) (constant_operand x ((v.0).constant)) (p.0); constant = v.0 }, cases_good ss xs (k.1) (b.1) (c.1) (v.1) (p.1))
+  cases_good ss (x ∷ xs) k b c v p = (
+    record {
+      good = expression_good ss 3 x (k.0) (b.0) (c.0) (constant_operand x ((v.0).constant)) (p.0);
+      constant = v.0;
+    },
+    cases_good ss xs (k.1) (b.1) (c.1) (v.1) (p.1),
+  )
 
   labels_of_switch : (s : SelectorTree) (c : Sections) → HasCases (t.Switch s c) → Each IsConstantValue (cases_among (switch_labels c))
   labels_of_switch s c h = by_kind (selector_kind s) h
@@ -342,31 +384,43 @@ module _ (ts : List Top) (f : Function) (ctx : Context) (result : ctx.result ≡
       by_kind (Some k) h = h.constant
 
   mutual
-    good_of : (x : Tree) (ss : List Scope) (k : ℕ) (around : Around) → EverywhereOf Fact x → ItemPrints f x → ItemIsBound f.slots ss x → Ordered k (gathered_of declared_slot x) (slots_of x) → Marks (gathered_of marked_label x) → f.params ≤ k
+    good_of : (x : Tree) (ss : List Scope) (k : ℕ) (around : Around) → EverywhereOf Fact x → ItemPrints f x → ItemIsBound f.slots ss x →
+        Ordered k (gathered_of declared_slot x) (slots_of x) → Marks (gathered_of marked_label x) → f.params ≤ k
         → Exits around (breaks_of x) (continues_of x) → IsGood nm f ctx ss k around x
     good_of (t.Evaluate x) ss k around h p b o m low z =
         let ks = kinds_in (t.Evaluate x) h in
         expression_good ss 1 x (ks.kinds) b (consts_in (t.Evaluate x) h) (ks.values) p
     good_of (t.Return None) ss k around h p b o m low z = result ∙ no_result f.result (returns_in (t.Return None) h)
     good_of (t.Return (Some x)) ss k around h p b o m low z =
-        let ks = kinds_in (t.Return (Some x)) h in
-        (value_good ss 1 x (ks.kinds) b (consts_in (t.Return (Some x)) h) (ks.values) p, ap is_some result ∙ a_result f.result x (returns_in (t.Return (Some x)) h))
+        let ks = kinds_in (t.Return (Some x)) h in (
+          value_good ss 1 x (ks.kinds) b (consts_in (t.Return (Some x)) h) (ks.values) p,
+          ap is_some result ∙
+              a_result f.result x (returns_in (t.Return (Some x)) h),
+        )
     good_of (t.If c a d) ss k around h p b o m low z =
         let x = t.If c a d in
         let ks = kinds_in x (h.0) in
         let r = split (gathered declared_slot a) (gathered declared_slot d) k (slots_in a) (slots_in d) (slots_counted a) o in (
           test_good ss c (ks.kinds) (b.0) (consts_in x (h.0)) (ks.values) (p.0),
-          good_in a (inside ss) k around (h.1) (p.1) (b.1) (r.first) (each_first (λ l. l < length f.labels) (gathered marked_label a) (gathered marked_label d) m) low (exits_first around (breaks a) (continues a) (breaks d) (continues d) z),
-          good_in d (inside ss) (k + slots_in a) around (h.2) (p.2) (b.2) (r.last) (each_last (λ l. l < length f.labels) (gathered marked_label a) (gathered marked_label d) m) (omega (arith, low)) (exits_last around (breaks a) (continues a) (breaks d) (continues d) z),
+          good_in a (inside ss) k around (h.1) (p.1) (b.1) (r.first)
+              (each_first (λ l. l < length f.labels) (gathered marked_label a) (gathered marked_label d) m) low
+              (exits_first around (breaks a) (continues a) (breaks d) (continues d) z),
+          good_in d (inside ss) (k + slots_in a) around (h.2) (p.2) (b.2) (r.last)
+              (each_last (λ l. l < length f.labels) (gathered marked_label a) (gathered marked_label d) m) (omega (arith, low))
+              (exits_last around (breaks a) (continues a) (breaks d) (continues d) z),
         )
     good_of (t.While c a) ss k around h p b o m low z =
         let x = t.While c a in
-        let ks = kinds_in x (h.0) in
-        (test_good ss c (ks.kinds) (b.0) (consts_in x (h.0)) (ks.values) (p.0), good_in a (inside ss) k (in_loop around) (h.1) (p.1) (b.1) o m low (of_loop around (breaks a) (continues a)))
+        let ks = kinds_in x (h.0) in (
+          test_good ss c (ks.kinds) (b.0) (consts_in x (h.0)) (ks.values) (p.0),
+          good_in a (inside ss) k (in_loop around) (h.1) (p.1) (b.1) o m low (of_loop around (breaks a) (continues a)),
+        )
     good_of (t.Do a c) ss k around h p b o m low z =
         let x = t.Do a c in
-        let ks = kinds_in x (h.0) in
-        (good_in a (inside ss) k (in_loop around) (h.1) (p.0) (b.1) o m low (of_loop around (breaks a) (continues a)), test_good ss c (ks.kinds) (b.0) (consts_in x (h.0)) (ks.values) (p.1))
+        let ks = kinds_in x (h.0) in (
+          good_in a (inside ss) k (in_loop around) (h.1) (p.0) (b.1) o m low (of_loop around (breaks a) (continues a)),
+          test_good ss c (ks.kinds) (b.0) (consts_in x (h.0)) (ks.values) (p.1),
+        )
     good_of (t.For first c u a) ss k around h p b o m low z =
         let x = t.For first c u a in
         let ks = kinds_in x (h.0) in
@@ -376,7 +430,9 @@ module _ (ts : List Top) (f : Function) (ctx : Context) (result : ctx.result ≡
           start_good first (inside ss) k (form_in x (h.0)) (h.1) (p.0) (b.0) (r.first) low,
           optional_value rs c (ks.kinds.0) (b.1) (cs.0) (ks.values.0) (p.1),
           optional_dropped rs u (ks.kinds.1) (b.2) (cs.1) (ks.values.1) (p.2),
-          good_in a (inside rs) (k + slots_in first) (in_loop around) (h.2) (p.3) (b.3) (r.last) (each_last (λ l. l < length f.labels) (gathered marked_label first) (gathered marked_label a) m) (omega (arith, low)) (of_loop around (breaks a) (continues a)),
+          good_in a (inside rs) (k + slots_in first) (in_loop around) (h.2) (p.3) (b.3) (r.last)
+              (each_last (λ l. l < length f.labels) (gathered marked_label first) (gathered marked_label a) m) (omega (arith, low))
+              (of_loop around (breaks a) (continues a)),
         )
     good_of (t.Switch s c) ss k around h p b o m low z =
         let x = t.Switch s c in
@@ -384,13 +440,18 @@ module _ (ts : List Top) (f : Function) (ctx : Context) (result : ctx.result ≡
         let cs = consts_in x (h.0) in (
           selector_good ss s (ks.kinds.0) (b.0) (cs.0) (ks.values) (p.0),
           cases_in x (h.0),
-          sections_good c (inside ss) k (in_switch around) (h.1) (p.1) (b.1) o m low (in_a_switch around (breaks_in c) (continues_in c) (z.continues_are)) (ks.kinds.1) (cs.1) ((form_in x (h.0)).0) (labels_of_switch s c (cases_in x (h.0))),
+          sections_good c (inside ss) k (in_switch around) (h.1) (p.1) (b.1) o m low
+              (in_a_switch around (breaks_in c) (continues_in c) (z.continues_are)) (ks.kinds.1) (cs.1) ((form_in x (h.0)).0)
+              (labels_of_switch s c (cases_in x (h.0))),
         )
     good_of (t.Block a) ss k around h p b o m low z = good_in a (inside ss) k around (h.1) p b o m low z
     good_of (t.Local j given) ss k around h p b o m low z =
         let q = here j k [] 0 o in
-        let l = local_good ss j given h p b (let y = q.0 in omega (arith, low, y)) in
-        (q.0, some_slot (slice_get f.slots k) (l.slot) (λ s. IsVariable nm ss k s given) (ap (slice_get f.slots) (sym (q.0)) ∙ l.is) (subst (λ i. IsVariable nm ss i (l.slot) given) (q.0) (l.good)))
+        let l = local_good ss j given h p b (let y = q.0 in omega (arith, low, y)) in (
+          q.0,
+          some_slot (slice_get f.slots k) (l.slot) (λ s. IsVariable nm ss k s given) (ap (slice_get f.slots) (sym (q.0)) ∙ l.is)
+              (subst (λ i. IsVariable nm ss i (l.slot) given) (q.0) (l.good)),
+        )
     good_of t.Break ss k around h p b o m low z = is_there (around.loop || around.switch) 1 (omega arith) (z.breaks_are)
     good_of t.Continue ss k around h p b o m low z = is_there around.loop 1 (omega arith) (z.continues_are)
     good_of (t.Goto l) ss k around h p b o m low z = record { name = p; number = labels l (form_in (t.Goto l) h) }
@@ -401,28 +462,39 @@ module _ (ts : List Top) (f : Function) (ctx : Context) (result : ctx.result ≡
     good_of (t.Land l) ss k around h p b o m low z = absurd p
     good_of (t.Arrival x) ss k around h p b o m low z = absurd p
 
-    pub good_in : (xs : Forest) (ss : List Scope) (k : ℕ) (around : Around) → Everywhere Fact xs → ItemsPrint f xs → AreBound f.slots ss xs → Ordered k (gathered declared_slot xs) (slots_in xs) → Marks (gathered marked_label xs) → f.params ≤ k
+    pub good_in : (xs : Forest) (ss : List Scope) (k : ℕ) (around : Around) → Everywhere Fact xs → ItemsPrint f xs → AreBound f.slots ss xs →
+        Ordered k (gathered declared_slot xs) (slots_in xs) → Marks (gathered marked_label xs) → f.params ≤ k
         → Exits around (breaks xs) (continues xs) → AreGood nm f ctx ss k around xs
     good_in Nil ss k around h p b o m low z = tt
     good_in (Then x xs) ss k around h p b o m low z =
         let r = split (gathered_of declared_slot x) (gathered declared_slot xs) k (slots_of x) (slots_in xs) (counted_of x) o in (
-          good_of x ss k around (h.0) (p.0) (b.0) (r.first) (each_first (λ l. l < length f.labels) (gathered_of marked_label x) (gathered marked_label xs) m) low (exits_first around (breaks_of x) (continues_of x) (breaks xs) (continues xs) z),
-          good_in xs (behind f.slots ss x) (k + slots_of x) around (h.1) (p.1) (b.1) (r.last) (each_last (λ l. l < length f.labels) (gathered_of marked_label x) (gathered marked_label xs) m) (omega (arith, low)) (exits_last around (breaks_of x) (continues_of x) (breaks xs) (continues xs) z),
+          good_of x ss k around (h.0) (p.0) (b.0) (r.first) (each_first (λ l. l < length f.labels) (gathered_of marked_label x)
+              (gathered marked_label xs) m) low (exits_first around (breaks_of x) (continues_of x) (breaks xs) (continues xs) z),
+          good_in xs (behind f.slots ss x) (k + slots_of x) around (h.1) (p.1) (b.1) (r.last)
+              (each_last (λ l. l < length f.labels) (gathered_of marked_label x) (gathered marked_label xs) m) (omega (arith, low))
+              (exits_last around (breaks_of x) (continues_of x) (breaks xs) (continues xs) z),
         )
 
-    sections_good : (c : Sections) (ss : List Scope) (k : ℕ) (around : Around) → EverywhereIn Fact c → SectionsPrint f c → SectionsAreBound f.slots ss c → Ordered k (gathered_in declared_slot c) (slots_within c) → Marks (gathered_in marked_label c) → f.params ≤ k
-        → Exits around (breaks_in c) (continues_in c) → CaseExpressions (KindsAgree nm) c → CaseExpressions (Within (WritesNoConst nm)) c → AreSections c → Each IsConstantValue (cases_among (switch_labels c)) → SectionsAreGood nm f ctx ss k around c
+    sections_good : (c : Sections) (ss : List Scope) (k : ℕ) (around : Around) → EverywhereIn Fact c → SectionsPrint f c →
+        SectionsAreBound f.slots ss c → Ordered k (gathered_in declared_slot c) (slots_within c) → Marks (gathered_in marked_label c) → f.params ≤ k
+        → Exits around (breaks_in c) (continues_in c) → CaseExpressions (KindsAgree nm) c → CaseExpressions (Within (WritesNoConst nm)) c →
+        AreSections c → Each IsConstantValue (cases_among (switch_labels c)) → SectionsAreGood nm f ctx ss k around c
     sections_good NoSection ss k around h p b o m low z ks cs s v = tt
     sections_good (Section cases default a ends c) ss k around h p b o m low z ks cs s v =
         let r = split (gathered declared_slot a) (gathered_in declared_slot c) k (slots_in a) (slots_within c) (slots_counted a) o in
         let v1 = subst (Each IsConstantValue) (cases_both (section_labels cases default) (arrivals a ++ switch_labels c)) v in
-        let own = subst (Each IsConstantValue) (section_cases cases default) (each_first IsConstantValue (cases_among (section_labels cases default)) (cases_among (arrivals a ++ switch_labels c)) v1) in
-        let v2 = subst (Each IsConstantValue) (cases_both (arrivals a) (switch_labels c)) (each_last IsConstantValue (cases_among (section_labels cases default)) (cases_among (arrivals a ++ switch_labels c)) v1) in
+        let own = subst (Each IsConstantValue) (section_cases cases default)
+        (each_first IsConstantValue (cases_among (section_labels cases default)) (cases_among (arrivals a ++ switch_labels c)) v1) in
+        let v2 = subst (Each IsConstantValue) (cases_both (arrivals a) (switch_labels c))
+        (each_last IsConstantValue (cases_among (section_labels cases default)) (cases_among (arrivals a ++ switch_labels c)) v1) in
         let later = each_last IsConstantValue (cases_among (arrivals a)) (cases_among (switch_labels c)) v2 in (
           cases_good ss cases (ks.0) (b.0) (cs.0) own (p.0),
           s.0,
-          good_in a ss k around (h.0) (p.1) (b.1) (r.first) (each_first (λ l. l < length f.labels) (gathered marked_label a) (gathered_in marked_label c) m) low (exits_first around (breaks a) (continues a) (breaks_in c) (continues_in c) z),
+          good_in a ss k around (h.0) (p.1) (b.1) (r.first) (each_first (λ l. l < length f.labels) (gathered marked_label a)
+              (gathered_in marked_label c) m) low (exits_first around (breaks a) (continues a) (breaks_in c) (continues_in c) z),
           s.1,
           s.2,
-          sections_good c (behind_all f.slots ss a) (k + slots_in a) around (h.1) (p.2) (b.2) (r.last) (each_last (λ l. l < length f.labels) (gathered marked_label a) (gathered_in marked_label c) m) (omega (arith, low)) (exits_last around (breaks a) (continues a) (breaks_in c) (continues_in c) z) (ks.1) (cs.1) (s.4) later,
+          sections_good c (behind_all f.slots ss a) (k + slots_in a) around (h.1) (p.2) (b.2) (r.last)
+              (each_last (λ l. l < length f.labels) (gathered marked_label a) (gathered_in marked_label c) m) (omega (arith, low))
+              (exits_last around (breaks a) (continues a) (breaks_in c) (continues_in c) z) (ks.1) (cs.1) (s.4) later,
         )

@@ -54,9 +54,11 @@ selector_in (te.Pick l k x) = selector.Pick l k (selector_in x)
 abbrev SelectorWhole : Selector → Type 0
 SelectorWhole x = selector_in (selector_tree x) ≡ x
 
-selector_form : (y : Selector-F ((x : Selector) × SelectorWhole x)) → SelectorWhole (roll-Selector (map-Selector ((x : Selector) × SelectorWhole x) Selector (λ e. e.0) y))
+selector_form : (y : Selector-F ((x : Selector) × SelectorWhole x)) → SelectorWhole
+    (roll-Selector (map-Selector ((x : Selector) × SelectorWhole x) Selector (λ e. e.0) y))
 selector_form (OS.Source e) = ap selector_in (ap selector_tree (SV.rolls-Source e) ∙ selector-Source e) ∙ ap selector.Source (whole e) ∙ sym (SV.rolls-Source e)
-selector_form (OS.Pick l k x) = ap selector_in (ap selector_tree (SV.rolls-Pick l k x.0) ∙ selector-Pick l k x.0) ∙ ap (selector.Pick l k) x.1 ∙ sym (SV.rolls-Pick l k x.0)
+selector_form (OS.Pick l k x) = ap selector_in (ap selector_tree (SV.rolls-Pick l k x.0) ∙ selector-Pick l k x.0) ∙ ap (selector.Pick l k) x.1 ∙
+    sym (SV.rolls-Pick l k x.0)
 
 selector_whole : (x : Selector) → SelectorWhole x
 selector_whole = ind-Selector SelectorWhole (λ x y e. subst (λ (z : Selector-F Selector). SelectorWhole (roll-Selector z)) e (selector_form y))
@@ -138,7 +140,8 @@ abbrev mutual
 
   pub printed_sections : Function → Sections → List PrintedSection
   printed_sections f NoSection = []
-  printed_sections f (Section cases default a ends c) = section_step f (record { cases = map expression_in cases; default = default; list = printed_forest f a; ends = ends }) ∷ printed_sections f c
+  printed_sections f (Section cases default a ends c) = section_step f
+      (record { cases = map expression_in cases; default = default; list = printed_forest f a; ends = ends }) ∷ printed_sections f c
 
 -- ---- both are those of the item
 
@@ -173,11 +176,13 @@ module _ (f : Function) where
   abbrev section_at : IC → RealSection
   section_at c = c.0
 
-  forest_mirror : (xs : List IX) → let es = map item_at xs in (forest_in (forest (map tree_of es)) ≡ es) × (map (printed f) es ≡ printed_forest f (forest (map tree_of es)))
+  forest_mirror : (xs : List IX) → let es = map item_at xs in (forest_in (forest (map tree_of es)) ≡ es) ×
+      (map (printed f) es ≡ printed_forest f (forest (map tree_of es)))
   forest_mirror [] = (refl, refl)
   forest_mirror (x ∷ xs) = let r = forest_mirror xs in let o = x.1 in ((λ i. o.0 i ∷ r.0 i), (λ i. o.1 i ∷ r.1 i))
 
-  sections_mirror : (xs : List IC) → let es = map section_at xs in (sections_in (sections (map section_tree es)) ≡ es) × (map (printed_section f) es ≡ printed_sections f (sections (map section_tree es)))
+  sections_mirror : (xs : List IC) → let es = map section_at xs in (sections_in (sections (map section_tree es)) ≡ es) ×
+      (map (printed_section f) es ≡ printed_sections f (sections (map section_tree es)))
   sections_mirror [] = (refl, refl)
   sections_mirror (x ∷ xs) = let r = sections_mirror xs in let o = x.1 in ((λ i. o.0 i ∷ r.0 i), (λ i. o.1 i ∷ r.1 i))
 
@@ -194,16 +199,34 @@ module _ (f : Function) where
   layer_mirrors (I.Evaluate e) = (ap item.Evaluate (whole e) ∙ sym (V.rolls-Evaluate e), λ i. item_step f (I.Evaluate (sym (whole e) i)))
   layer_mirrors (I.Return e) = (ap item.Return (option_whole e) ∙ sym (V.rolls-Return e), λ i. item_step f (I.Return (sym (option_whole e) i)))
   layer_mirrors (I.If x a b) =
-      let o = forest_mirror a in let r = forest_mirror b in
-      ((λ i. item.If (test_whole x i) (o.0 i) (r.0 i)) ∙ sym (V.rolls-If x (map item_at a) (map item_at b)), λ i. item_step f (I.If (sym (test_whole x) i) (o.1 i) (r.1 i)))
-  layer_mirrors (I.While x a) = let o = forest_mirror a in ((λ i. item.While (test_whole x i) (o.0 i)) ∙ sym (V.rolls-While x (map item_at a)), λ i. item_step f (I.While (sym (test_whole x) i) (o.1 i)))
-  layer_mirrors (I.Do a x) = let o = forest_mirror a in ((λ i. item.Do (o.0 i) (test_whole x i)) ∙ sym (V.rolls-Do (map item_at a) x), λ i. item_step f (I.Do (o.1 i) (sym (test_whole x) i)))
+      let o = forest_mirror a in let r = forest_mirror b in (
+        (λ i. item.If (test_whole x i) (o.0 i) (r.0 i)) ∙ sym (V.rolls-If x (map item_at a) (map item_at b)),
+        λ i. item_step f (I.If (sym (test_whole x) i) (o.1 i) (r.1 i)),
+      )
+  layer_mirrors (I.While x a) = let o = forest_mirror a in (
+    (λ i. item.While (test_whole x i) (o.0 i)) ∙ sym (V.rolls-While x (map item_at a)),
+    λ i.
+        item_step f (I.While (sym (test_whole x) i) (o.1 i)),
+  )
+  layer_mirrors (I.Do a x) = let o = forest_mirror a in (
+    (λ i. item.Do (o.0 i) (test_whole x i)) ∙ sym (V.rolls-Do (map item_at a) x),
+    λ i. item_step
+        f (I.Do (o.1 i) (sym (test_whole x) i)),
+  )
   layer_mirrors (I.For a u v d) =
-      let o = forest_mirror a in let r = forest_mirror d in
-      ((λ i. item.For (o.0 i) (option_whole u i) (option_whole v i) (r.0 i)) ∙ sym (V.rolls-For (map item_at a) u v (map item_at d)), λ i. item_step f (I.For (o.1 i) (sym (option_whole u) i) (sym (option_whole v) i) (r.1 i)))
-  layer_mirrors (I.Switch s c) = let o = sections_mirror c in ((λ i. item.Switch (selector_whole s i) (o.0 i)) ∙ sym (V.rolls-Switch s (map section_at c)), λ i. item_step f (I.Switch (sym (selector_whole s) i) (o.1 i)))
+      let o = forest_mirror a in let r = forest_mirror d in (
+        (λ i. item.For (o.0 i) (option_whole u i) (option_whole v i) (r.0 i)) ∙ sym (V.rolls-For (map item_at a) u v (map item_at d)),
+        λ i. item_step f (I.For (o.1 i) (sym (option_whole u) i) (sym (option_whole v) i) (r.1 i)),
+      )
+  layer_mirrors (I.Switch s c) = let o = sections_mirror c in (
+    (λ i. item.Switch (selector_whole s i) (o.0 i)) ∙ sym (V.rolls-Switch s (map section_at c)),
+    λ i. item_step f (I.Switch (sym (selector_whole s) i) (o.1 i)),
+  )
   layer_mirrors (I.Block a) = let o = forest_mirror a in (ap item.Block (o.0) ∙ sym (V.rolls-Block (map item_at a)), λ i. item_step f (I.Block (o.1 i)))
-  layer_mirrors (I.Local k given) = (ap (item.Local k) (given_whole given) ∙ sym (V.rolls-Local k given), λ i. item_step f (I.Local k (sym (given_whole given) i)))
+  layer_mirrors (I.Local k given) = (
+    ap (item.Local k) (given_whole given) ∙ sym (V.rolls-Local k given),
+    λ i. item_step f (I.Local k (sym (given_whole given) i)),
+  )
   layer_mirrors I.Break = (sym V.rolls-Break, refl)
   layer_mirrors I.Continue = (sym V.rolls-Continue, refl)
   layer_mirrors (I.Goto l) = (sym (V.rolls-Goto l), refl)
@@ -217,27 +240,36 @@ module _ (f : Function) where
   abbrev open_section : I.Section-F IX IC → I.Section-F Item RealSection
   open_section y = map-Section IX IC Item RealSection item_at section_at y
 
-  section_layer_mirrors : (y : I.Section-F IX IC) → MirrorsSection (roll-Section (open_section y)) (section_step f (map-Section Item RealSection Printed PrintedSection (printed f) (printed_section f) (open_section y))) (section_layer (map-Section Item RealSection Tree SectionTree tree_of section_tree (open_section y)))
+  section_layer_mirrors : (y : I.Section-F IX IC) → MirrorsSection (roll-Section (open_section y))
+      (section_step f (map-Section Item RealSection Printed PrintedSection (printed f) (printed_section f) (open_section y)))
+      (section_layer (map-Section Item RealSection Tree SectionTree tree_of section_tree (open_section y)))
   section_layer_mirrors y =
-      let o = forest_mirror y.list in
-      ((λ i. a_section (list_whole y.cases i) y.default (o.0 i) y.ends), λ i. section_step f (record { cases = sym (list_whole y.cases) i; default = y.default; list = o.1 i; ends = y.ends }))
+      let o = forest_mirror y.list in (
+        (λ i. a_section (list_whole y.cases i) y.default (o.0 i) y.ends),
+        λ i. section_step f (record { cases = sym (list_whole y.cases) i; default = y.default; list = o.1 i; ends = y.ends }),
+      )
 
   tree_rolls : (z : Item-F Item RealSection) → tree_of (roll-Item z) ≡ layer (tree_parts z)
   unfolding tree_of section_tree
   tree_rolls z = fold-roll-Item Tree SectionTree layer section_layer z
 
-  section_rolls : (z : I.Section-F Item RealSection) → section_tree (roll-Section z) ≡ section_layer (map-Section Item RealSection Tree SectionTree tree_of section_tree z)
+  section_rolls : (z : I.Section-F Item RealSection) → section_tree (roll-Section z) ≡ section_layer
+      (map-Section Item RealSection Tree SectionTree tree_of section_tree z)
   unfolding tree_of section_tree
   section_rolls z = fold-roll-Section Tree SectionTree layer section_layer z
 
   pub item_mirrors : (x : Item) → AtItem x
   item_mirrors = ind-Item AtItem AtSection
       (λ x y e. subst (λ (z : Item-F Item RealSection). AtItem (roll-Item z)) e
-      (subst (λ (p : Printed). Mirrors (roll-Item (open_item y)) p (tree_of (roll-Item (open_item y)))) (sym (fold-roll-Item Printed PrintedSection (item_step f) (section_step f) _))
+      (subst (λ (p : Printed). Mirrors (roll-Item (open_item y)) p (tree_of (roll-Item (open_item y))))
+      (sym (fold-roll-Item Printed PrintedSection (item_step f) (section_step f) _))
       (subst (λ (w : Tree). Mirrors (roll-Item (open_item y)) (item_step f (printed_parts (open_item y))) w) (sym (tree_rolls _)) (layer_mirrors y))))
       (λ x y e. subst (λ (z : I.Section-F Item RealSection). AtSection (roll-Section z)) e
-      (subst (λ (p : PrintedSection). MirrorsSection (roll-Section (open_section y)) p (section_tree (roll-Section (open_section y)))) (sym (fold-roll-Section Printed PrintedSection (item_step f) (section_step f) _))
-      (subst (λ (w : SectionTree). MirrorsSection (roll-Section (open_section y)) (section_step f (map-Section Item RealSection Printed PrintedSection (printed f) (printed_section f) (open_section y))) w) (sym (section_rolls _)) (section_layer_mirrors y))))
+      (subst (λ (p : PrintedSection). MirrorsSection (roll-Section (open_section y)) p (section_tree (roll-Section (open_section y))))
+      (sym (fold-roll-Section Printed PrintedSection (item_step f) (section_step f) _))
+      (subst (λ (w : SectionTree). MirrorsSection (roll-Section (open_section y))
+      (section_step f (map-Section Item RealSection Printed PrintedSection (printed f) (printed_section f) (open_section y))) w)
+      (sym (section_rolls _)) (section_layer_mirrors y))))
 
   -- a list of items is that of its plain trees, and printed as those are
   pub items_whole : (xs : List Item) → forest_in (trees_of xs) ≡ xs

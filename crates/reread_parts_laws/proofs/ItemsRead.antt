@@ -64,7 +64,8 @@ module _ (ts : List Top) (f : Function) (ctx : Context) (tokens : List Spelling)
     list_reads (Then (t.Local j given) xs) = λ ns ss k around w at depth ps h g p b.
         let x = t.Local j given in
         let lines = list_text (printed_forest f xs) depth ps in
-        let i = local_reads ts f ctx tokens words j given ss k around w at depth lines h (g.0) (p.1) (past_indentation tokens at ((printed_tree f x).lines depth lines) depth b) in
+        let i = local_reads ts f ctx tokens words j given ss k around w at depth lines h (g.0) (p.1)
+        (past_indentation tokens at ((printed_tree f x).lines depth lines) depth b) in
         let v = behind_item ctx (source_of ts f ctx tokens words at x) w in
         let y = item_end f.slots at x in
         let l = list_reads xs [] (behind f.slots ss x) (k + slots_of x) around v y depth ps (i.standing) (g.1) (p.2) (i.behind_it) in
@@ -73,9 +74,12 @@ module _ (ts : List Top) (f : Function) (ctx : Context) (tokens : List Spelling)
           behind_it = l.behind_it;
           keywords = l.keywords;
           items = λ others. (λ j. (i.items ∙ ap (λ z. map item.Note z ++ tree_in x ∷ []) (p.0)) j ++ l.items others j)
-              ∙ regroup ts f ctx tokens words (map item.Note ns) (settled ts f ctx tokens words [] xs) (list_items ctx others (passed ts f ctx tokens words y xs v)) (tree_in x);
-          standing = subst (λ j. Standing (names_in ts f) (behind_all f.slots (behind f.slots ss x) xs) j (passed ts f ctx tokens words y xs v)) count (l.standing);
-          labels = λ others rest. i.labels (list_labels (front ts f ctx tokens words y xs others) rest) ∙ ap (λ z. names_of ts f ctx tokens words (gathered_of marked_label x) ++ z) (l.labels others rest)
+              ∙ regroup ts f ctx tokens words (map item.Note ns) (settled ts f ctx tokens words [] xs)
+              (list_items ctx others (passed ts f ctx tokens words y xs v)) (tree_in x);
+          standing = subst (λ j. Standing (names_in ts f) (behind_all f.slots (behind f.slots ss x) xs) j (passed ts f ctx tokens words y xs v)) count
+              (l.standing);
+          labels = λ others rest. i.labels (list_labels (front ts f ctx tokens words y xs others) rest) ∙
+              ap (λ z. names_of ts f ctx tokens words (gathered_of marked_label x) ++ z) (l.labels others rest)
               ∙ names_both ts f ctx tokens words (gathered_of marked_label x) (gathered marked_label xs) (map ctx.word (list_labels others rest));
           clear = λ others vs. ap (list_faults ctx around (front ts f ctx tokens words y xs others) v) (i.clear vs) ∙ l.clear others vs;
         }
@@ -90,9 +94,12 @@ module _ (ts : List Top) (f : Function) (ctx : Context) (tokens : List Spelling)
           behind_it = l.behind_it;
           keywords = λ others e. (i.keywords, l.keywords others e);
           items = λ others. (λ j. (i.items ∙ ap (λ z. map item.Note z ++ tree_in x ∷ []) (p.0)) j ++ l.items others j)
-              ∙ regroup ts f ctx tokens words (map item.Note ns) (settled ts f ctx tokens words [] xs) (list_items ctx others (passed ts f ctx tokens words y xs v)) (tree_in x);
-          standing = subst (λ j. Standing (names_in ts f) (behind_all f.slots (behind f.slots ss x) xs) j (passed ts f ctx tokens words y xs v)) count (l.standing);
-          labels = λ others rest. i.labels (list_labels (front ts f ctx tokens words y xs others) rest) ∙ ap (λ z. names_of ts f ctx tokens words (gathered_of marked_label x) ++ z) (l.labels others rest)
+              ∙ regroup ts f ctx tokens words (map item.Note ns) (settled ts f ctx tokens words [] xs)
+              (list_items ctx others (passed ts f ctx tokens words y xs v)) (tree_in x);
+          standing = subst (λ j. Standing (names_in ts f) (behind_all f.slots (behind f.slots ss x) xs) j (passed ts f ctx tokens words y xs v)) count
+              (l.standing);
+          labels = λ others rest. i.labels (list_labels (front ts f ctx tokens words y xs others) rest) ∙
+              ap (λ z. names_of ts f ctx tokens words (gathered_of marked_label x) ++ z) (l.labels others rest)
               ∙ names_both ts f ctx tokens words (gathered_of marked_label x) (gathered marked_label xs) (map ctx.word (list_labels others rest));
           clear = λ others vs. ap (list_faults ctx around (front ts f ctx tokens words y xs others) v) (i.clear vs) ∙ l.clear others vs;
         }

@@ -16,7 +16,8 @@ use Rattle.c_kinds.proofs.Entries.{same_names, names_same, by_bool, found_new}
 -- a new name is one more
 longer : (m : List ℕ) (b : ℕ) (es : Names ℕ) → found m es ≡ None → length (with_entry m b es) ≡ suc (length es)
 longer m b [] h = refl
-longer m b (e ∷ es) h = by_order (name_cmp m e.0) (is_eq-slice_cmp m e.0) (by_bool (bytes_eq m e.0) (λ y. absurd (none_there y h)) (λ n. n)) (λ n. longer m b es (later n h))
+longer m b (e ∷ es) h = by_order (name_cmp m e.0) (is_eq-slice_cmp m e.0) (by_bool (bytes_eq m e.0) (λ y. absurd (none_there y h)) (λ n. n))
+    (λ n. longer m b es (later n h))
   where
     none_there : bytes_eq m e.0 ≡ true → cond (bytes_eq m e.0) (Some e.1) (found m es) ≡ None → ⊥
     none_there y k = let z : Some e.1 ≡ None = (λ i. cond (sym y i) (Some e.1) (found m es)) ∙ k in cc
@@ -45,17 +46,23 @@ differs : (q m : List ℕ) → q ≢ m → bytes_eq q m ≡ false
 differs q m h = by_bool (bytes_eq q m) (λ y. absurd (h (same_names q m y))) (λ n. n)
 
 -- the others are not known then
-still_new : (m : List ℕ) (known : Names ℕ) (ns : List (List ℕ)) → found m known ≡ None → Each (λ y. y ≢ m) ns → Each (λ y. found y known ≡ None) ns → Each (λ y. found y (with_number m known) ≡ None) ns
+still_new : (m : List ℕ) (known : Names ℕ) (ns : List (List ℕ)) → found m known ≡ None → Each (λ y. y ≢ m) ns → Each (λ y. found y known ≡ None) ns →
+    Each (λ y. found y (with_number m known) ≡ None) ns
 still_new m known [] h d k = tt
-still_new m known (n ∷ ns) h d k = (found_after m known h n ∙ (λ i. cond (differs n m (d.0) i) (Some (length known)) (found n known)) ∙ k.0, still_new m known ns h (d.1) (k.1))
+still_new m known (n ∷ ns) h d k = (
+  found_after m known h n ∙ (λ i. cond (differs n m (d.0) i) (Some (length known)) (found n known)) ∙ k.0,
+  still_new m known ns h (d.1) (k.1),
+)
 
-kept : (ns : List (List ℕ)) (q : List ℕ) (known : Names ℕ) → AllDiffer ns → Each (λ y. found y known ≡ None) ns → Each (λ y. y ≢ q) ns → found q (numbers_from known ns) ≡ found q known
+kept : (ns : List (List ℕ)) (q : List ℕ) (known : Names ℕ) → AllDiffer ns → Each (λ y. found y known ≡ None) ns → Each (λ y. y ≢ q) ns →
+    found q (numbers_from known ns) ≡ found q known
 kept [] q known a k d = refl
 kept (n ∷ ns) q known a k d =
     kept ns q (with_number n known) (a.1) (still_new n known ns (k.0) (a.0) (k.1)) (d.1)
     ∙ found_after n known (k.0) q ∙ (λ i. cond (differs q n (λ e. d.0 (sym e)) i) (Some (length known)) (found q known))
 
-number_found : (ns : List (List ℕ)) (known : Names ℕ) (i : ℕ) (q : List ℕ) → AllDiffer ns → Each (λ y. found y known ≡ None) ns → slice_get ns i ≡ Some q → found q (numbers_from known ns) ≡ Some (length known + i)
+number_found : (ns : List (List ℕ)) (known : Names ℕ) (i : ℕ) (q : List ℕ) → AllDiffer ns → Each (λ y. found y known ≡ None) ns →
+    slice_get ns i ≡ Some q → found q (numbers_from known ns) ≡ Some (length known + i)
 number_found [] known i q a k e = cc
 number_found (n ∷ ns) known zero q a k e =
     let s : n ≡ q = cc in
@@ -84,15 +91,18 @@ labels_found ns a i h = let z : 0 + i ≡ i = omega arith in number_found ns [] 
 distinct_new : (ns : List (List ℕ)) (known : Names ℕ) → AllDiffer ns → Each (λ y. found y known ≡ None) ns → distinct_from known ns ≡ ns
 distinct_new [] known a k = refl
 distinct_new (n ∷ ns) known a k =
-    (λ i. new_name (is_some (k.0 i)) n (distinct_from (with_number n known) ns)) ∙ ap (λ l. n ∷ l) (distinct_new ns (with_number n known) (a.1) (still_new n known ns (k.0) (a.0) (k.1)))
+    (λ i. new_name (is_some (k.0 i)) n (distinct_from (with_number n known) ns)) ∙
+    ap (λ l. n ∷ l) (distinct_new ns (with_number n known) (a.1) (still_new n known ns (k.0) (a.0) (k.1)))
 
 pub distinct_is : (ns : List (List ℕ)) → AllDiffer ns → distinct ns ≡ ns
 distinct_is ns a = distinct_new ns [] a (none_known ns)
 
-twice_new : (word : ℕ → List ℕ) (ats : List ℕ) (known : Names ℕ) (vs : Faults) → AllDiffer (map word ats) → Each (λ y. found y known ≡ None) (map word ats) → twice_from known word ats vs ≡ vs
+twice_new : (word : ℕ → List ℕ) (ats : List ℕ) (known : Names ℕ) (vs : Faults) → AllDiffer (map word ats) →
+    Each (λ y. found y known ≡ None) (map word ats) → twice_from known word ats vs ≡ vs
 twice_new word [] known vs a k = refl
 twice_new word (at ∷ ats) known vs a k =
-    (λ i. twice_from (with_number (word at) known) word ats (fault_if (is_some (k.0 i)) at 32 vs)) ∙ twice_new word ats (with_number (word at) known) vs (a.1) (still_new (word at) known (map word ats) (k.0) (a.0) (k.1))
+    (λ i. twice_from (with_number (word at) known) word ats (fault_if (is_some (k.0 i)) at 32 vs)) ∙
+    twice_new word ats (with_number (word at) known) vs (a.1) (still_new (word at) known (map word ats) (k.0) (a.0) (k.1))
 
 pub none_twice : (word : ℕ → List ℕ) (ats : List ℕ) (vs : Faults) → AllDiffer (map word ats) → twice_faults word ats vs ≡ vs
 none_twice word ats vs a = twice_new word ats [] vs a (none_known (map word ats))

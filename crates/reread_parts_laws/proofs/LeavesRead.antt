@@ -44,7 +44,8 @@ use Rattle.reread_parts_laws.proofs.ListsRead.{still, ReadsOne}
 
 -- ---- names are no keywords
 
-none_of : (ks : List (List ℕ)) (w : List ℕ) → list_any (λ k. bytes_eq k w) ks ≡ false → (k : List ℕ) → list_any (λ j. bytes_eq j k) ks ≡ true → ((j : List ℕ) → bytes_eq j k ≡ true → j ≡ k) → bytes_eq k w ≡ false
+none_of : (ks : List (List ℕ)) (w : List ℕ) → list_any (λ k. bytes_eq k w) ks ≡ false → (k : List ℕ) → list_any (λ j. bytes_eq j k) ks ≡ true →
+    ((j : List ℕ) → bytes_eq j k ≡ true → j ≡ k) → bytes_eq k w ≡ false
 none_of [] w h k m f = cc
 none_of (j ∷ ks) w h k m f = by_first (bytes_eq j k) refl (λ o. none_of ks w (either (bytes_eq j w) _ h).1 k o f)
   where
@@ -97,14 +98,17 @@ module _ (ts : List Top) (f : Function) (ctx : Context) (tokens : List Spelling)
     pub reads : Reads (env_at ctx w) (expression_form at (derivation_of x)) x
     pub behind_it : Stands tokens (expression_end at (derivation_of x)) ps
 
-  pub full_read : (ss : List Scope) (k : ℕ) (w : Walk) (at : ℕ) (x : ExpressionTree) (ps : List Piece) → Standing n ss k w → IsExpressionOf n ss x → Stands tokens at (expression_text f.slots (expression_in x) 1 ps) → FullRead ss w at x ps
+  pub full_read : (ss : List Scope) (k : ℕ) (w : Walk) (at : ℕ) (x : ExpressionTree) (ps : List Piece) → Standing n ss k w → IsExpressionOf n ss x →
+      Stands tokens at (expression_text f.slots (expression_in x) 1 ps) → FullRead ss w at x ps
   full_read ss k w at x ps h g s =
-      let u = open_full n ss (env_at ctx w) tokens (place_at n ctx.word tokens words ss k w h) at ps x g (subst (λ (y : Leveled). Stands tokens at (y 1 ps)) (text_in f.slots x) s) in
+      let u = open_full n ss (env_at ctx w) tokens (place_at n ctx.word tokens words ss k w h) at ps x g
+      (subst (λ (y : Leveled). Stands tokens at (y 1 ps)) (text_in f.slots x) s) in
       record { reads = u.reads; behind_it = u.behind }
 
   module _ (ss : List Scope) (w : Walk) (at : ℕ) (x : ExpressionTree) (ps : List Piece) (u : FullRead ss w at x ps) where
     pub dropped_is : dropped_at (env_at ctx w) (expression_term at (derivation_of x)) ≡ expression_in x
-    dropped_is = (λ i. elim (drops_is (env_at ctx w) (expression_form at (derivation_of x)) x u.reads i) as (λ _. Expression) [ Some e ↦ e | None ↦ placeholder ])
+    dropped_is = (λ i. elim (drops_is (env_at ctx w) (expression_form at (derivation_of x)) x u.reads i) as (λ _. Expression)
+        [ Some e ↦ e | None ↦ placeholder ])
 
     pub drops_clear : (vs : Faults) → dropped_faults (env_at ctx w) (expression_term at (derivation_of x)) vs ≡ vs
     drops_clear vs = dropped_clear (env_at ctx w) (expression_form at (derivation_of x)) x u.reads at vs
@@ -117,7 +121,8 @@ module _ (ts : List Top) (f : Function) (ctx : Context) (tokens : List Spelling)
 
   -- ---- a keyword or a name, and `;`
 
-  pub keyword_here : (at : ℕ) (w : List ℕ) (ps : List Piece) → Stands tokens at (word w ps) → (keyword_class (ctx.word at) ≡ keyword_class w) × Stands tokens (at + 1) ps
+  pub keyword_here : (at : ℕ) (w : List ℕ) (ps : List Piece) → Stands tokens at (word w ps) →
+      (keyword_class (ctx.word at) ≡ keyword_class w) × Stands tokens (at + 1) ps
   keyword_here at w ps s = let m = word_here f.slots tokens ctx.word words at w ps s in (ap keyword_class (m.0), m.1)
 
   pub a_mark : (at : ℕ) (w : List ℕ) (ps : List Piece) → Stands tokens at (punctuator w ps) → Stands tokens (at + 1) ps
@@ -187,7 +192,8 @@ module _ (ts : List Top) (f : Function) (ctx : Context) (tokens : List Spelling)
       record {
         behind_it = m.1;
         keywords = (ap keyword_class (o.0) ∙ not_keyword (label_name f l) (g.name.1), ap keyword_class (m.0));
-        items = (λ i. ((notes_at ctx (Before at) ++ item.Mark (number i) ∷ []) ++ []) ++ (map item.Note (p i) ++ [])) ∙ nothing_more (notes_at ctx (Before at) ++ item.Mark l ∷ []);
+        items = (λ i. ((notes_at ctx (Before at) ++ item.Mark (number i) ∷ []) ++ []) ++ (map item.Note (p i) ++ [])) ∙
+            nothing_more (notes_at ctx (Before at) ++ item.Mark l ∷ []);
         standing = still n ss k w h;
         labels = λ rest i. o.0 i ∷ map ctx.word rest;
         clear = λ vs. refl;
@@ -224,5 +230,6 @@ module _ (ts : List Top) (f : Function) (ctx : Context) (tokens : List Spelling)
         items = λ i. notes_at ctx (Before at) ++ item.Return (Some (value_here ss w (at + 1) x _ u ((g.0).kind) i)) ∷ [];
         standing = still n ss k w h;
         labels = λ rest. refl;
-        clear = λ vs. returned ctx.result (env_at ctx w) at (expression_term (at + 1) (derivation_of x)) vs (g.1) ∙ values_clear ss w (at + 1) x _ u ((g.0).kind) vs;
+        clear = λ vs. returned ctx.result (env_at ctx w) at (expression_term (at + 1) (derivation_of x)) vs (g.1) ∙
+            values_clear ss w (at + 1) x _ u ((g.0).kind) vs;
       }

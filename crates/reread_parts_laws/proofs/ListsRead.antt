@@ -39,8 +39,10 @@ use Rattle.reread_parts_laws.specs.Places.{Standing}
 -- ---- comments have no tokens
 
 by_comment : (bs : List ℕ) → IsComment bs → (ps : List Piece) → spellings (reread_all (verbatim bs ps)) ≡ spellings (reread_all ps)
-by_comment (a ∷ b ∷ w) (e, inl h) ps = subst (λ x. spellings (reread_all (verbatim (x ∷ b ∷ w) ps)) ≡ spellings (reread_all ps)) (sym e) (subst (λ y. spellings (reread_all (verbatim (47 ∷ y ∷ w) ps)) ≡ spellings (reread_all ps)) (sym (h.0)) refl)
-by_comment (a ∷ b ∷ w) (e, inr h) ps = subst (λ x. spellings (reread_all (verbatim (x ∷ b ∷ w) ps)) ≡ spellings (reread_all ps)) (sym e) (subst (λ y. spellings (reread_all (verbatim (47 ∷ y ∷ w) ps)) ≡ spellings (reread_all ps)) (sym (h.0)) refl)
+by_comment (a ∷ b ∷ w) (e, inl h) ps = subst (λ x. spellings (reread_all (verbatim (x ∷ b ∷ w) ps)) ≡ spellings (reread_all ps)) (sym e)
+    (subst (λ y. spellings (reread_all (verbatim (47 ∷ y ∷ w) ps)) ≡ spellings (reread_all ps)) (sym (h.0)) refl)
+by_comment (a ∷ b ∷ w) (e, inr h) ps = subst (λ x. spellings (reread_all (verbatim (x ∷ b ∷ w) ps)) ≡ spellings (reread_all ps)) (sym e)
+    (subst (λ y. spellings (reread_all (verbatim (47 ∷ y ∷ w) ps)) ≡ spellings (reread_all ps)) (sym (h.0)) refl)
 by_comment [] h ps = absurd h
 by_comment (a ∷ []) h ps = absurd h
 
@@ -95,9 +97,11 @@ module _ (ts : List Top) (f : Function) (ctx : Context) (tokens : List Spelling)
   pub all_settled : (xs : Forest) (ns : List (List ℕ)) → settled ns xs ++ map item.Note (trailing ns xs) ≡ map item.Note ns ++ forest_in xs
   all_settled Nil ns = sym (nothing_behind (map item.Note ns))
   all_settled (Then (t.Note bytes) xs) ns = all_settled xs (ns ++ bytes ∷ []) ∙ sym (note_last ns bytes (forest_in xs))
-  all_settled (Then x xs) ns = append_assoc (map item.Note ns) (tree_in x ∷ settled [] xs) (map item.Note (trailing [] xs)) ∙ ap (λ l. map item.Note ns ++ (tree_in x ∷ l)) (all_settled xs [])
+  all_settled (Then x xs) ns = append_assoc (map item.Note ns) (tree_in x ∷ settled [] xs) (map item.Note (trailing [] xs)) ∙
+      ap (λ l. map item.Note ns ++ (tree_in x ∷ l)) (all_settled xs [])
 
-  pub written_front : (xs : Forest) (at : ℕ) (others : g.Items) → written_items at (items_of f.slots xs others) ≡ front at xs (written_items (list_end f.slots at xs) others)
+  pub written_front : (xs : Forest) (at : ℕ) (others : g.Items) → written_items at (items_of f.slots xs others) ≡ front at xs
+      (written_items (list_end f.slots at xs) others)
   written_front Nil at others = refl
   written_front (Then (t.Note bytes) xs) at others = written_front xs at others
   written_front (Then x xs) at others = ap (λ l. s.Then (source_of at x) l) (written_front xs (item_end f.slots at x) others)
@@ -136,10 +140,12 @@ module _ (ts : List Top) (f : Function) (ctx : Context) (tokens : List Spelling)
     pub items : (rest : s.Items) → list_items ctx (front at xs rest) w ≡ settled ns xs ++ list_items ctx rest (passed at xs w)
     pub standing : Standing n (behind_all f.slots ss xs) (k + slots_in xs) (passed at xs w)
     pub clear : (rest : s.Items) (vs : Faults) → list_faults ctx around (front at xs rest) w vs ≡ list_faults ctx around rest (passed at xs w) vs
-    pub labels : (others : s.Items) (rest : List ℕ) → map ctx.word (list_labels (front at xs others) rest) ≡ names_of (gathered marked_label xs) ++ map ctx.word (list_labels others rest)
+    pub labels : (others : s.Items) (rest : List ℕ) → map ctx.word (list_labels (front at xs others) rest) ≡ names_of (gathered marked_label xs) ++
+        map ctx.word (list_labels others rest)
 
   abbrev pub ReadsOne : Tree → Type 0
-  ReadsOne x = (ss : List Scope) (k : ℕ) (around : Around) (w : Walk) (at depth : ℕ) (ps : List Piece) → Standing n ss k w → IsGood n f ctx ss k around x → NotesWithin f.slots ctx.notes at x
+  ReadsOne x = (ss : List Scope) (k : ℕ) (around : Around) (w : Walk) (at depth : ℕ) (ps : List Piece) → Standing n ss k w →
+      IsGood n f ctx ss k around x → NotesWithin f.slots ctx.notes at x
       → Stands tokens at ((printed_tree f x).lines depth ps) → ItemRead ss k around w at x ps
 
   abbrev pub ReadsItem : Tree → Type 0
@@ -147,13 +153,22 @@ module _ (ts : List Top) (f : Function) (ctx : Context) (tokens : List Spelling)
   ReadsItem x = ReadsOne x
 
   abbrev pub ReadsList : Forest → Type 0
-  ReadsList xs = (ns : List (List ℕ)) (ss : List Scope) (k : ℕ) (around : Around) (w : Walk) (at depth : ℕ) (ps : List Piece) → Standing n ss k w → AreGood n f ctx ss k around xs → NotesOfList f.slots ctx.notes ns at xs
+  ReadsList xs = (ns : List (List ℕ)) (ss : List Scope) (k : ℕ) (around : Around) (w : Walk) (at depth : ℕ) (ps : List Piece) → Standing n ss k w →
+      AreGood n f ctx ss k around xs → NotesOfList f.slots ctx.notes ns at xs
       → Stands tokens at (list_text (printed_forest f xs) depth ps) → ListRead ns ss k around w at xs ps
 
   -- ---- lists
 
   pub none_read : ReadsList Nil
-  none_read ns ss k around w at depth ps h g p s = record { behind_it = s; keywords = λ others e. e; items = λ rest. refl; standing = still n ss k w h; clear = λ rest vs. refl; labels = λ others rest. refl }
+  none_read ns ss k around w at depth ps h g p s = record {
+    behind_it = s;
+    keywords = λ others e. e;
+    items = λ rest. refl;
+    standing = still n ss k w
+        h;
+    clear = λ rest vs. refl;
+    labels = λ others rest. refl;
+  }
 
   pub note_read : (bytes : List ℕ) (xs : Forest) → ReadsList xs → ReadsList (Then (t.Note bytes) xs)
   note_read bytes xs r ns ss k around w at depth ps h g p s =
@@ -162,7 +177,14 @@ module _ (ts : List Top) (f : Function) (ctx : Context) (tokens : List Spelling)
       let e : k + 0 ≡ k = omega arith in
       let u = r (ns ++ bytes ∷ []) ss k around w at depth ps h (subst (λ i. AreGood n f ctx ss i around xs) e (g.1)) p s2 in
       let a : k + slots_in xs ≡ k + (0 + slots_in xs) = omega arith in
-      record { behind_it = u.behind_it; keywords = u.keywords; items = u.items; standing = subst (λ i. Standing n (behind_all f.slots ss xs) i (passed at xs w)) a (u.standing); clear = u.clear; labels = u.labels }
+      record {
+        behind_it = u.behind_it;
+        keywords = u.keywords;
+        items = u.items;
+        standing = subst (λ i. Standing n (behind_all f.slots ss xs) i (passed at xs w)) a (u.standing);
+        clear = u.clear;
+        labels = u.labels;
+      }
 
   pub names_both : (a b : List ℕ) (rest : List (List ℕ)) → names_of a ++ (names_of b ++ rest) ≡ names_of (a ++ b) ++ rest
   names_both [] b rest = refl

@@ -112,7 +112,8 @@ module _ (slots : List Slot) where
   abbrev expression_at : IE → Expression
   expression_at e = e.0
 
-  arguments_mirror : (xs : List IE) → let es = map expression_at xs in (arguments_in (arguments (map expression_tree es)) ≡ es) × (map (expression_text slots) es ≡ argument_texts slots (arguments (map expression_tree es)))
+  arguments_mirror : (xs : List IE) → let es = map expression_at xs in
+      (arguments_in (arguments (map expression_tree es)) ≡ es) × (map (expression_text slots) es ≡ argument_texts slots (arguments (map expression_tree es)))
   arguments_mirror [] = (refl, refl)
   arguments_mirror (x ∷ xs) = let r = arguments_mirror xs in let o = x.1 in ((λ i. o.0 i ∷ r.0 i), (λ i. o.1 i ∷ r.1 i))
 
@@ -134,15 +135,24 @@ module _ (slots : List Slot) where
   node_mirrors (N.Read p) = let o = p.1 in (ap node.Read o.0 ∙ sym (rolls-Read p.0), λ i. node_step slots (N.Read (o.1 i)))
   node_mirrors (N.Unary op a) = let o = a.1 in (ap (node.Unary op) o.0 ∙ sym (rolls-Unary op a.0), λ i. node_step slots (N.Unary op (o.1 i)))
   node_mirrors (N.Cast a) = let o = a.1 in (ap node.Cast o.0 ∙ sym (rolls-Cast a.0), λ i. node_step slots (N.Cast (o.1 i)))
-  node_mirrors (N.Binary op a b) = let o = a.1 in let r = b.1 in ((λ i. node.Binary op (o.0 i) (r.0 i)) ∙ sym (rolls-Binary op a.0 b.0), λ i. node_step slots (N.Binary op (o.1 i) (r.1 i)))
+  node_mirrors (N.Binary op a b) = let o = a.1 in let r = b.1 in
+      ((λ i. node.Binary op (o.0 i) (r.0 i)) ∙ sym (rolls-Binary op a.0 b.0), λ i. node_step slots (N.Binary op (o.1 i) (r.1 i)))
   node_mirrors (N.Conditional a b c) =
       let o = a.1 in let r = b.1 in let u = c.1 in
       ((λ i. node.Conditional (o.0 i) (r.0 i) (u.0 i)) ∙ sym (rolls-Conditional a.0 b.0 c.0), λ i. node_step slots (N.Conditional (o.1 i) (r.1 i) (u.1 i)))
-  node_mirrors (N.Assign p a) = let o = p.1 in let r = a.1 in ((λ i. node.Assign (o.0 i) (r.0 i)) ∙ sym (rolls-Assign p.0 a.0), λ i. node_step slots (N.Assign (o.1 i) (r.1 i)))
-  node_mirrors (N.Update op p a) = let o = p.1 in let r = a.1 in ((λ i. node.Update op (o.0 i) (r.0 i)) ∙ sym (rolls-Update op p.0 a.0), λ i. node_step slots (N.Update op (o.1 i) (r.1 i)))
-  node_mirrors (N.Count p up after) = let o = p.1 in ((λ i. node.Count (o.0 i) up after) ∙ sym (rolls-Count p.0 up after), λ i. node_step slots (N.Count (o.1 i) up after))
-  node_mirrors (N.Comma a b) = let o = a.1 in let r = b.1 in ((λ i. node.Comma (o.0 i) (r.0 i)) ∙ sym (rolls-Comma a.0 b.0), λ i. node_step slots (N.Comma (o.1 i) (r.1 i)))
-  node_mirrors (N.Call name xs) = let o = arguments_mirror xs in (ap (node.Call name) o.0 ∙ sym (rolls-Call name (map expression_at xs)), λ i. node_step slots (N.Call name (o.1 i)))
+  node_mirrors (N.Assign p a) = let o = p.1 in let r = a.1 in
+      ((λ i. node.Assign (o.0 i) (r.0 i)) ∙ sym (rolls-Assign p.0 a.0), λ i. node_step slots (N.Assign (o.1 i) (r.1 i)))
+  node_mirrors (N.Update op p a) = let o = p.1 in let r = a.1 in
+      ((λ i. node.Update op (o.0 i) (r.0 i)) ∙ sym (rolls-Update op p.0 a.0), λ i. node_step slots (N.Update op (o.1 i) (r.1 i)))
+  node_mirrors (N.Count p up after) = let o = p.1 in (
+    (λ i. node.Count (o.0 i) up after) ∙ sym (rolls-Count p.0 up after),
+    λ i. node_step slots
+        (N.Count (o.1 i) up after),
+  )
+  node_mirrors (N.Comma a b) = let o = a.1 in let r = b.1 in
+      ((λ i. node.Comma (o.0 i) (r.0 i)) ∙ sym (rolls-Comma a.0 b.0), λ i. node_step slots (N.Comma (o.1 i) (r.1 i)))
+  node_mirrors (N.Call name xs) = let o = arguments_mirror xs in
+      (ap (node.Call name) o.0 ∙ sym (rolls-Call name (map expression_at xs)), λ i. node_step slots (N.Call name (o.1 i)))
 
   abbrev open_place : N.Place-F IN IP IE → N.Place-F Node Place Expression
   open_place y = map-Place IN IP IE Node Place Expression node_at place_at expression_at y
@@ -153,7 +163,8 @@ module _ (slots : List Slot) where
   abbrev place_trees : N.Place-F Node Place Expression → N.Place-F NodeTree PlaceTree ExpressionTree
   place_trees z = map-Place Node Place Expression NodeTree PlaceTree ExpressionTree node_tree place_tree expression_tree z
 
-  place_mirrors : (y : N.Place-F IN IP IE) → MirrorsPlace (roll-Place (open_place y)) (place_step slots (place_texts (open_place y))) (place_layer (place_trees (open_place y)))
+  place_mirrors : (y : N.Place-F IN IP IE) → MirrorsPlace (roll-Place (open_place y)) (place_step slots (place_texts (open_place y)))
+      (place_layer (place_trees (open_place y)))
   place_mirrors (N.Var home) = (sym (rolls-Var home), refl)
   place_mirrors (N.Cell home a) = let o = a.1 in (ap (place.Cell home) o.0 ∙ sym (rolls-Cell home a.0), λ i. place_step slots (N.Cell home (o.1 i)))
 
@@ -181,15 +192,20 @@ module _ (slots : List Slot) where
   pub mirrors : (e : Expression) → Mirrors e (expression_text slots e) (expression_tree e)
   mirrors = ind-Expression AtNode AtPlace AtExpression
       (λ x y e. subst (λ (z : Node-F Node Place Expression). AtNode (roll-Node z)) e
-      (subst (λ (s : Kinded). MirrorsNode (roll-Node (open_node y)) s (node_tree (roll-Node (open_node y)))) (sym (fold-roll-Node Kinded Text Leveled (node_step slots) (place_step slots) expression_step _))
+      (subst (λ (s : Kinded). MirrorsNode (roll-Node (open_node y)) s (node_tree (roll-Node (open_node y))))
+      (sym (fold-roll-Node Kinded Text Leveled (node_step slots) (place_step slots) expression_step _))
       (subst (λ (n : NodeTree). MirrorsNode (roll-Node (open_node y)) (node_step slots (texts_of (open_node y))) n) (sym (node_rolls _)) (node_mirrors y))))
       (λ x y e. subst (λ (z : N.Place-F Node Place Expression). AtPlace (roll-Place z)) e
-      (subst (λ (s : Text). MirrorsPlace (roll-Place (open_place y)) s (place_tree (roll-Place (open_place y)))) (sym (fold-roll-Place Kinded Text Leveled (node_step slots) (place_step slots) expression_step _))
-      (subst (λ (p : PlaceTree). MirrorsPlace (roll-Place (open_place y)) (place_step slots (place_texts (open_place y))) p) (sym (place_rolls _)) (place_mirrors y))))
+      (subst (λ (s : Text). MirrorsPlace (roll-Place (open_place y)) s (place_tree (roll-Place (open_place y))))
+      (sym (fold-roll-Place Kinded Text Leveled (node_step slots) (place_step slots) expression_step _))
+      (subst (λ (p : PlaceTree). MirrorsPlace (roll-Place (open_place y)) (place_step slots (place_texts (open_place y))) p) (sym (place_rolls _))
+      (place_mirrors y))))
       (λ x y e. let o = y.node.1 in
       subst (λ (z : Expression-F Node Place Expression). AtExpression (roll-Expression z)) e
-      (subst (λ (s : Leveled). Mirrors (expression_of y.kind y.node.0) s (expression_tree (expression_of y.kind y.node.0))) (sym (fold-roll-Expression Kinded Text Leveled (node_step slots) (place_step slots) expression_step _))
-      (subst (λ (x : ExpressionTree). Mirrors (expression_of y.kind y.node.0) (node_text slots y.node.0 y.kind) x) (sym (expression_rolls _)) (ap (expression_of y.kind) o.0, λ i. o.1 i y.kind))))
+      (subst (λ (s : Leveled). Mirrors (expression_of y.kind y.node.0) s (expression_tree (expression_of y.kind y.node.0)))
+      (sym (fold-roll-Expression Kinded Text Leveled (node_step slots) (place_step slots) expression_step _))
+      (subst (λ (x : ExpressionTree). Mirrors (expression_of y.kind y.node.0) (node_text slots y.node.0 y.kind) x) (sym (expression_rolls _))
+      (ap (expression_of y.kind) o.0, λ i. o.1 i y.kind))))
 
 -- an expression is that of its plain tree
 pub whole : (e : Expression) → expression_in (expression_tree e) ≡ e
@@ -215,7 +231,8 @@ mutual
   node_again (t.Unary op a) = node-Unary op (expression_in a) ∙ ap (t.Unary op) (again a)
   node_again (t.Cast a) = node-Cast (expression_in a) ∙ ap t.Cast (again a)
   node_again (t.Binary op a b) = node-Binary op (expression_in a) (expression_in b) ∙ (λ i. t.Binary op (again a i) (again b i))
-  node_again (t.Conditional a b c) = node-Conditional (expression_in a) (expression_in b) (expression_in c) ∙ (λ i. t.Conditional (again a i) (again b i) (again c i))
+  node_again (t.Conditional a b c) = node-Conditional (expression_in a) (expression_in b) (expression_in c) ∙
+      (λ i. t.Conditional (again a i) (again b i) (again c i))
   node_again (t.Assign p a) = node-Assign (place_in p) (expression_in a) ∙ (λ i. t.Assign (place_again p i) (again a i))
   node_again (t.Update op p a) = node-Update op (place_in p) (expression_in a) ∙ (λ i. t.Update op (place_again p i) (again a i))
   node_again (t.Count p up after) = node-Count (place_in p) up after ∙ (λ i. t.Count (place_again p i) up after)

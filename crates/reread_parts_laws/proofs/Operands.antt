@@ -61,7 +61,8 @@ lies_chosen at (One (To t m a)) f = below 3 at (One (To t m a)) (omega arith)
 lies_chosen at (One (Value (Choose b e d))) f = bare 3 at (One (Value (Choose b e d))) (omega arith)
 lies_chosen at (One (Value (Only b))) f = let h = root_high b f in bare 3 at (One (Value (Only b))) (omega (arith, h))
 
-chosen_form : (at : ℕ) (x : Bool) (b : Binary) → binary_form at (cond x (Single (Within (One (Value (Only b))))) b) ≡ expression_form (past x at) (One (Value (Only b)))
+chosen_form : (at : ℕ) (x : Bool) (b : Binary) → binary_form at (cond x (Single (Within (One (Value (Only b))))) b) ≡ expression_form (past x at)
+    (One (Value (Only b)))
 chosen_form at true b = refl
 chosen_form at false b = refl
 
@@ -91,18 +92,24 @@ pub record Lying (need at : ℕ) (x : ExpressionTree) (form : Form) (end : ℕ) 
 lying : (need at : ℕ) (x : ExpressionTree) (form : Form) (end : ℕ) → Lies need at (derivation_of x) form end → Lying need at x form end
 lying need at x form end l =
     let e = level_is x in
-    record { form_is = l.0 ∙ (λ i. expression_form (past (nat_lt (e i) need) at) (derivation_of x)); end_is = l.1 ∙ (λ i. bracketed_end (nat_lt (e i) need) at (derivation_of x)) }
+    record {
+      form_is = l.0 ∙ (λ i. expression_form (past (nat_lt (e i) need) at) (derivation_of x));
+      end_is = l.1 ∙ (λ i. bracketed_end (nat_lt (e i) need) at (derivation_of x));
+    }
 
 pub opened : (at : ℕ) (x : ExpressionTree) → Lying 1 at x (expression_form at (derivation_of x)) (expression_end at (derivation_of x))
 opened at x = lying 1 at x _ _ (lies_open at (derivation_of x) (fits x))
 
-pub assigned : (at : ℕ) (x : ExpressionTree) → Lying 2 at x (assignment_form at (as_assignment (derivation_of x))) (assignment_end at (as_assignment (derivation_of x)))
+pub assigned : (at : ℕ) (x : ExpressionTree) → Lying 2 at x (assignment_form at (as_assignment (derivation_of x)))
+    (assignment_end at (as_assignment (derivation_of x)))
 assigned at x = lying 2 at x _ _ (lies_assigned at (derivation_of x) (fits x))
 
-pub chosen : (at : ℕ) (x : ExpressionTree) → Lying 3 at x (conditional_form at (as_conditional (derivation_of x))) (conditional_end at (as_conditional (derivation_of x)))
+pub chosen : (at : ℕ) (x : ExpressionTree) → Lying 3 at x (conditional_form at (as_conditional (derivation_of x)))
+    (conditional_end at (as_conditional (derivation_of x)))
 chosen at x = lying 3 at x _ _ (lies_chosen at (derivation_of x) (fits x))
 
-pub bound : (need at : ℕ) (x : ExpressionTree) → 4 ≤ need → Lying need at x (binary_form at (as_binary need (derivation_of x))) (binary_end at (as_binary need (derivation_of x)))
+pub bound : (need at : ℕ) (x : ExpressionTree) → 4 ≤ need → Lying need at x (binary_form at (as_binary need (derivation_of x)))
+    (binary_end at (as_binary need (derivation_of x)))
 bound need at x h = lying need at x _ _ (lies_bound need at (derivation_of x) h)
 
 pub tight : (at : ℕ) (x : ExpressionTree) → Lying 14 at x (unary_form at (as_unary (derivation_of x))) (unary_end at (as_unary (derivation_of x)))

@@ -110,11 +110,14 @@ module _ (n : Names) (ss : List resolved.Scope) (env : Env) (agree : ScopesAgree
     pub variable_is : variable_of (env.word at) (meaning env at) ≡ Some (variable_in h s)
     pub named_is : named at (env.word at) (meaning env at) ≡ variable at (variable_in h s)
     pub clear : (vs : Faults) → name_fault at (meaning env at) vs ≡ vs
-    pub target_clear : (writes indexed : Bool) (vs : Faults) → target_fault writes indexed at (meaning env at) vs ≡ shape_fault writes indexed at (shape_of s) vs
+    pub target_clear : (writes indexed : Bool) (vs : Faults) → target_fault writes indexed at (meaning env at) vs ≡ shape_fault writes indexed at
+        (shape_of s) vs
 
-  pub names_variable : (at : ℕ) (h : Home) (s : Slot) → env.word at ≡ home_name n.slots h → HomeIsBound n.slots ss h → names.variable n h ≡ Some s → NamesVariable at h s
+  pub names_variable : (at : ℕ) (h : Home) (s : Slot) → env.word at ≡ home_name n.slots h → HomeIsBound n.slots ss h → names.variable n h ≡ Some s →
+      NamesVariable at h s
   names_variable at (H.Slot k) s w b e =
-      let m : meaning env at ≡ Some (binding.Local k (shape_of s)) = meaning_is at (home_name n.slots (H.Slot k)) (AVariable (H.Slot k)) w b ∙ ap (option_map (λ (r : Slot). binding.Local k (shape_of r))) e in
+      let m : meaning env at ≡ Some (binding.Local k (shape_of s)) = meaning_is at (home_name n.slots (H.Slot k)) (AVariable (H.Slot k)) w b ∙
+      ap (option_map (λ (r : Slot). binding.Local k (shape_of r))) e in
       record {
         variable_is = ap (variable_of (env.word at)) m;
         named_is = ap (named at (env.word at)) m;
@@ -122,7 +125,8 @@ module _ (n : Names) (ss : List resolved.Scope) (env : Env) (agree : ScopesAgree
         target_clear = λ writes indexed vs. ap (λ o. target_fault writes indexed at o vs) m;
       }
   names_variable at (H.Global g) s w b e =
-      let m : meaning env at ≡ Some (binding.Global (shape_of s)) = meaning_is at g (AVariable (H.Global g)) w b ∙ ap (option_map (λ (r : Slot). binding.Global (shape_of r))) e in
+      let m : meaning env at ≡ Some (binding.Global (shape_of s)) = meaning_is at g (AVariable (H.Global g)) w b ∙
+      ap (option_map (λ (r : Slot). binding.Global (shape_of r))) e in
       record {
         variable_is = λ i. variable_of (w i) (m i);
         named_is = λ i. named at (w i) (m i);
@@ -154,14 +158,18 @@ module _ (n : Names) (ss : List resolved.Scope) (env : Env) (agree : ScopesAgree
         slot = s;
         is = y.is;
         kind_is = c.1;
-        target_is = ap number_target (v.variable_is) ∙ (λ i. cond (number i) None (Some (record { place = place.Var h; kind = s.kind; constant = s.constant })));
-        typed = v.named_is ∙ (λ i. cond (number i) (Array (record { token = at; home = h; kind = s.kind; constant = s.constant })) (of_kind s.kind (node.Read (place.Var h))));
+        target_is = ap number_target (v.variable_is) ∙
+            (λ i. cond (number i) None (Some (record { place = place.Var h; kind = s.kind; constant = s.constant })));
+        typed = v.named_is ∙ (λ i. cond (number i) (Array (record { token = at; home = h; kind = s.kind; constant = s.constant }))
+            (of_kind s.kind (node.Read (place.Var h))));
         clear = v.clear;
         target_clear = λ k vs. v.target_clear true false vs ∙ (λ i. shape_fault true false at (record { kind = s.kind; array = number i; constant = k i }) vs);
       }
 
-  pub cell_reads : (at : ℕ) (h : Home) (kind : Option IntKind) (first : ℕ) (form : Form) (x : ExpressionTree) → env.word at ≡ home_name n.slots h → HomeIsBound n.slots ss h
-      → IsSomeAnd (names.variable n h) (λ s. IsArray s × (kind ≡ Some s.kind)) → HasKind (kind_of x) → Reads env form x → ReadsPlace (Cell at (At first form)) kind (t.Cell h x)
+  pub cell_reads : (at : ℕ) (h : Home) (kind : Option IntKind) (first : ℕ) (form : Form) (x : ExpressionTree) → env.word at ≡ home_name n.slots h →
+      HomeIsBound n.slots ss h
+      → IsSomeAnd (names.variable n h) (λ s. IsArray s × (kind ≡ Some s.kind)) → HasKind (kind_of x) → Reads env form x →
+      ReadsPlace (Cell at (At first form)) kind (t.Cell h x)
   cell_reads at h kind first form x w b a k r =
       let y = there (names.variable n h) (λ s. IsArray s × (kind ≡ Some s.kind)) a in
       let s = y.slot in
@@ -170,14 +178,16 @@ module _ (n : Names) (ss : List resolved.Scope) (env : Env) (agree : ScopesAgree
       let u = has_valued x k in
       let array : is_some s.cells ≡ true = c.0 in
       let target : form_target env (Cell at (At first form)) ≡ Some (record { place = place.Cell h (expression_in x); kind = s.kind; constant = s.constant })
-      = (λ i. cell_target (v.variable_is i) (value_is env form x r k i)) ∙ (λ i. cond (array i) (Some (record { place = place.Cell h (u.whole i); kind = s.kind; constant = s.constant })) None) in
+      = (λ i. cell_target (v.variable_is i) (value_is env form x r k i)) ∙
+      (λ i. cond (array i) (Some (record { place = place.Cell h (u.whole i); kind = s.kind; constant = s.constant })) None) in
       record {
         slot = s;
         is = y.is;
         kind_is = c.1;
         target_is = target;
         typed = ap reading target;
-        clear = λ vs. ap (target_fault false true at (meaning env at)) (used_clear env form x r k first vs) ∙ v.target_clear false true vs ∙ (λ i. shape_fault false true at (record { kind = s.kind; array = array i; constant = s.constant }) vs);
+        clear = λ vs. ap (target_fault false true at (meaning env at)) (used_clear env form x r k first vs) ∙ v.target_clear false true vs ∙
+            (λ i. shape_fault false true at (record { kind = s.kind; array = array i; constant = s.constant }) vs);
         target_clear = λ z vs.
             ap (target_fault true true at (meaning env at)) (used_clear env form x r k first vs) ∙ v.target_clear true true vs
             ∙ (λ i. shape_fault true true at (record { kind = s.kind; array = array i; constant = z i }) vs);
@@ -187,12 +197,14 @@ module _ (n : Names) (ss : List resolved.Scope) (env : Env) (agree : ScopesAgree
 
 module _ (env : Env) where
   typed_behind : (e : g.Expression) (at : ℕ) (b : g.Assignment) (y : Typed)
-      → commas env y (expression_terms at (followed_by e b)) ≡ comma (dropped (commas env y (expression_terms at e))) (form_typed env (assignment_form (expression_end at e + 1) b))
+      → commas env y (expression_terms at (followed_by e b)) ≡ comma (dropped (commas env y (expression_terms at e)))
+      (form_typed env (assignment_form (expression_end at e + 1) b))
   typed_behind (g.One a) at b y = refl
   typed_behind (g.More a e) at b y = typed_behind e (assignment_end at a + 1) b (comma (dropped y) (form_typed env (assignment_form at a)))
 
   pub followed_typed : (e : g.Expression) (at : ℕ) (b : g.Assignment)
-      → form_typed env (expression_form at (followed_by e b)) ≡ comma (dropped (form_typed env (expression_form at e))) (form_typed env (assignment_form (expression_end at e + 1) b))
+      → form_typed env (expression_form at (followed_by e b)) ≡ comma (dropped (form_typed env (expression_form at e)))
+      (form_typed env (assignment_form (expression_end at e + 1) b))
   followed_typed (g.One a) at b = refl
   followed_typed (g.More a e) at b = typed_behind e (assignment_end at a + 1) b (form_typed env (assignment_form at a))
 
@@ -200,7 +212,8 @@ module _ (env : Env) where
   dropping first form vs = drop_fault first (form_typed env form) (form_faults env form vs)
 
   faults_behind : (e : g.Expression) (at : ℕ) (b : g.Assignment) (vs : Faults)
-      → unused_faults env (expression_terms at (followed_by e b)) vs ≡ dropping (expression_end at e + 1) (assignment_form (expression_end at e + 1) b) (unused_faults env (expression_terms at e) vs)
+      → unused_faults env (expression_terms at (followed_by e b)) vs ≡ dropping (expression_end at e + 1)
+      (assignment_form (expression_end at e + 1) b) (unused_faults env (expression_terms at e) vs)
   faults_behind (g.One a) at b vs = refl
   faults_behind (g.More a e) at b vs = faults_behind e (assignment_end at a + 1) b (dropping at (assignment_form at a) vs)
 
@@ -210,7 +223,8 @@ module _ (env : Env) where
   in_front at (g.More a e) vs = form_faults env (expression_form at (g.More a e)) vs
 
   followed_faults : (e : g.Expression) (at : ℕ) (b : g.Assignment) (vs : Faults)
-      → form_faults env (expression_form at (followed_by e b)) vs ≡ dropping (expression_end at e + 1) (assignment_form (expression_end at e + 1) b) (in_front at e vs)
+      → form_faults env (expression_form at (followed_by e b)) vs ≡ dropping (expression_end at e + 1) (assignment_form (expression_end at e + 1) b)
+      (in_front at e vs)
   followed_faults (g.One a) at b vs = refl
   followed_faults (g.More a e) at b vs = faults_behind e (assignment_end at a + 1) b (dropping at (assignment_form at a) vs)
 
@@ -218,15 +232,19 @@ module _ (env : Env) where
   front_clear (g.One a) at x r vs = dropped_clear env (assignment_form at a) x r at vs
   front_clear (g.More a e) at x r vs = r.clear vs
 
-  left_is : (x : ExpressionTree) (y : ExpressionTree) → comma (Some (expression_in x)) (typed_of y) ≡ of_result (kind_of y) (node.Comma (expression_in x) (expression_in y))
+  left_is : (x : ExpressionTree) (y : ExpressionTree) → comma (Some (expression_in x)) (typed_of y) ≡ of_result (kind_of y)
+      (node.Comma (expression_in x) (expression_in y))
   left_is x (t.Typed (Some kind) n) = refl
   left_is x (t.Typed None n) = refl
 
-  pub comma_reads : (e : g.Expression) (at : ℕ) (b : g.Assignment) (kind : Option IntKind) (x y : ExpressionTree) → Reads env (expression_form at e) x → Reads env (assignment_form (expression_end at e + 1) b) y
+  pub comma_reads : (e : g.Expression) (at : ℕ) (b : g.Assignment) (kind : Option IntKind) (x y : ExpressionTree) →
+      Reads env (expression_form at e) x → Reads env (assignment_form (expression_end at e + 1) b) y
       → kind ≡ kind_of y → Reads env (expression_form at (followed_by e b)) (t.Typed kind (t.Comma x y))
   comma_reads e at b kind x y r u k =
       let behind = expression_end at e + 1 in
       record {
-        typed = followed_typed e at b ∙ (λ i. comma (drops_is env (expression_form at e) x r i) (u.typed i)) ∙ left_is x y ∙ (λ i. of_result (sym k i) (node.Comma (expression_in x) (expression_in y)));
-        clear = λ vs. followed_faults e at b vs ∙ ap (dropping behind (assignment_form behind b)) (front_clear e at x r vs) ∙ dropped_clear env (assignment_form behind b) y u behind vs;
+        typed = followed_typed e at b ∙ (λ i. comma (drops_is env (expression_form at e) x r i) (u.typed i)) ∙ left_is x y ∙
+            (λ i. of_result (sym k i) (node.Comma (expression_in x) (expression_in y)));
+        clear = λ vs. followed_faults e at b vs ∙ ap (dropping behind (assignment_form behind b)) (front_clear e at x r vs) ∙
+            dropped_clear env (assignment_form behind b) y u behind vs;
       }

@@ -10,7 +10,8 @@ use Rattle.reread_parts_laws.specs.Bindings.{IsInScope, binding_of, IsSame, IsSa
 use Rattle.c_kinds.proofs.Entries.{same_names, by_bool, found_new}
 
 module _ (n : Names) where
-  nearest : (m : List ℕ) (b : Meaning) (o : Option Meaning) (later : Option Meaning) (p q : Option Binding) → IsSame n m o p → (later ≡ Some b → q ≡ binding_of n m b) → option_or o later ≡ Some b → or_else p q ≡ binding_of n m b
+  nearest : (m : List ℕ) (b : Meaning) (o : Option Meaning) (later : Option Meaning) (p q : Option Binding) → IsSame n m o p →
+      (later ≡ Some b → q ≡ binding_of n m b) → option_or o later ≡ Some b → or_else p q ≡ binding_of n m b
   nearest m b (Some x) later p q h k e =
       let u : Some x ≡ Some b = e in
       there p q h.0 h.1 ∙ same x b u
@@ -26,7 +27,8 @@ module _ (n : Names) where
   -- what is bound in the program is found
   pub scopes_agree : (ss : List resolved.Scope) (ts : List Scope) → AreSameScopes n ss ts → ScopesAgree n ss ts
   scopes_agree [] [] h m b e = cc
-  scopes_agree (s ∷ ss) (t ∷ ts) h m b e = nearest m b (resolved.found m s) (resolved.look_up ss m) (found m t) (look_up ts m) (h.0 m) (λ f. scopes_agree ss ts h.1 m b f) e
+  scopes_agree (s ∷ ss) (t ∷ ts) h m b e = nearest m b (resolved.found m s) (resolved.look_up ss m) (found m t) (look_up ts m) (h.0 m)
+      (λ f. scopes_agree ss ts h.1 m b f) e
   scopes_agree [] (t ∷ ts) h m b e = absurd h
   scopes_agree (s ∷ ss) [] h m b e = absurd h
 
@@ -36,7 +38,8 @@ module _ (n : Names) where
   absent m None p h e = h
   absent m (Some b) p h e = cc
 
-  bound_one : (m : List ℕ) (x : Meaning) (b : Binding) (s : resolved.Scope) (t : Scope) → IsSameScope n s t → resolved.found m s ≡ None → Some b ≡ binding_of n m x → IsSameScope n ((m, x) ∷ s) (with_name m b t)
+  bound_one : (m : List ℕ) (x : Meaning) (b : Binding) (s : resolved.Scope) (t : Scope) → IsSameScope n s t → resolved.found m s ≡ None →
+      Some b ≡ binding_of n m x → IsSameScope n ((m, x) ∷ s) (with_name m b t)
   bound_one m x b s t h e f k =
       let new : is_some (found m t) ≡ false = ap is_some (absent m (resolved.found m s) (found m t) (h m) e) in
       subst (IsSame n k (cond (bytes_eq k m) (Some x) (resolved.found k s))) (sym (found_new k m b t new))
@@ -45,7 +48,8 @@ module _ (n : Names) where
       subst (λ z. IsSame n k (cond z (Some x) (resolved.found k s)) (cond z (Some b) (found k t))) (sym y) (f ∙ ap (λ z. binding_of n z x) (sym same), refl))
       (λ y. subst (λ z. IsSame n k (cond z (Some x) (resolved.found k s)) (cond z (Some b) (found k t))) (sym y) (h k)))
 
-  pub bind_same : (m : List ℕ) (x : Meaning) (b : Binding) (ss : List resolved.Scope) (ts : List Scope) → AreSameScopes n ss ts → IsInScope ss → resolved.IsNew m ss → Some b ≡ binding_of n m x
+  pub bind_same : (m : List ℕ) (x : Meaning) (b : Binding) (ss : List resolved.Scope) (ts : List Scope) → AreSameScopes n ss ts → IsInScope ss →
+      resolved.IsNew m ss → Some b ≡ binding_of n m x
       → AreSameScopes n (resolved.bind m x ss) (bind m b ts)
   bind_same m x b [] [] h there e f = absurd there
   bind_same m x b (s ∷ ss) (t ∷ ts) h there e f = (bound_one m x b s t h.0 e f, h.1)

@@ -28,14 +28,18 @@ of_layer o = elim o as (λ _. Bool) [ I.Break ↦ true | _ ↦ false ]
 break_same : (x : Tree) → is_break (tree_in x) ≡ is_break_tree x
 break_same (t.Evaluate e) = ap of_layer (ap out-Item (sym (V.rolls-Evaluate (expression_in e))) ∙ out-roll-Item (I.Evaluate (expression_in e)))
 break_same (t.Return e) = ap of_layer (ap out-Item (sym (V.rolls-Return (option_map expression_in e))) ∙ out-roll-Item (I.Return (option_map expression_in e)))
-break_same (t.If c a b) = ap of_layer (ap out-Item (sym (V.rolls-If (test_in c) (forest_in a) (forest_in b))) ∙ out-roll-Item (I.If (test_in c) (forest_in a) (forest_in b)))
+break_same (t.If c a b) = ap of_layer (ap out-Item (sym (V.rolls-If (test_in c) (forest_in a) (forest_in b))) ∙
+    out-roll-Item (I.If (test_in c) (forest_in a) (forest_in b)))
 break_same (t.While c a) = ap of_layer (ap out-Item (sym (V.rolls-While (test_in c) (forest_in a))) ∙ out-roll-Item (I.While (test_in c) (forest_in a)))
 break_same (t.Do a c) = ap of_layer (ap out-Item (sym (V.rolls-Do (forest_in a) (test_in c))) ∙ out-roll-Item (I.Do (forest_in a) (test_in c)))
 break_same (t.For first c u a) =
-    ap of_layer (ap out-Item (sym (V.rolls-For (forest_in first) (option_map expression_in c) (option_map expression_in u) (forest_in a))) ∙ out-roll-Item (I.For (forest_in first) (option_map expression_in c) (option_map expression_in u) (forest_in a)))
-break_same (t.Switch s c) = ap of_layer (ap out-Item (sym (V.rolls-Switch (selector_in s) (sections_in c))) ∙ out-roll-Item (I.Switch (selector_in s) (sections_in c)))
+    ap of_layer (ap out-Item (sym (V.rolls-For (forest_in first) (option_map expression_in c) (option_map expression_in u) (forest_in a))) ∙
+    out-roll-Item (I.For (forest_in first) (option_map expression_in c) (option_map expression_in u) (forest_in a)))
+break_same (t.Switch s c) = ap of_layer (ap out-Item (sym (V.rolls-Switch (selector_in s) (sections_in c))) ∙
+    out-roll-Item (I.Switch (selector_in s) (sections_in c)))
 break_same (t.Block a) = ap of_layer (ap out-Item (sym (V.rolls-Block (forest_in a))) ∙ out-roll-Item (I.Block (forest_in a)))
-break_same (t.Local k given) = ap of_layer (ap out-Item (sym (V.rolls-Local k (option_map (map expression_in) given))) ∙ out-roll-Item (I.Local k (option_map (map expression_in) given)))
+break_same (t.Local k given) = ap of_layer (ap out-Item (sym (V.rolls-Local k (option_map (map expression_in) given))) ∙
+    out-roll-Item (I.Local k (option_map (map expression_in) given)))
 break_same t.Break = ap of_layer (ap out-Item (sym V.rolls-Break) ∙ out-roll-Item I.Break)
 break_same t.Continue = ap of_layer (ap out-Item (sym V.rolls-Continue) ∙ out-roll-Item I.Continue)
 break_same (t.Goto l) = ap of_layer (ap out-Item (sym (V.rolls-Goto l)) ∙ out-roll-Item (I.Goto l))
@@ -43,7 +47,8 @@ break_same (t.Mark l) = ap of_layer (ap out-Item (sym (V.rolls-Mark l)) ∙ out-
 break_same (t.Arm l e) = ap of_layer (ap out-Item (sym (V.rolls-Arm l (option_map expression_in e))) ∙ out-roll-Item (I.Arm l (option_map expression_in e)))
 break_same (t.Leap l) = ap of_layer (ap out-Item (sym (V.rolls-Leap l)) ∙ out-roll-Item (I.Leap l))
 break_same (t.Land l) = ap of_layer (ap out-Item (sym (V.rolls-Land l)) ∙ out-roll-Item (I.Land l))
-break_same (t.Arrival e) = ap of_layer (ap out-Item (sym (V.rolls-Arrival (option_map expression_in e))) ∙ out-roll-Item (I.Arrival (option_map expression_in e)))
+break_same (t.Arrival e) = ap of_layer (ap out-Item (sym (V.rolls-Arrival (option_map expression_in e))) ∙
+    out-roll-Item (I.Arrival (option_map expression_in e)))
 break_same (t.Note bytes) = ap of_layer (ap out-Item (sym (V.rolls-Note bytes)) ∙ out-roll-Item (I.Note bytes))
 
 one_same : (x : Tree) → is_break_tree x ≡ ends_with_break (Then x Nil)
@@ -75,19 +80,22 @@ and_false : (b : Bool) → (b && false) ≡ false
 and_false true = refl
 and_false false = refl
 
-labelled : (cases : List ExpressionTree) (default : Bool) (list : List Item) → (0 < length cases) ⊎ IsTrue default → has_label (reading_of (map expression_in cases) default list) ≡ true
+labelled : (cases : List ExpressionTree) (default : Bool) (list : List Item) → (0 < length cases) ⊎ IsTrue default →
+    has_label (reading_of (map expression_in cases) default list) ≡ true
 labelled [] true list h = refl
 labelled [] false list (inl h) = absurd (omega (arith, h))
 labelled [] false list (inr h) = cc
 labelled (x ∷ xs) default list h = refl
 
-pub ended_here : (cases : List ExpressionTree) (default : Bool) (xs : List Item) → (0 < length cases) ⊎ IsTrue default → ended (reading_of (map expression_in cases) default (xs ++ item.Break ∷ [])) ≡ a_section (map expression_in cases) default xs true
+pub ended_here : (cases : List ExpressionTree) (default : Bool) (xs : List Item) → (0 < length cases) ⊎ IsTrue default →
+    ended (reading_of (map expression_in cases) default (xs ++ item.Break ∷ [])) ≡ a_section (map expression_in cases) default xs true
 ended_here cases default xs h =
     let list = xs ++ item.Break ∷ [] in
     let es = map expression_in cases in
     (λ i. cond (labelled cases default list h i && break_last xs i) (a_section es default (before_last xs i) true) (a_section es default list false))
 
-pub ended_open : (cases : List ExpressionTree) (default : Bool) (a : Forest) → ends_with_break a ≡ false → ended (reading_of (map expression_in cases) default (forest_in a)) ≡ a_section (map expression_in cases) default (forest_in a) false
+pub ended_open : (cases : List ExpressionTree) (default : Bool) (a : Forest) → ends_with_break a ≡ false →
+    ended (reading_of (map expression_in cases) default (forest_in a)) ≡ a_section (map expression_in cases) default (forest_in a) false
 ended_open cases default a h =
     let es = map expression_in cases in
     let r = reading_of es default (forest_in a) in
@@ -102,13 +110,16 @@ of_section o = elim (o.list) as (λ _. Bool) [ [] ↦ not o.ends | x ∷ xs ↦ 
 abbrev with_none : Section-F Item RealSection → RealSection
 with_none o = a_section o.cases o.default o.list o.ends
 
-parts : (cases : List Expression) (default : Bool) (list : List Item) (ends : Bool) → out-Section (a_section cases default list ends) ≡ record { cases = cases; default = default; list = list; ends = ends }
+parts : (cases : List Expression) (default : Bool) (list : List Item) (ends : Bool) →
+    out-Section (a_section cases default list ends) ≡ record { cases = cases; default = default; list = list; ends = ends }
 parts cases default list ends = out-roll-Section (record { cases = cases; default = default; list = list; ends = ends })
 
-same : (cases : List Expression) (default : Bool) (list : List Item) (ends : Bool) → with_labels [] false (a_section cases default list ends) ≡ a_section cases default list ends
+same : (cases : List Expression) (default : Bool) (list : List Item) (ends : Bool) →
+    with_labels [] false (a_section cases default list ends) ≡ a_section cases default list ends
 same cases default list ends = ap with_none (parts cases default list ends)
 
-not_passing : (cases : List Expression) (default : Bool) (a : Forest) (ends : Bool) (more : List ExpressionTree) (d : Bool) (b : Forest) (e : Bool) (c : Sections) → IsKept a ends (Section more d b e c) → is_passing (a_section cases default (forest_in a) ends) ≡ false
+not_passing : (cases : List Expression) (default : Bool) (a : Forest) (ends : Bool) (more : List ExpressionTree) (d : Bool) (b : Forest) (e : Bool)
+    (c : Sections) → IsKept a ends (Section more d b e c) → is_passing (a_section cases default (forest_in a) ends) ≡ false
 not_passing cases default Nil true more d b e c k = ap of_section (parts cases default [] true)
 not_passing cases default Nil false more d b e c k = absurd k
 not_passing cases default (Then x xs) ends more d b e c k = ap of_section (parts cases default (forest_in (Then x xs)) ends)

@@ -37,7 +37,8 @@ module _ (ts : List Top) (f : Function) (ctx : Context) (tokens : List Spelling)
   nothing_behind (x ∷ xs) = ap (λ l. x ∷ l) (nothing_behind xs)
 
   pub sections_front : (a : Forest) (y : ℕ) (r : Reading) (rest : s.Items) (notes : List Item) (w : Walk)
-      → sections_from ctx (Some r) (front ts f ctx tokens words y a rest) notes w ≡ sections_from ctx (Some (go_on r (list_items ctx (front ts f ctx tokens words y a s.NoItem) w))) rest notes (passed ts f ctx tokens words y a w)
+      → sections_from ctx (Some r) (front ts f ctx tokens words y a rest) notes w ≡ sections_from ctx
+      (Some (go_on r (list_items ctx (front ts f ctx tokens words y a s.NoItem) w))) rest notes (passed ts f ctx tokens words y a w)
   sections_front Nil y r rest notes w = λ i. sections_from ctx (Some (reading_of r.cases r.default (sym (nothing_behind r.list) i))) rest notes w
   sections_front (Then (t.Note bytes) xs) y r rest notes w = sections_front xs y r rest notes w
   sections_front (Then (t.If c a Nil) xs) y r rest notes w =
@@ -46,21 +47,24 @@ module _ (ts : List Top) (f : Function) (ctx : Context) (tokens : List Spelling)
       let z = item_end f.slots y (t.If c a Nil) in
       let new = item_items ctx src w in
       sections_front xs z (go_on r new) rest notes v
-      ∙ (λ i. sections_from ctx (Some (reading_of r.cases r.default (append_assoc r.list new (list_items ctx (front ts f ctx tokens words z xs s.NoItem) v) i))) rest notes (passed ts f ctx tokens words z xs v))
+      ∙ (λ i. sections_from ctx (Some (reading_of r.cases r.default
+      (append_assoc r.list new (list_items ctx (front ts f ctx tokens words z xs s.NoItem) v) i))) rest notes (passed ts f ctx tokens words z xs v))
   sections_front (Then (t.If c a (Then d ds)) xs) y r rest notes w =
       let src = source_of ts f ctx tokens words y (t.If c a (Then d ds)) in
       let v = behind_item ctx src w in
       let z = item_end f.slots y (t.If c a (Then d ds)) in
       let new = item_items ctx src w in
       sections_front xs z (go_on r new) rest notes v
-      ∙ (λ i. sections_from ctx (Some (reading_of r.cases r.default (append_assoc r.list new (list_items ctx (front ts f ctx tokens words z xs s.NoItem) v) i))) rest notes (passed ts f ctx tokens words z xs v))
+      ∙ (λ i. sections_from ctx (Some (reading_of r.cases r.default
+      (append_assoc r.list new (list_items ctx (front ts f ctx tokens words z xs s.NoItem) v) i))) rest notes (passed ts f ctx tokens words z xs v))
   sections_front (Then x xs) y r rest notes w =
       let src = source_of ts f ctx tokens words y x in
       let v = behind_item ctx src w in
       let z = item_end f.slots y x in
       let new = item_items ctx src w in
       sections_front xs z (go_on r new) rest notes v
-      ∙ (λ i. sections_from ctx (Some (reading_of r.cases r.default (append_assoc r.list new (list_items ctx (front ts f ctx tokens words z xs s.NoItem) v) i))) rest notes (passed ts f ctx tokens words z xs v))
+      ∙ (λ i. sections_from ctx (Some (reading_of r.cases r.default
+      (append_assoc r.list new (list_items ctx (front ts f ctx tokens words z xs s.NoItem) v) i))) rest notes (passed ts f ctx tokens words z xs v))
 
   -- ---- no case label of a switch around it stands in an item
 
@@ -72,14 +76,18 @@ module _ (ts : List Top) (f : Function) (ctx : Context) (tokens : List Spelling)
   EntriesOf x = EntriesOne x
 
   abbrev EntriesIn : Forest → Type 0
-  EntriesIn a = (at : ℕ) (rest : s.Items) (w : Walk) (found : List Entry) → list_entries ctx (front ts f ctx tokens words at a rest) w found ≡ list_entries ctx rest (passed ts f ctx tokens words at a w) found
+  EntriesIn a = (at : ℕ) (rest : s.Items) (w : Walk) (found : List Entry) →
+      list_entries ctx (front ts f ctx tokens words at a rest) w found ≡ list_entries ctx rest (passed ts f ctx tokens words at a w) found
 
-  body_none : (a : Forest) → EntriesIn a → (at : ℕ) (w : Walk) (found : List Entry) → body_entries ctx (written_body at (block (items_of f.slots a NoItems))) w found ≡ found
-  body_none a h at w found = ap (λ l. list_entries ctx l (enter w) found) (written_front ts f ctx tokens words a (at + 1) NoItems) ∙ h (at + 1) s.NoItem (enter w) found
+  body_none : (a : Forest) → EntriesIn a → (at : ℕ) (w : Walk) (found : List Entry) →
+      body_entries ctx (written_body at (block (items_of f.slots a NoItems))) w found ≡ found
+  body_none a h at w found = ap (λ l. list_entries ctx l (enter w) found) (written_front ts f ctx tokens words a (at + 1) NoItems) ∙
+      h (at + 1) s.NoItem (enter w) found
 
   abbrev EntriesElse : Forest → Type 0
   EntriesElse Nil = Unit {0}
-  EntriesElse (Then x xs) = (at : ℕ) (w : Walk) (found : List Entry) → body_entries ctx (written_body at (else_statement ts f ctx tokens words x xs)) w found ≡ found
+  EntriesElse (Then x xs) = (at : ℕ) (w : Walk) (found : List Entry) →
+      body_entries ctx (written_body at (else_statement ts f ctx tokens words x xs)) w found ≡ found
 
   abbrev EntriesLone : Forest → Type 0
   EntriesLone (Then (t.If c a b) Nil) = EntriesOne (t.If c a b)
@@ -123,7 +131,8 @@ module _ (ts : List Top) (f : Function) (ctx : Context) (tokens : List Spelling)
     entries_in (Then x xs) = λ at rest w found.
         let src = source_of ts f ctx tokens words at x in
         let v = behind_item ctx src w in
-        ap (list_entries ctx (front ts f ctx tokens words (item_end f.slots at x) xs rest) v) (entries_of x at w found) ∙ entries_in xs (item_end f.slots at x) rest v found
+        ap (list_entries ctx (front ts f ctx tokens words (item_end f.slots at x) xs rest) v) (entries_of x at w found) ∙
+        entries_in xs (item_end f.slots at x) rest v found
 
 -- ---- no nested case label stands in good items
 

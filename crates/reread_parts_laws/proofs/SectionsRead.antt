@@ -46,35 +46,42 @@ module _ (ts : List Top) (f : Function) (ctx : Context) (tokens : List Spelling)
     pub reads : CasesRead (env_at ctx w) at cases
     pub behind_it : Stands tokens (cases_end at cases) ps
 
-  pub cases_read : (cases : List ExpressionTree) (ss : List Scope) (k : ℕ) (w : Walk) (at depth : ℕ) (ps : List Piece) → Standing (names_in ts f) ss k w → Each (IsCase (names_in ts f) f ctx ss) cases
+  pub cases_read : (cases : List ExpressionTree) (ss : List Scope) (k : ℕ) (w : Walk) (at depth : ℕ) (ps : List Piece) →
+      Standing (names_in ts f) ss k w → Each (IsCase (names_in ts f) f ctx ss) cases
       → Stands tokens at (joined (map (case_line f.slots depth) (map expression_in cases)) ps) → LabelsRead w at cases ps
   cases_read [] ss k w at depth ps h g b = record { reads = tt; behind_it = b }
   cases_read (x ∷ xs) ss k w at depth ps h g b =
       let rest = joined (map (case_line f.slots depth) (map expression_in xs)) ps in
-      let b1 = subst (λ (y : Leveled). Stands tokens at ((indentation depth ⨾ word (codes "case") ⨾ space ⨾ y 3 ⨾ punctuator (codes ":") ⨾ newline) rest)) (text_in f.slots x) b in
+      let b1 = subst (λ (y : Leveled). Stands tokens at ((indentation depth ⨾ word (codes "case") ⨾ space ⨾ y 3 ⨾ punctuator (codes ":") ⨾ newline)
+      rest)) (text_in f.slots x) b in
       let b2 = past_indentation tokens at ((word (codes "case") ⨾ space ⨾ tree_text f.slots x 3 ⨾ punctuator (codes ":") ⨾ newline) rest) depth b1 in
       let m = keyword_here ts f ctx tokens words at (codes "case") ((space ⨾ tree_text f.slots x 3 ⨾ punctuator (codes ":") ⨾ newline) rest) b2 in
-      let u = chosen_full (names_in ts f) ss (env_at ctx w) tokens (place_at (names_in ts f) ctx.word tokens words ss k w h) (at + 1) ((punctuator (codes ":") ⨾ newline) rest) x ((g.0).good) (m.1) in
+      let u = chosen_full (names_in ts f) ss (env_at ctx w) tokens (place_at (names_in ts f) ctx.word tokens words ss k w h) (at + 1)
+      ((punctuator (codes ":") ⨾ newline) rest) x ((g.0).good) (m.1) in
       let y = conditional_end (at + 1) (conditional_of x) in
       let r = cases_read xs ss k w (y + 1) depth ps h (g.1) (a_mark ts f ctx tokens words y (codes ":") (newline rest) (u.behind)) in
       record { reads = (u.reads, (g.0).constant, r.reads); behind_it = r.behind_it }
 
-  pub default_read : (default : Bool) (at depth : ℕ) (ps : List Piece) → Stands tokens at ((only_if default (default_line depth)) ps) → DefaultStands ctx.word at default × Stands tokens (default_end at default) ps
+  pub default_read : (default : Bool) (at depth : ℕ) (ps : List Piece) → Stands tokens at ((only_if default (default_line depth)) ps) →
+      DefaultStands ctx.word at default × Stands tokens (default_end at default) ps
   default_read false at depth ps b = (tt, b)
   default_read true at depth ps b =
-      let m = keyword_here ts f ctx tokens words at (codes "default") ((punctuator (codes ":") ⨾ newline) ps) (past_indentation tokens at ((word (codes "default") ⨾ punctuator (codes ":") ⨾ newline) ps) depth b) in
+      let m = keyword_here ts f ctx tokens words at (codes "default") ((punctuator (codes ":") ⨾ newline) ps)
+      (past_indentation tokens at ((word (codes "default") ⨾ punctuator (codes ":") ⨾ newline) ps) depth b) in
       (m.0, a_mark ts f ctx tokens words (at + 1) (codes ":") (newline ps) (m.1))
 
   -- ---- a `;` that stands for no item
 
   pub record NullRead (there : Bool) (at : ℕ) (ps : List Piece) : Type 0 where
     pub behind_it : Stands tokens (optional_end_of there 1 at) ps
-    pub keywords : (xs : g.Items) → ItemsHaveKeywords ctx.word (optional_end_of there 1 at) xs → ItemsHaveKeywords ctx.word at (optional_item there null_statement xs)
+    pub keywords : (xs : g.Items) → ItemsHaveKeywords ctx.word (optional_end_of there 1 at) xs →
+        ItemsHaveKeywords ctx.word at (optional_item there null_statement xs)
 
   pub null_read : (there : Bool) (at depth : ℕ) (ps : List Piece) → Stands tokens at ((only_if there (null_line depth)) ps) → NullRead there at ps
   null_read false at depth ps b = record { behind_it = b; keywords = λ xs h. h }
   null_read true at depth ps b =
-      let m = mark_here f.slots tokens ctx.word words at (codes ";") (newline ps) (past_indentation tokens at ((punctuator (codes ";") ⨾ newline) ps) depth b) in
+      let m = mark_here f.slots tokens ctx.word words at (codes ";") (newline ps)
+      (past_indentation tokens at ((punctuator (codes ";") ⨾ newline) ps) depth b) in
       record { behind_it = m.1; keywords = λ xs h. (ap keyword_class (m.0), h) }
 
   -- ---- the printed list is that of the tree
@@ -91,7 +98,8 @@ module _ (ts : List Top) (f : Function) (ctx : Context) (tokens : List Spelling)
   ends_same (Then x Nil) = refl
   ends_same (Then x (Then y ys)) = by_first x (ends_same (Then y ys))
     where
-      later : (x : Tree) → text.ends_in_note (printed_forest f (Then y ys)) ≡ ends_with_note (Then y ys) → text.ends_in_note (printed_forest f (Then x (Then y ys))) ≡ ends_with_note (Then y ys)
+      later : (x : Tree) → text.ends_in_note (printed_forest f (Then y ys)) ≡ ends_with_note (Then y ys) →
+          text.ends_in_note (printed_forest f (Then x (Then y ys))) ≡ ends_with_note (Then y ys)
       later x h =
           let ps = printed_forest f ys in
           let one : length (printed_tree f x ∷ printed_tree f y ∷ ps) - 1 ≡ suc (length ps) = omega arith in
@@ -99,7 +107,8 @@ module _ (ts : List Top) (f : Function) (ctx : Context) (tokens : List Spelling)
           ap (λ i. option_map_or (λ (p : Printed). text.is_note p.shape) (slice_get (printed_tree f x ∷ printed_tree f y ∷ ps) i) false) one
           ∙ ap (λ i. option_map_or (λ (p : Printed). text.is_note p.shape) (slice_get (printed_tree f y ∷ ps) i) false) (sym two) ∙ h
 
-      by_first : (x : Tree) → text.ends_in_note (printed_forest f (Then y ys)) ≡ ends_with_note (Then y ys) → text.ends_in_note (printed_forest f (Then x (Then y ys))) ≡ ends_with_note (Then x (Then y ys))
+      by_first : (x : Tree) → text.ends_in_note (printed_forest f (Then y ys)) ≡ ends_with_note (Then y ys) →
+          text.ends_in_note (printed_forest f (Then x (Then y ys))) ≡ ends_with_note (Then x (Then y ys))
       by_first (t.Note bytes) h = later (t.Note bytes) h
       by_first x h = later x h
 
@@ -120,9 +129,11 @@ module _ (ts : List Top) (f : Function) (ctx : Context) (tokens : List Spelling)
     pub behind_it : Stands tokens (section_ends_at at ends a last) ps
     pub keywords : (xs : g.Items) → ItemsHaveKeywords ctx.word (section_ends_at at ends a last) xs → ItemsHaveKeywords ctx.word at (section_end ends a last xs)
 
-  pub end_read : (ends : Bool) (a : Forest) (last : Bool) (at depth : ℕ) (ps : List Piece) → Stands tokens at (text.section_end ends (printed_forest f a) last depth ps) → EndRead at ends a last ps
+  pub end_read : (ends : Bool) (a : Forest) (last : Bool) (at depth : ℕ) (ps : List Piece) →
+      Stands tokens at (text.section_end ends (printed_forest f a) last depth ps) → EndRead at ends a last ps
   end_read true a last at depth ps b =
-      let m = keyword_here ts f ctx tokens words at (codes "break") ((punctuator (codes ";") ⨾ newline) ps) (past_indentation tokens at ((word (codes "break") ⨾ punctuator (codes ";") ⨾ newline) ps) depth b) in
+      let m = keyword_here ts f ctx tokens words at (codes "break") ((punctuator (codes ";") ⨾ newline) ps)
+      (past_indentation tokens at ((word (codes "break") ⨾ punctuator (codes ";") ⨾ newline) ps) depth b) in
       record { behind_it = a_mark ts f ctx tokens words (at + 1) (codes ";") (newline ps) (m.1); keywords = λ xs h. (m.0, h) }
   end_read false a last at depth ps b =
       let u = null_read (has_last a last) at depth ps (subst (λ y. Stands tokens at ((only_if y (null_line depth)) ps)) (has_last_same a last) b) in
@@ -162,11 +173,13 @@ module _ (ts : List Top) (f : Function) (ctx : Context) (tokens : List Spelling)
   end_begins false Nil NoSection xs k h = record { stated = tt; named = λ y. tt }
   end_begins false Nil (Section cases default a ends c) xs k h = absurd k
   end_begins false (Then (t.Note bytes) a) c xs k h =
-      subst (λ b. Begins (optional_item b null_statement xs)) (sym (ap (λ b. (is_last c && false) || b) (notes_end bytes a h) ∙ or_true (is_last c && false))) (record { stated = tt; named = λ y. tt })
+      subst (λ b. Begins (optional_item b null_statement xs))
+      (sym (ap (λ b. (is_last c && false) || b) (notes_end bytes a h) ∙ or_true (is_last c && false))) (record { stated = tt; named = λ y. tt })
   end_begins false (Then (t.Evaluate e) a) c xs k h = cc
   end_begins false (Then _ a) c xs k h = cc
 
-  pub section_begins : (a : Forest) (ends : Bool) (c : Sections) (xs : g.Items) → IsKept a ends c → Begins (optional_item (starts_with_local a) null_statement (items_of f.slots a (section_end ends a (is_last c) xs)))
+  pub section_begins : (a : Forest) (ends : Bool) (c : Sections) (xs : g.Items) → IsKept a ends c →
+      Begins (optional_item (starts_with_local a) null_statement (items_of f.slots a (section_end ends a (is_last c) xs)))
   section_begins a ends c xs k = by_local (starts_with_local a) refl
     where
       by_local : (b : Bool) → starts_with_local a ≡ b → Begins (optional_item b null_statement (items_of f.slots a (section_end ends a (is_last c) xs)))

@@ -40,7 +40,10 @@ module _ (ts : List Top) (free : (m : List ℕ) → is_known m ≡ true → the_
   n = record { tops = ts; slots = [] }
 
   abbrev library : resolved.Scope
-  library = (codes "getchar", AFunction) ∷ (codes "putchar", AFunction) ∷ (codes "printf", AFunction) ∷ (codes "exit", AFunction) ∷ (codes "abort", AFunction) ∷ []
+  library = (codes "getchar", AFunction) ∷ (codes "putchar", AFunction) ∷ (codes "printf", AFunction) ∷ (codes "exit", AFunction) ∷ (
+    codes "abort",
+    AFunction,
+  ) ∷ []
 
   abbrev Same : List ℕ → Type 0
   Same m = IsSame n m (resolved.found m library) (found m known_scope)
@@ -60,13 +63,16 @@ module _ (ts : List Top) (free : (m : List ℕ) → is_known m ≡ true → the_
       (λ f. by_bool (bytes_eq m (codes "putchar")) (at_name m (codes "putchar") (called (codes "putchar") refl, refl))
       (λ p. in_none m a e g f p)))))
     where
-      in_none : (m : List ℕ) → bytes_eq m (codes "abort") ≡ false → bytes_eq m (codes "exit") ≡ false → bytes_eq m (codes "getchar") ≡ false → bytes_eq m (codes "printf") ≡ false → bytes_eq m (codes "putchar") ≡ false → Same m
+      in_none : (m : List ℕ) → bytes_eq m (codes "abort") ≡ false → bytes_eq m (codes "exit") ≡ false → bytes_eq m (codes "getchar") ≡ false →
+          bytes_eq m (codes "printf") ≡ false → bytes_eq m (codes "putchar") ≡ false → Same m
       in_none m a e g f p =
           let some = Some AFunction in
           let here : resolved.found m library ≡ None = λ i. cond (g i) some (cond (p i) some (cond (f i) some (cond (e i) some (cond (a i) some None)))) in
           let bound = function_of in
           let there : found m known_scope ≡ None =
-          λ i. cond (a i) (bound (known (codes "abort"))) (cond (e i) (bound (known (codes "exit"))) (cond (g i) (bound (known (codes "getchar"))) (cond (f i) (bound (known (codes "printf"))) (cond (p i) (bound (known (codes "putchar"))) None)))) in
+          λ i. cond (a i) (bound (known (codes "abort"))) (cond (e i) (bound (known (codes "exit")))
+          (cond (g i) (bound (known (codes "getchar"))) (cond (f i) (bound (known (codes "printf")))
+          (cond (p i) (bound (known (codes "putchar"))) None)))) in
           subst (λ o. IsSame n m o (found m known_scope)) (sym here) there
 
   pub start_same : AreSameScopes n at_start start.scopes
@@ -76,7 +82,8 @@ pub at_the_start : (ts : List Top) → TopsAreBound at_start ts → AreSameScope
 at_the_start ts b = start_same ts (λ m h. nothing m h)
   where
     nothing : (m : List ℕ) → is_known m ≡ true → the_function m ts ≡ None
-    nothing m h = ap (λ o. option_or o (first_function (λ f. true) m ts)) (none_named (λ f. is_some f.body) m h ts at_start b) ∙ none_named (λ f. true) m h ts at_start b
+    nothing m h = ap (λ o. option_or o (first_function (λ f. true) m ts)) (none_named (λ f. is_some f.body) m h ts at_start b) ∙
+        none_named (λ f. true) m h ts at_start b
 
 -- ---- the names of file scope are the same in each function
 

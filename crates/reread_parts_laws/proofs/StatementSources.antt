@@ -34,16 +34,20 @@ abbrev item_of : ℕ → ℕ → Content → s.Item
 item_of first after c = elim c as (λ _. s.Item) [ OfItem x ↦ x | OfLocal d ↦ s.Declares first after d | _ ↦ s.States [] (s.From first after s.Unread) ]
 
 -- a `for` behind its bracket, by its parts
-for_third : (ps third : List Part) (last : Part) (start : s.Start) (t u : Option Term) (b : s.Body) → optional_at ps 0 ≡ t → behind_optional ps ≡ third → optional_at third 0 ≡ u → behind_optional third ≡ last ∷ [] → body_in last ≡ b
-    → cond (nat_le 1 (length (behind_optional (behind_optional ps)))) (s.For start (optional_at ps 0) (optional_at (behind_optional ps) 0) (body_at (behind_optional (behind_optional ps)) 0)) s.Unread ≡ s.For start t u b
+for_third : (ps third : List Part) (last : Part) (start : s.Start) (t u : Option Term) (b : s.Body) → optional_at ps 0 ≡ t →
+    behind_optional ps ≡ third → optional_at third 0 ≡ u → behind_optional third ≡ last ∷ [] → body_in last ≡ b
+    → cond (nat_le 1 (length (behind_optional (behind_optional ps))))
+    (s.For start (optional_at ps 0) (optional_at (behind_optional ps) 0) (body_at (behind_optional (behind_optional ps)) 0)) s.Unread ≡ s.For start t u b
 for_third ps third last start t u b o e p f g =
     (λ i. cond (nat_le 1 (length (behind_optional (e i)))) (s.For start (o i) (optional_at (e i) 0) (body_at (behind_optional (e i)) 0)) s.Unread)
     ∙ (λ i. cond (nat_le 1 (length (f i))) (s.For start t (p i) (body_at (f i) 0)) s.Unread) ∙ ap (s.For start t u) g
 
-for_steps : (ps second third : List Part) (last : Part) (start : s.Start) (t u : Option Term) (b : s.Body) → start_of ps ≡ start → behind_start ps ≡ second → optional_at second 0 ≡ t → behind_optional second ≡ third
+for_steps : (ps second third : List Part) (last : Part) (start : s.Start) (t u : Option Term) (b : s.Body) → start_of ps ≡ start →
+    behind_start ps ≡ second → optional_at second 0 ≡ t → behind_optional second ≡ third
     → optional_at third 0 ≡ u → behind_optional third ≡ last ∷ [] → body_in last ≡ b → for_of ps ≡ s.For start t u b
 for_steps ps second third last start t u b h k o e p f g =
-    (λ i. let r = k i in cond (nat_le 1 (length (behind_optional (behind_optional r)))) (s.For (h i) (optional_at r 0) (optional_at (behind_optional r) 0) (body_at (behind_optional (behind_optional r)) 0)) s.Unread)
+    (λ i. let r = k i in cond (nat_le 1 (length (behind_optional (behind_optional r))))
+    (s.For (h i) (optional_at r 0) (optional_at (behind_optional r) 0) (body_at (behind_optional (behind_optional r)) 0)) s.Unread)
     ∙ for_third second third last start t u b o e p f g
 
 module _ (word : ℕ → List ℕ) where
@@ -53,24 +57,31 @@ module _ (word : ℕ → List ℕ) where
   not_there n ps = λ i. cond (is_token (token_rule word n i)) None (Some (term_in (token word n)))
 
   is_there : (n : ℕ) (e : Expression) (ps : List Part) → optional_at (q word (expression_node n e) ∷ ps) 0 ≡ Some (expression_term n e)
-  is_there n e ps = (λ i. cond (is_token ((expression_writes word n e).ruled i)) None (Some (term_in (q word (expression_node n e))))) ∙ ap Some (expression_term_is word n e)
+  is_there n e ps = (λ i. cond (is_token ((expression_writes word n e).ruled i)) None (Some (term_in (q word (expression_node n e))))) ∙
+      ap Some (expression_term_is word n e)
 
-  optional_is : (n : ℕ) (o : Option Expression) (x : ℕ) (rest : List Syntax) → optional_at (map (q word) (optional_parts n o ++ leaf x ∷ rest)) 0 ≡ optional_term n o
+  optional_is : (n : ℕ) (o : Option Expression) (x : ℕ) (rest : List Syntax) →
+      optional_at (map (q word) (optional_parts n o ++ leaf x ∷ rest)) 0 ≡ optional_term n o
   optional_is n None x rest = not_there x (map (q word) rest)
   optional_is n (Some e) x rest = is_there n e (map (q word) (leaf x ∷ rest))
 
-  behind_optional_is : (n : ℕ) (o : Option Expression) (x : ℕ) (rest : List Syntax) → behind_optional (map (q word) (optional_parts n o ++ leaf x ∷ rest)) ≡ map (q word) rest
+  behind_optional_is : (n : ℕ) (o : Option Expression) (x : ℕ) (rest : List Syntax) →
+      behind_optional (map (q word) (optional_parts n o ++ leaf x ∷ rest)) ≡ map (q word) rest
   behind_optional_is n None x rest = λ i. drop (cond (is_token (token_rule word x i)) 1 2) (map (q word) (leaf x ∷ rest))
-  behind_optional_is n (Some e) x rest = λ i. drop (cond (is_token ((expression_writes word n e).ruled i)) 1 2) (map (q word) (expression_node n e ∷ leaf x ∷ rest))
+  behind_optional_is n (Some e) x rest = λ i. drop (cond (is_token ((expression_writes word n e).ruled i)) 1 2)
+      (map (q word) (expression_node n e ∷ leaf x ∷ rest))
 
   start_is : (n : ℕ) (f : ForStart) (rest : List Syntax) → start_of (map (q word) (for_start_parts n f ++ rest)) ≡ written_start n f
   start_is n (StartLocal x) rest =
       let k = local_known word n x in
-      (λ i. cond (is_local (k.ruled i)) (s.StartNames (declaration_in (k.holds i))) (cond (is_token (q word (local_node n x)).rule) s.NoStart (s.StartValue (term_in (q word (local_node n x))))))
-  start_is n (StartValue None) rest = λ i. cond (is_local (token_rule word n i)) (s.StartNames (declaration_in (token word n).content)) (cond (is_token (token_rule word n i)) s.NoStart (s.StartValue (term_in (token word n))))
+      (λ i. cond (is_local (k.ruled i)) (s.StartNames (declaration_in (k.holds i)))
+      (cond (is_token (q word (local_node n x)).rule) s.NoStart (s.StartValue (term_in (q word (local_node n x))))))
+  start_is n (StartValue None) rest = λ i. cond (is_local (token_rule word n i)) (s.StartNames (declaration_in (token word n).content))
+      (cond (is_token (token_rule word n i)) s.NoStart (s.StartValue (term_in (token word n))))
   start_is n (StartValue (Some e)) rest =
       let r = (expression_writes word n e).ruled in
-      (λ i. cond (is_local (r i)) (s.StartNames (declaration_in (q word (expression_node n e)).content)) (cond (is_token (r i)) s.NoStart (s.StartValue (expression_term_is word n e i))))
+      (λ i. cond (is_local (r i)) (s.StartNames (declaration_in (q word (expression_node n e)).content))
+      (cond (is_token (r i)) s.NoStart (s.StartValue (expression_term_is word n e i))))
 
   behind_start_is : (n : ℕ) (f : ForStart) (rest : List Syntax) → behind_start (map (q word) (for_start_parts n f ++ rest)) ≡ map (q word) rest
   behind_start_is n (StartLocal x) rest =
@@ -91,11 +102,15 @@ module _ (word : ℕ → List ℕ) where
   body_is : (n : ℕ) (t : Statement) → Stated n t → body_in (q word (statement_node n t)) ≡ written_body n t
   body_is n t k = λ i. list_of_item (k.begins i) (k.ends i) (item_of (k.begins i) (k.ends i) (k.holds i))
 
-  keyword_is : (n : ℕ) (class : Class) (ps : List Part) → keyword_class (word n) ≡ class → plain_statement word (token word n ∷ ps) ≡ keyword_statement class (token word n ∷ ps)
+  keyword_is : (n : ℕ) (class : Class) (ps : List Part) → keyword_class (word n) ≡ class →
+      plain_statement word (token word n ∷ ps) ≡ keyword_statement class (token word n ∷ ps)
   keyword_is n class ps e =
-      (λ i. cond (is_token (token_rule word n i)) (keyword_statement ((ap (λ k. keyword_class (word k)) (token_first word n) ∙ e) i) (token word n ∷ ps)) (other_statement (token word n)))
+      (λ i. cond (is_token (token_rule word n i)) (keyword_statement ((ap (λ k. keyword_class (word k)) (token_first word n) ∙ e) i)
+      (token word n ∷ ps)) (other_statement (token word n)))
 
-  for_is : (n : ℕ) (f : ForStart) (t u : Option Expression) (b : Statement) → let x = for_start_end n f in let y = optional_end x t in let z = optional_end (y + 1) u in Stated (z + 1) b
+  for_is : (n : ℕ) (f : ForStart) (t u : Option Expression) (b : Statement) → let x = for_start_end n f in let y = optional_end x t in let z =
+      optional_end
+      (y + 1) u in Stated (z + 1) b
       → for_of (map (q word) (for_start_parts n f ++ optional_parts x t ++ leaf y ∷ optional_parts (y + 1) u ++ leaf z ∷ statement_node (z + 1) b ∷ []))
       ≡ s.For (written_start n f) (optional_term x t) (optional_term (y + 1) u) (written_body (z + 1) b)
   for_is n f t u b k =
@@ -106,10 +121,13 @@ module _ (word : ℕ → List ℕ) where
       let third = optional_parts (y + 1) u ++ leaf z ∷ last in
       let second = optional_parts x t ++ leaf y ∷ third in
       let front = for_start_parts n f in
-      let e = append_assoc (front ++ optional_parts x t) (leaf y ∷ optional_parts (y + 1) u) (leaf z ∷ last) ∙ append_assoc front (optional_parts x t) (leaf y ∷ third) in
+      let e = append_assoc (front ++ optional_parts x t) (leaf y ∷ optional_parts (y + 1) u) (leaf z ∷ last) ∙
+      append_assoc front (optional_parts x t) (leaf y ∷ third) in
       ap (λ l. for_of (map (q word) l)) e
-      ∙ for_steps (map (q word) (for_start_parts n f ++ second)) (map (q word) second) (map (q word) third) (q word (statement_node (z + 1) b)) (written_start n f) (optional_term x t) (optional_term (y + 1) u) (written_body (z + 1) b)
-      (start_is n f second) (behind_start_is n f second) (optional_is x t y third) (behind_optional_is x t y third) (optional_is (y + 1) u z last) (behind_optional_is (y + 1) u z last) (body_is (z + 1) b k)
+      ∙ for_steps (map (q word) (for_start_parts n f ++ second)) (map (q word) second) (map (q word) third) (q word (statement_node (z + 1) b))
+      (written_start n f) (optional_term x t) (optional_term (y + 1) u) (written_body (z + 1) b)
+      (start_is n f second) (behind_start_is n f second) (optional_is x t y third) (behind_optional_is x t y third) (optional_is (y + 1) u z last)
+      (behind_optional_is (y + 1) u z last) (body_is (z + 1) b k)
 
   -- ---- labels
 
@@ -131,7 +149,8 @@ module _ (word : ℕ → List ℕ) where
     plain : statement_in (at (map (q word) (statement_parts n t)) (length (map (q word) (statement_parts n t)) - 1)) ≡ behind_labels n t
 
   stated : (n : ℕ) (t : Statement) → Parted n t → Stated n t
-  stated n t r = known word p.Statement n (statement_end n t) (statement_parts n t) (OfItem (written_statement n t)) (λ i. OfItem (s.States (r.labels i) (r.plain i)))
+  stated n t r = known word p.Statement n (statement_end n t) (statement_parts n t) (OfItem (written_statement n t))
+      (λ i. OfItem (s.States (r.labels i) (r.plain i)))
 
   one_label : (n : ℕ) (x : Label) (t : Statement) → LabelHasKeyword word n x → Parted (label_end n x) t → Parted n (Labelled x t)
   one_label n x t h r =
@@ -170,7 +189,8 @@ module _ (word : ℕ → List ℕ) where
   no_item n z = λ i. cond (is_token (token_rule word z i)) s.NoItem (s.Then (item_in (token word z)) s.NoItem)
 
   -- a block by its list
-  pub block_known : (n : ℕ) (xs : Items) → Listed (n + 1) xs → Known word (block_node n (Braces xs)) p.Block n (items_end (n + 1) xs + 1) (OfBlock (written_items (n + 1) xs))
+  pub block_known : (n : ℕ) (xs : Items) → Listed (n + 1) xs → Known word (block_node n (Braces xs)) p.Block n (items_end (n + 1) xs + 1)
+      (OfBlock (written_items (n + 1) xs))
   block_known n xs h =
       let x = items_end (n + 1) xs in
       let ps = map (q word) (items_parts (n + 1) xs ++ leaf x ∷ []) in
@@ -178,16 +198,22 @@ module _ (word : ℕ → List ℕ) where
       (ap OfBlock ((λ i. cond (is_token (token_rule word n i)) (items_in ps) (s.Then (item_in (token word n)) (items_in ps))) ∙ h x))
 
   abbrev block_of : ℕ → ℕ → Content → s.Statement
-  block_of first after c = elim c as (λ _. s.Statement) [ OfBlock xs ↦ s.Block (s.Braces first after xs) | OfTerm form ↦ s.Evaluate (At first form) | _ ↦ s.Unread ]
+  block_of first after c = elim c as (λ _. s.Statement) [
+    | OfBlock xs ↦ s.Block (s.Braces first after xs)
+    | OfTerm form ↦ s.Evaluate (At first form)
+    | _ ↦ s.Unread
+  ]
 
   -- an expression and `;`
   simple_writes : (n : ℕ) (e : Expression) → plain_statement word (map (q word) (plain_parts n (Simple (Some e)))) ≡ s.Evaluate (expression_term n e)
   simple_writes n e =
       let k = known word p.Expression n (expression_end n e) (expression_parts n e) (OfTerm (expression_form n e)) (ap OfTerm (parts_write word n e)) in
       let x = q word (expression_node n e) in
-      (λ i. cond (is_token (k.ruled i)) (keyword_statement (keyword_class (word x.first)) (x ∷ token word (expression_end n e) ∷ [])) (block_of (k.begins i) (k.ends i) (k.holds i)))
+      (λ i. cond (is_token (k.ruled i)) (keyword_statement (keyword_class (word x.first)) (x ∷ token word (expression_end n e) ∷ []))
+      (block_of (k.begins i) (k.ends i) (k.holds i)))
 
-  for_writes : (n : ℕ) {start : s.Statement} (rest : List Part) → for_of rest ≡ start → cond (nat_le 2 (length (token word n ∷ token word (n + 1) ∷ rest))) (for_of (drop 2 (token word n ∷ token word (n + 1) ∷ rest))) s.Unread ≡ start
+  for_writes : (n : ℕ) {start : s.Statement} (rest : List Part) → for_of rest ≡ start →
+      cond (nat_le 2 (length (token word n ∷ token word (n + 1) ∷ rest))) (for_of (drop 2 (token word n ∷ token word (n + 1) ∷ rest))) s.Unread ≡ start
   for_writes n {start} rest e = ap (λ b. cond b (for_of rest) s.Unread) (le-leb 2 (suc (suc (length rest))) (omega arith)) ∙ e
 
   mutual
@@ -203,7 +229,8 @@ module _ (word : ℕ → List ℕ) where
     plain_writes : (n : ℕ) (x : Plain) → PlainHasKeywords word n x → plain_statement word (map (q word) (plain_parts n x)) ≡ written_plain n x
     plain_writes n (Compound (Braces xs)) h =
         let k = block_known n xs (items_write (n + 1) xs h) in
-        (λ i. cond (is_token (k.ruled i)) (keyword_statement (keyword_class (word (q word (block_node n (Braces xs))).first)) (q word (block_node n (Braces xs)) ∷ [])) (block_of (k.begins i) (k.ends i) (k.holds i)))
+        (λ i. cond (is_token (k.ruled i)) (keyword_statement (keyword_class (word (q word (block_node n (Braces xs))).first))
+        (q word (block_node n (Braces xs)) ∷ [])) (block_of (k.begins i) (k.ends i) (k.holds i)))
     plain_writes n (Simple None) h = keyword_is n c.Foreign [] h
     plain_writes n (Simple (Some e)) h = simple_writes n e
     plain_writes n (If e t) h =
@@ -228,7 +255,8 @@ module _ (word : ℕ → List ℕ) where
         let x = for_start_end (n + 1 + 1) f in
         let y = optional_end x t in
         let z = optional_end (y + 1) u in
-        let ps = map (q word) (for_start_parts (n + 1 + 1) f ++ optional_parts x t ++ leaf y ∷ optional_parts (y + 1) u ++ leaf z ∷ statement_node (z + 1) b ∷ []) in
+        let ps = map (q word) (for_start_parts (n + 1 + 1) f ++ optional_parts x t ++ leaf y ∷ optional_parts (y + 1) u ++
+        leaf z ∷ statement_node (z + 1) b ∷ []) in
         keyword_is n c.For (token word (n + 1) ∷ ps) (h.0) ∙ for_writes n ps (for_is (n + 1 + 1) f t u b (stated (z + 1) b (statement_parted (z + 1) b (h.1))))
     plain_writes n (Switch e t) h =
         let x = expression_end (n + 1 + 1) e in
@@ -243,7 +271,8 @@ module _ (word : ℕ → List ℕ) where
   statement_known n t h = stated n t (statement_parted n t h)
 
   -- a block as the body of a function
-  pub block_writes : (n : ℕ) (xs : Items) → ItemsHaveKeywords word (n + 1) xs → block_in (q word (block_node n (Braces xs))) ≡ Some (s.Braces n (items_end (n + 1) xs + 1) (written_items (n + 1) xs))
+  pub block_writes : (n : ℕ) (xs : Items) → ItemsHaveKeywords word (n + 1) xs →
+      block_in (q word (block_node n (Braces xs))) ≡ Some (s.Braces n (items_end (n + 1) xs + 1) (written_items (n + 1) xs))
   block_writes n xs h =
       let k = block_known n xs (items_write (n + 1) xs h) in
       (λ i. elim (k.holds i) as (λ _. Option s.Body) [ OfBlock ys ↦ Some (s.Braces (k.begins i) (k.ends i) ys) | _ ↦ None ])

@@ -35,20 +35,24 @@ reread_laws = record {
   expressions = λ n ss env tokens h e at ps g s.
       let x = expression_tree e in
       let d = derivation_of x in
-      reads_whole n ss env tokens h _ at _ _ ps e (term_is env.word (expression_node at d) p.Expression at (expression_form at d) (expression_writes env.word at d))
+      reads_whole n ss env tokens h _ at _ _ ps e (term_is env.word (expression_node at d) p.Expression at (expression_form at d)
+      (expression_writes env.word at d))
       (open_full n ss env tokens h at ps x g (stands_tree n ss env tokens h 1 at ps e s));
   assignments = λ n ss env tokens h e at ps g s.
       let x = expression_tree e in
       let d = assignment_of x in
-      reads_whole n ss env tokens h _ at _ _ ps e (term_is env.word (assignment_node at d) p.Assignment at (assignment_form at d) (assignment_writes env.word at d))
+      reads_whole n ss env tokens h _ at _ _ ps e (term_is env.word (assignment_node at d) p.Assignment at (assignment_form at d)
+      (assignment_writes env.word at d))
       (assigned_full n ss env tokens h at ps x g (stands_tree n ss env tokens h 2 at ps e s));
   conditionals = λ n ss env tokens h e at ps g s.
       let x = expression_tree e in
       let d = conditional_of x in
-      reads_whole n ss env tokens h _ at _ _ ps e (term_is env.word (conditional_node at d) p.Conditional at (conditional_form at d) (conditional_writes env.word at d))
+      reads_whole n ss env tokens h _ at _ _ ps e (term_is env.word (conditional_node at d) p.Conditional at (conditional_form at d)
+      (conditional_writes env.word at d))
       (chosen_full n ss env tokens h at ps x g (stands_tree n ss env tokens h 3 at ps e s));
   bodies = λ ts f ctx tokens ss k w at depth xs ps words h g p b. body_reads ts f ctx tokens words ss k w at depth xs ps h g p b;
-  resolved_bodies = λ counts ts f word notes x tokens ss w at depth body ps h words r st p b. resolved_reads counts ts f word notes x tokens ss w at depth body ps h words r st p b;
+  resolved_bodies = λ counts ts f word notes x tokens ss w at depth body ps h words r st p b.
+      resolved_reads counts ts f word notes x tokens ss w at depth body ps h words r st p b;
   function = λ word at x h. (function_known word at x h).holds;
   functions = λ counts ts f word notes tokens ss scopes at ps h words same q b. function_reads counts ts f word notes tokens ss scopes at h words same ps q b;
   files = file_writes;

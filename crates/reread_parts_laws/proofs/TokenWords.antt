@@ -10,7 +10,8 @@ use Rattle.print_laws.specs.Reread.{Spelling, read_at}
 use Rattle.reread_parts_laws.specs.Words.{AreWords}
 
 module _ (text : List ℕ) where
-  one_word : (tokens : List Token) (at : ℕ) (s : Spelling) → Each (IsTokenOf text) tokens → slice_get (map (read_at text) tokens) at ≡ Some s → bytes_of text (slice_get tokens at) ≡ s.bytes
+  one_word : (tokens : List Token) (at : ℕ) (s : Spelling) → Each (IsTokenOf text) tokens → slice_get (map (read_at text) tokens) at ≡ Some s →
+      bytes_of text (slice_get tokens at) ≡ s.bytes
   one_word [] zero s k e = cc
   one_word [] (suc at) s k e = cc
   one_word (t ∷ tokens) zero s k e =
@@ -20,5 +21,6 @@ module _ (text : List ℕ) where
       (λ i. cond (le-leb t.start t.end a i && le-leb t.end (length text) b i) (slice_range text t.start t.end) []) ∙ ap (λ (r : Spelling). r.bytes) f
   one_word (t ∷ tokens) (suc at) s k e = one_word tokens at s (k.1) e
 
-  pub words_of : (tokens : List Token) (found : List Spelling) → Each (IsTokenOf text) tokens → map (read_at text) tokens ≡ found → AreWords (word_of text tokens) found
+  pub words_of : (tokens : List Token) (found : List Spelling) → Each (IsTokenOf text) tokens → map (read_at text) tokens ≡ found →
+      AreWords (word_of text tokens) found
   words_of tokens found k h at s e = one_word tokens at s k (ap (λ l. slice_get l at) h ∙ e)

@@ -78,14 +78,16 @@ module _ (n : Names) (f : Function) (ctx : Context) where
   abbrev pub AreFurther : List Scope → ℕ → Slot → Forest → Type 0
   AreFurther ss k s Nil = Unit {0}
   AreFurther ss k s (Then (t.Local j given) xs) =
-      (j ≡ k) × IsSomeAnd (slice_get n.slots k) (λ r. IsVariable n ss k r given × (r.kind ≡ s.kind) × (r.constant ≡ s.constant) × AreFurther (with_slot k r ss) (suc k) s xs)
+      (j ≡ k) × IsSomeAnd (slice_get n.slots k) (λ r. IsVariable n ss k r given × (r.kind ≡ s.kind) × (r.constant ≡ s.constant) ×
+      AreFurther (with_slot k r ss) (suc k) s xs)
   AreFurther ss k s _ = ⊥
 
   -- the first part of a `for`
   abbrev pub IsStart : List Scope → ℕ → Forest → Type 0
   IsStart ss k Nil = Unit {0}
   IsStart ss k (Then (t.Evaluate e) Nil) = IsExpressionOf n ss e
-  IsStart ss k (Then (t.Local j given) xs) = (j ≡ k) × IsSomeAnd (slice_get n.slots k) (λ s. IsVariable n ss k s given × AreFurther (with_slot k s ss) (suc k) s xs)
+  IsStart ss k (Then (t.Local j given) xs) = (j ≡ k) × IsSomeAnd (slice_get n.slots k)
+      (λ s. IsVariable n ss k s given × AreFurther (with_slot k s ss) (suc k) s xs)
   IsStart ss k _ = ⊥
 
   -- a label of the function, by its number

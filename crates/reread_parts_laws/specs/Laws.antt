@@ -90,20 +90,25 @@ pub record ReadsAs (env : Env) (tokens : List Spelling) (term : Term) (end : ℕ
 -- the printed text of an expression, where the grammar needs a level, and the syntax and the end of its derivation there
 abbrev pub ReadsBackAt : ℕ → (ℕ → ExpressionTree → Syntax) → (ℕ → ExpressionTree → ℕ) → Type 0
 ReadsBackAt need syntax end =
-    (n : Names) (ss : List Scope) (env : Env) (tokens : List Spelling) → IsPlace n ss env tokens → (e : Expression) (at : ℕ) (ps : List Piece) → IsExpressionOf n ss (expression_tree e)
-    → Stands tokens at (expression_text n.slots e need ps) → ReadsAs env tokens (term_of env.word (syntax at (expression_tree e))) (end at (expression_tree e)) ps e
+    (n : Names) (ss : List Scope) (env : Env) (tokens : List Spelling) → IsPlace n ss env tokens → (e : Expression) (at : ℕ) (ps : List Piece) →
+    IsExpressionOf n ss (expression_tree e)
+    → Stands tokens at (expression_text n.slots e need ps) → ReadsAs env tokens (term_of env.word (syntax at (expression_tree e)))
+    (end at (expression_tree e)) ps e
 
 -- ---- bodies
 
 -- the printed list of a body, from its brace on, reads back as the items, without a violation
-pub record BodyReads (ts : List Top) (f : Function) (ctx : Context) (tokens : List Spelling) (ss : List Scope) (k : ℕ) (w : Walk) (at : ℕ) (xs : List Item) (ps : List Piece) : Type 0 where
+pub record BodyReads (ts : List Top) (f : Function) (ctx : Context) (tokens : List Spelling) (ss : List Scope) (k : ℕ) (w : Walk) (at : ℕ)
+    (xs : List Item) (ps : List Piece) : Type 0 where
   pub keywords : ItemsHaveKeywords ctx.word (at + 1) (items_of f.slots (trees_of xs) NoItems)
   pub items : body_items ctx (written_block at (items_of f.slots (trees_of xs) NoItems)) w ≡ xs
-  pub standing : Standing (names_in ts f) (behind_all f.slots ss (trees_of xs)) (k + slots_in (trees_of xs)) (behind_body ctx (written_block at (items_of f.slots (trees_of xs) NoItems)) w)
+  pub standing : Standing (names_in ts f) (behind_all f.slots ss (trees_of xs)) (k + slots_in (trees_of xs))
+      (behind_body ctx (written_block at (items_of f.slots (trees_of xs) NoItems)) w)
   pub clear : (vs : Faults) → body_faults ctx (written_block at (items_of f.slots (trees_of xs) NoItems)) w vs ≡ vs
   pub behind : Stands tokens (block_end at (Braces (items_of f.slots (trees_of xs) NoItems))) ps
   -- its labels are those of its Marks, in text order
-  pub labels : map ctx.word (body_labels (written_block at (items_of f.slots (trees_of xs) NoItems)) []) ≡ map (label_name f) (gathered marked_label (trees_of xs))
+  pub labels : map ctx.word (body_labels (written_block at (items_of f.slots (trees_of xs) NoItems)) []) ≡ map (label_name f)
+      (gathered marked_label (trees_of xs))
 
 -- ---- bodies of resolved functions
 
@@ -116,7 +121,8 @@ pub record IsBody (counts : FlatCounts) (ts : List Top) (f : Function) (ss : Lis
   pub bound : AreBound f.slots ss (trees_of body)
 
 -- it reads back, with the labels of the function, none of them twice
-pub record ResolvedBodyReads (ts : List Top) (f : Function) (word : ℕ → List ℕ) (notes : Anchor → List (List ℕ)) (x : tops.Function) (tokens : List Spelling) (ss : List Scope) (w : Walk) (at : ℕ) (body : List Item) (ps : List Piece) : Type 0 where
+pub record ResolvedBodyReads (ts : List Top) (f : Function) (word : ℕ → List ℕ) (notes : Anchor → List (List ℕ)) (x : tops.Function)
+    (tokens : List Spelling) (ss : List Scope) (w : Walk) (at : ℕ) (body : List Item) (ps : List Piece) : Type 0 where
   pub reads : BodyReads ts f (context word notes x (written_block at (items_of f.slots (trees_of body) NoItems))) tokens ss f.params w at body ps
   pub names : distinct (map word (body_labels (written_block at (items_of f.slots (trees_of body) NoItems)) [])) ≡ f.labels
   pub once : (vs : Faults) → twice_faults word (body_labels (written_block at (items_of f.slots (trees_of body) NoItems)) []) vs ≡ vs
@@ -150,13 +156,16 @@ abbrev pub wants_in : Bool → List Slot → List Want
 wants_in external xs = map (λ (s : Slot). cond (is_some s.cells) (want.Array s.kind s.constant external) (want.Number s.kind s.constant)) xs
 
 -- it reads back, and has no violation but that it may be too tangled
-pub record FunctionReads (f : Function) (word : ℕ → List ℕ) (notes : Anchor → List (List ℕ)) (tokens : List Spelling) (scopes : List kinds.Scope) (at : ℕ) (ps : List Piece) : Type 0 where
+pub record FunctionReads (f : Function) (word : ℕ → List ℕ) (notes : Anchor → List (List ℕ)) (tokens : List Spelling) (scopes : List kinds.Scope)
+    (at : ℕ) (ps : List Piece) : Type 0 where
   pub keywords : FunctionHasKeywords word at (derivation.function_of f)
   pub function : function_of word notes (written_function word at (derivation.function_of f)) scopes ≡ f
   pub name : word (written_function word at (derivation.function_of f)).name ≡ f.name
   pub result : result_kind word (written_function word at (derivation.function_of f)) ≡ f.result
-  pub wants : (external : Bool) → map (want_of word external) (written_function word at (derivation.function_of f)).parameters ≡ wants_in external (take f.params f.slots)
-  pub clear : (flat : List Item → Option (ℕ × ℕ)) (vs : Faults) → function_faults flat word notes (written_function word at (derivation.function_of f)) scopes vs
+  pub wants : (external : Bool) → map (want_of word external) (written_function word at (derivation.function_of f)).parameters ≡ wants_in external
+      (take f.params f.slots)
+  pub clear : (flat : List Item → Option (ℕ × ℕ)) (vs : Faults) → function_faults flat word notes
+      (written_function word at (derivation.function_of f)) scopes vs
       ≡ measured flat word (written_function word at (derivation.function_of f)) (written_function word at (derivation.function_of f)).body f.body vs
   pub behind : Stands tokens (function_end at (derivation.function_of f)) ps
 
@@ -171,7 +180,8 @@ pub record IsFileVariable (ts : List Top) (g : GlobalVariable) (ss : List Scope)
   pub formed : IsNotMain g.slot.name
 
 -- it reads back, without a violation, and its name is bound behind it
-pub record GlobalReads (ts : List Top) (g : GlobalVariable) (ss : List Scope) (env : Env) (tokens : List Spelling) (at : ℕ) (d : Declaration) (ps : List Piece) : Type 0 where
+pub record GlobalReads (ts : List Top) (g : GlobalVariable) (ss : List Scope) (env : Env) (tokens : List Spelling) (at : ℕ) (d : Declaration)
+    (ps : List Piece) : Type 0 where
   pub tops : globals g.file_only (kinded env.word d) d.names env ≡ T.Global g ∷ []
   pub clear : (vs : Faults) → globals_faults (kinded env.word d) d.names env vs ≡ vs
   pub same : AreSameScopes (record { tops = ts; slots = [] }) (behind_top ss (T.Global g)) (behind_globals (kinded env.word d) d.names env).scopes
@@ -187,7 +197,8 @@ pub record IsEnum (ts : List Top) (xs : List EnumItem) (ss : List Scope) : Type 
   pub formed : AreNotMain xs
 
 -- it reads back, without a violation, and its constants are bound behind it
-pub record EnumReads (ts : List Top) (xs : List EnumItem) (ss : List Scope) (env : Env) (tokens : List Spelling) (es : List Enumerator) (end : ℕ) (ps : List Piece) : Type 0 where
+pub record EnumReads (ts : List Top) (xs : List EnumItem) (ss : List Scope) (env : Env) (tokens : List Spelling) (es : List Enumerator) (end : ℕ)
+    (ps : List Piece) : Type 0 where
   pub items : enum_items es (Some (negsuc 0)) env ≡ xs
   pub clear : (vs : Faults) → enum_faults es (Some (negsuc 0)) env vs ≡ vs
   pub same : AreSameScopes (record { tops = ts; slots = [] }) (bind_constants xs ss) (behind_enum es (Some (negsuc 0)) env).scopes
@@ -241,7 +252,8 @@ pub record IsFileFunction (counts : FlatCounts) (ts : List Top) (file : File) (f
   pub declared : IsSomeAnd (the_function f.name ts) (λ g. IsDeclared ts f g file.bodies before ss)
   pub function : IsFunction counts ts f (behind_top ss (T.Function f))
   pub notes : NotesOfFunction f file.notes (body_at at f) f.body
-  pub untangled : (vs : Faults) → measured file.flat file.word (written_function file.word at (derivation.function_of f)) (written_function file.word at (derivation.function_of f)).body f.body vs ≡ vs
+  pub untangled : (vs : Faults) → measured file.flat file.word (written_function file.word at (derivation.function_of f))
+      (written_function file.word at (derivation.function_of f)).body f.body vs ≡ vs
 
 abbrev pub bodies_behind : Function → List (List ℕ) → List (List ℕ)
 bodies_behind f before = cond (is_some f.body) (with_function f.name before) before
@@ -250,14 +262,18 @@ bodies_behind f before = cond (is_some f.body) (with_function f.name before) bef
 abbrev pub AreTops : FlatCounts → List Top → File → List Scope → List (List ℕ) → ℕ → List (List ℕ) → List Top → Type 0
 AreTops counts ts file ss before at noted [] = file.notes Last ≡ noted
 AreTops counts ts file ss before at noted (T.Note bytes ∷ xs) = IsComment bytes × AreTops counts ts file ss before at (noted ++ bytes ∷ []) xs
-AreTops counts ts file ss before at noted (T.Include bytes ∷ xs) = IsDirective bytes × (file.notes (Before at) ≡ noted) × AreTops counts ts file ss before (at + 1) [] xs
+AreTops counts ts file ss before at noted (T.Include bytes ∷ xs) = IsDirective bytes × (file.notes (Before at) ≡ noted) × AreTops counts ts file ss
+    before (at + 1) [] xs
 AreTops counts ts file ss before at noted (T.Enum [] ∷ xs) = ⊥
 AreTops counts ts file ss before at noted (T.Enum (x ∷ es) ∷ xs) =
-    IsEnum ts (x ∷ es) ss × (file.notes (Before at) ≡ noted) × AreTops counts ts file (bind_constants (x ∷ es) ss) before (enumeration_end at (enumeration_of x es)) [] xs
+    IsEnum ts (x ∷ es) ss × (file.notes (Before at) ≡ noted) × AreTops counts ts file (bind_constants (x ∷ es) ss) before
+    (enumeration_end at (enumeration_of x es)) [] xs
 AreTops counts ts file ss before at noted (T.Global g ∷ xs) =
-    IsFileVariable ts g ss × (file.notes (Before at) ≡ noted) × AreTops counts ts file (behind_top ss (T.Global g)) before (declaration_end at (global_of g)) [] xs
+    IsFileVariable ts g ss × (file.notes (Before at) ≡ noted) × AreTops counts ts file (behind_top ss (T.Global g)) before
+    (declaration_end at (global_of g)) [] xs
 AreTops counts ts file ss before at noted (T.Function f ∷ xs) =
-    IsFileFunction counts ts file f ss before at × (file.notes (Before at) ≡ noted) × AreTops counts ts file (behind_top ss (T.Function f)) (bodies_behind f before) (function_end at (derivation.function_of f)) [] xs
+    IsFileFunction counts ts file f ss before at × (file.notes (Before at) ≡ noted) ×
+    AreTops counts ts file (behind_top ss (T.Function f)) (bodies_behind f before) (function_end at (derivation.function_of f)) [] xs
 
 -- the printed text of them reads back as they are, without a violation
 pub record FileReads (file : File) (s : State) (at : ℕ) (noted : List (List ℕ)) (xs : List Top) : Type 0 where
@@ -282,43 +298,62 @@ pub record RereadLaws : Type 0 where
   pub conditional : (word : ℕ → List ℕ) (at : ℕ) (d : Conditional) → term_of word (conditional_node at d) ≡ At at (conditional_form at d)
   pub declaration : (word : ℕ → List ℕ) (at : ℕ) (x : Local) → declaration_in (part_of word (local_node at x)).content ≡ written_declaration at x
   -- a block's, where the words are keywords as its derivation has them
-  pub block : (word : ℕ → List ℕ) (at : ℕ) (xs : Items) → ItemsHaveKeywords word (at + 1) xs → block_in (part_of word (block_node at (Braces xs))) ≡ Some (written_block at xs)
+  pub block : (word : ℕ → List ℕ) (at : ℕ) (xs : Items) → ItemsHaveKeywords word (at + 1) xs →
+      block_in (part_of word (block_node at (Braces xs))) ≡ Some (written_block at xs)
   -- the printed text of an expression reads back as the expression: by itself, where an assignment is needed, and where a constant is
   pub expressions : ReadsBackAt 1 (λ at x. expression_node at (derivation_of x)) (λ at x. expression_end at (derivation_of x))
   pub assignments : ReadsBackAt 2 (λ at x. assignment_node at (assignment_of x)) (λ at x. assignment_end at (assignment_of x))
   pub conditionals : ReadsBackAt 3 (λ at x. conditional_node at (conditional_of x)) (λ at x. conditional_end at (conditional_of x))
   -- and that of a body as the body, where the comments stand where its Notes are printed
-  pub bodies : (ts : List Top) (f : Function) (ctx : Context) (tokens : List Spelling) (ss : List Scope) (k : ℕ) (w : Walk) (at depth : ℕ) (xs : List Item) (ps : List Piece) → AreWords ctx.word tokens → Standing (names_in ts f) ss k w
-      → AreGood (names_in ts f) f ctx ss k no_construct (trees_of xs) → NotesOfBody f.slots ctx.notes at (trees_of xs) → Stands tokens at (braced (map (printed f) xs) depth ps) → BodyReads ts f ctx tokens ss k w at xs ps
+  pub bodies : (ts : List Top) (f : Function) (ctx : Context) (tokens : List Spelling) (ss : List Scope) (k : ℕ) (w : Walk) (at depth : ℕ)
+      (xs : List Item) (ps : List Piece) → AreWords ctx.word tokens → Standing (names_in ts f) ss k w
+      → AreGood (names_in ts f) f ctx ss k no_construct (trees_of xs) → NotesOfBody f.slots ctx.notes at (trees_of xs) →
+      Stands tokens at (braced (map (printed f) xs) depth ps) → BodyReads ts f ctx tokens ss k w at xs ps
   -- so that the body of a resolved function reads back, whatever function has its result
-  pub resolved_bodies : (counts : FlatCounts) (ts : List Top) (f : Function) (word : ℕ → List ℕ) (notes : Anchor → List (List ℕ)) (x : tops.Function) (tokens : List Spelling) (ss : List Scope) (w : Walk) (at depth : ℕ) (body : List Item) (ps : List Piece)
-      → IsBody counts ts f ss body → AreWords word tokens → result_kind word x ≡ f.result → Standing (names_in ts f) ss f.params w → NotesOfBody f.slots notes at (trees_of body) → Stands tokens at (braced (map (printed f) body) depth ps)
+  pub resolved_bodies : (counts : FlatCounts) (ts : List Top) (f : Function) (word : ℕ → List ℕ) (notes : Anchor → List (List ℕ)) (x : tops.Function)
+      (tokens : List Spelling) (ss : List Scope) (w : Walk) (at depth : ℕ) (body : List Item) (ps : List Piece)
+      → IsBody counts ts f ss body → AreWords word tokens → result_kind word x ≡ f.result → Standing (names_in ts f) ss f.params w →
+      NotesOfBody f.slots notes at (trees_of body) → Stands tokens at (braced (map (printed f) body) depth ps)
       → ResolvedBodyReads ts f word notes x tokens ss w at body ps
   -- what the syntax of a function writes, and the printed text of a function reads back as the function
-  pub function : (word : ℕ → List ℕ) (at : ℕ) (x : files.Function) → FunctionHasKeywords word at x → (part_of word (function_node at x)).content ≡ OfTop (tops.Defines (written_function word at x))
-  pub functions : (counts : FlatCounts) (ts : List Top) (f : Function) (word : ℕ → List ℕ) (notes : Anchor → List (List ℕ)) (tokens : List Spelling) (ss : List Scope) (scopes : List kinds.Scope) (at : ℕ) (ps : List Piece)
-      → IsFunction counts ts f ss → AreWords word tokens → AreSameScopes (names_in ts f) ss scopes → NotesOfFunction f notes (body_at at f) f.body → Stands tokens at (function_text f ps) → FunctionReads f word notes tokens scopes at ps
+  pub function : (word : ℕ → List ℕ) (at : ℕ) (x : files.Function) → FunctionHasKeywords word at x →
+      (part_of word (function_node at x)).content ≡ OfTop (tops.Defines (written_function word at x))
+  pub functions : (counts : FlatCounts) (ts : List Top) (f : Function) (word : ℕ → List ℕ) (notes : Anchor → List (List ℕ)) (tokens : List Spelling)
+      (ss : List Scope) (scopes : List kinds.Scope) (at : ℕ) (ps : List Piece)
+      → IsFunction counts ts f ss → AreWords word tokens → AreSameScopes (names_in ts f) ss scopes → NotesOfFunction f notes (body_at at f) f.body →
+      Stands tokens at (function_text f ps) → FunctionReads f word notes tokens scopes at ps
   -- what the syntax of a file writes
   pub files : (word : ℕ → List ℕ) (xs : List files.Top) → FileHasKeywords word 0 xs → file_of word (file_node xs) ≡ written_tops word 0 xs
   -- the printed text of a variable of file scope reads back as the variable
-  pub variables : (ts : List Top) (g : GlobalVariable) (ss : List Scope) (env : Env) (tokens : List Spelling) (at : ℕ) (ps : List Piece) → AreWords env.word tokens → IsInScope ss → AreSameScopes (record { tops = ts; slots = [] }) ss env.scopes
-      → IsFileVariable ts g ss → Stands tokens at (global_text g ps) → GlobalReads ts g ss env tokens at (written_declaration (word_end at g.file_only) (declaration_of g.slot (option_map expression_trees g.init) [])) ps
+  pub variables : (ts : List Top) (g : GlobalVariable) (ss : List Scope) (env : Env) (tokens : List Spelling) (at : ℕ) (ps : List Piece) →
+      AreWords env.word tokens → IsInScope ss → AreSameScopes (record { tops = ts; slots = [] }) ss env.scopes
+      → IsFileVariable ts g ss → Stands tokens at (global_text g ps) →
+      GlobalReads ts g ss env tokens at (written_declaration (word_end at g.file_only) (declaration_of g.slot (option_map expression_trees g.init) [])) ps
   -- and that of an enum as the enum
-  pub enums : (ts : List Top) (x : EnumItem) (xs : List EnumItem) (ss : List Scope) (env : Env) (tokens : List Spelling) (at : ℕ) (ps : List Piece) → AreWords env.word tokens → IsInScope ss → AreSameScopes (record { tops = ts; slots = [] }) ss env.scopes
-      → IsEnum ts (x ∷ xs) ss → Stands tokens at (enum_text (x ∷ xs) ps) → EnumReads ts (x ∷ xs) ss env tokens (written_enumeration at (enumeration_of x xs)) (enumeration_end at (enumeration_of x xs)) (newline ps)
+  pub enums : (ts : List Top) (x : EnumItem) (xs : List EnumItem) (ss : List Scope) (env : Env) (tokens : List Spelling) (at : ℕ) (ps : List Piece) →
+      AreWords env.word tokens → IsInScope ss → AreSameScopes (record { tops = ts; slots = [] }) ss env.scopes
+      → IsEnum ts (x ∷ xs) ss → Stands tokens at (enum_text (x ∷ xs) ps) →
+      EnumReads ts (x ∷ xs) ss env tokens (written_enumeration at (enumeration_of x xs)) (enumeration_end at (enumeration_of x xs)) (newline ps)
   -- the scopes at the start of a file are the same, and names of the file are the same in each function
   pub starts : (ts : List Top) → NamesAreBound ts → AreSameScopes (record { tops = ts; slots = [] }) at_start start.scopes
-  pub inward : (ts : List Top) (f : Function) (ss : List Scope) (scopes : List kinds.Scope) → AreOfFile ss → AreSameScopes (record { tops = ts; slots = [] }) ss scopes → AreSameScopes (names_in ts f) ss scopes
+  pub inward : (ts : List Top) (f : Function) (ss : List Scope) (scopes : List kinds.Scope) → AreOfFile ss →
+      AreSameScopes (record { tops = ts; slots = [] }) ss scopes → AreSameScopes (names_in ts f) ss scopes
   -- the name of a function is bound as in the program
-  pub names : (ts : List Top) (f g : Function) (bodies before : List (List ℕ)) (x : tops.Function) (env : Env) (ss : List Scope) → IsWrittenAs env.word x f → IsDeclared ts f g bodies before ss → IsInScope ss
+  pub names : (ts : List Top) (f g : Function) (bodies before : List (List ℕ)) (x : tops.Function) (env : Env) (ss : List Scope) →
+      IsWrittenAs env.word x f → IsDeclared ts f g bodies before ss → IsInScope ss
       → AreSameScopes (record { tops = ts; slots = [] }) ss env.scopes → NameReads ts f bodies before x env ss
   -- and what stands in a file reads back, where the comments stand where they are printed
-  pub whole_files : (counts : FlatCounts) (ts : List Top) (file : File) (tokens : List Spelling) (xs : List Top) (ss : List Scope) (s : State) (at : ℕ) (noted : List (List ℕ)) → AreWords file.word tokens → IsInScope ss → AreOfFile ss
-      → AreSameScopes (record { tops = ts; slots = [] }) ss s.scopes → AreTops counts ts file ss s.bodies at noted xs → Stands tokens at (joined (map top_text xs) []) → FileReads file s at noted xs
+  pub whole_files : (counts : FlatCounts) (ts : List Top) (file : File) (tokens : List Spelling) (xs : List Top) (ss : List Scope) (s : State)
+      (at : ℕ) (noted : List (List ℕ)) → AreWords file.word tokens → IsInScope ss → AreOfFile ss
+      → AreSameScopes (record { tops = ts; slots = [] }) ss s.scopes → AreTops counts ts file ss s.bodies at noted xs →
+      Stands tokens at (joined (map top_text xs) []) → FileReads file s at noted xs
   -- so that the syntax of the printed text of a program gives the program
-  pub programs : (counts : FlatCounts) (p : Program) (flat : List Item → Option (ℕ × ℕ)) (text : List ℕ) (tokens : List Token) (comments : List Span) → AreWords (word_of text tokens) (spellings (printed_pieces p)) → NamesAreBound p.tops
-      → AreTops counts p.tops (file_at flat text tokens comments (written_tops (word_of text tokens) 0 (derivation.file_of p))) at_start [] 0 [] p.tops → resolved flat text tokens comments (derivation.syntax_of p) ≡ Ok p
+  pub programs : (counts : FlatCounts) (p : Program) (flat : List Item → Option (ℕ × ℕ)) (text : List ℕ) (tokens : List Token)
+      (comments : List Span) → AreWords (word_of text tokens) (spellings (printed_pieces p)) → NamesAreBound p.tops
+      → AreTops counts p.tops (file_at flat text tokens comments (written_tops (word_of text tokens) 0 (derivation.file_of p))) at_start [] 0 []
+      p.tops → resolved flat text tokens comments (derivation.syntax_of p) ≡ Ok p
   -- whose words are those of its tokens
-  pub words : (text : List ℕ) (tokens : List Token) (found : List Spelling) → Each (IsTokenOf text) tokens → map (read_at text) tokens ≡ found → AreWords (word_of text tokens) found
+  pub words : (text : List ℕ) (tokens : List Token) (found : List Spelling) → Each (IsTokenOf text) tokens → map (read_at text) tokens ≡ found →
+      AreWords (word_of text tokens) found
   -- where each name of a program is bound, that of a variable stands for that variable
   pub found_variables : (ts : List Top) → NamesAreBound ts → Each (IsFound ts) ts

@@ -86,11 +86,13 @@ module _ (slots : List Slot) (notes : Anchor → List (List ℕ)) where
   abbrev mutual
     -- in the lists of an item that begins at a token
     pub NotesWithin : ℕ → Tree → Type 0
-    NotesWithin at (t.If c a b) = let x = expression_end (at + 1 + 1) (test_of c) + 1 in WithEnd (NotesOfList [] (x + 1) a) x a × NotesOfElse (list_block slots x a + 1) b
+    NotesWithin at (t.If c a b) = let x = expression_end (at + 1 + 1) (test_of c) + 1 in
+        WithEnd (NotesOfList [] (x + 1) a) x a × NotesOfElse (list_block slots x a + 1) b
     NotesWithin at (t.While c a) = let x = expression_end (at + 1 + 1) (test_of c) + 1 in WithEnd (NotesOfList [] (x + 1) a) x a
     NotesWithin at (t.Do a c) = WithEnd (NotesOfList [] (at + 1 + 1) a) (at + 1) a
     NotesWithin at (t.For first c u a) =
-        let x = optional_end (optional_end (for_start_end (at + 1 + 1) (start_of slots first)) (option_map derivation_of c) + 1) (option_map derivation_of u) + 1 in WithEnd (NotesOfList [] (x + 1) a) x a
+        let x = optional_end (optional_end (for_start_end (at + 1 + 1) (start_of slots first)) (option_map derivation_of c) + 1)
+        (option_map derivation_of u) + 1 in WithEnd (NotesOfList [] (x + 1) a) x a
     NotesWithin at (t.Block a) = WithEnd (NotesOfList [] (at + 1) a) at a
     -- none stands in front of the `;` behind a label
     NotesWithin at (t.Mark l) = notes (Before (at + 1 + 1)) ≡ []
@@ -107,7 +109,8 @@ module _ (slots : List Slot) (notes : Anchor → List (List ℕ)) where
     NotesOfElse at Nil = Unit {0}
     NotesOfElse at (Then (t.If c a b) Nil) = (notes (Before at) ≡ []) × NotesWithin at (t.If c a b) × (notes (AtEnd at) ≡ [])
     NotesOfElse at (Then (t.Note bytes) xs) = WithEnd (NotesOfList (bytes ∷ []) (at + 1) xs) at (Then (t.Note bytes) xs)
-    NotesOfElse at (Then x xs) = WithEnd ((notes (Before (at + 1)) ≡ []) × NotesWithin (at + 1) x × NotesOfList [] (item_end slots (at + 1) x) xs) at (Then x xs)
+    NotesOfElse at (Then x xs) = WithEnd ((notes (Before (at + 1)) ≡ []) × NotesWithin (at + 1) x × NotesOfList [] (item_end slots (at + 1) x) xs) at
+        (Then x xs)
 
     -- none stands in front of the items of a section, but for those of its list
     pub NotesOfSections : ℕ → Sections → Type 0
@@ -115,7 +118,8 @@ module _ (slots : List Slot) (notes : Anchor → List (List ℕ)) where
     NotesOfSections at (Section cases default a ends c) =
         let y = section_labels_end at cases default in
         let z = section_list_end slots y a in
-        (notes (AtSection at) ≡ []) × WithNull (starts_with_local a) y × NotesOfList [] (optional_end_of (starts_with_local a) 1 y) a × NotesOfEnd z ends a (is_last c) × NotesOfSections (section_ends_at z ends a (is_last c)) c
+        (notes (AtSection at) ≡ []) × WithNull (starts_with_local a) y × NotesOfList [] (optional_end_of (starts_with_local a) 1 y) a ×
+        NotesOfEnd z ends a (is_last c) × NotesOfSections (section_ends_at z ends a (is_last c)) c
 
   -- in a list between braces, the first of which is this token
   abbrev pub NotesOfBody : ℕ → Forest → Type 0

@@ -83,12 +83,15 @@ abbrev mutual
   written_plain at (Compound (Braces xs)) = s.Block (s.Braces at (items_end (at + 1) xs + 1) (written_items (at + 1) xs))
   written_plain at (Simple None) = s.Null
   written_plain at (Simple (Some e)) = s.Evaluate (expression_term at e)
-  written_plain at (If e t) = let x = expression_end (at + 1 + 1) e + 1 in s.If (expression_term (at + 1 + 1) e) (list_of_item x (statement_end x t) (s.States (written_labels x t) (behind_labels x t)))
+  written_plain at (If e t) = let x = expression_end (at + 1 + 1) e + 1 in
+      s.If (expression_term (at + 1 + 1) e) (list_of_item x (statement_end x t) (s.States (written_labels x t) (behind_labels x t)))
   written_plain at (IfElse e t u) =
       let x = expression_end (at + 1 + 1) e + 1 in
       let y = statement_end x t + 1 in
-      s.IfElse (expression_term (at + 1 + 1) e) (list_of_item x (statement_end x t) (s.States (written_labels x t) (behind_labels x t))) (list_of_item y (statement_end y u) (s.States (written_labels y u) (behind_labels y u)))
-  written_plain at (While e t) = let x = expression_end (at + 1 + 1) e + 1 in s.While (expression_term (at + 1 + 1) e) (list_of_item x (statement_end x t) (s.States (written_labels x t) (behind_labels x t)))
+      s.IfElse (expression_term (at + 1 + 1) e) (list_of_item x (statement_end x t) (s.States (written_labels x t) (behind_labels x t)))
+      (list_of_item y (statement_end y u) (s.States (written_labels y u) (behind_labels y u)))
+  written_plain at (While e t) = let x = expression_end (at + 1 + 1) e + 1 in
+      s.While (expression_term (at + 1 + 1) e) (list_of_item x (statement_end x t) (s.States (written_labels x t) (behind_labels x t)))
   written_plain at (DoWhile t e) =
       let x = at + 1 in
       let y = statement_end x t + 1 + 1 in
@@ -97,8 +100,10 @@ abbrev mutual
       let x = for_start_end (at + 1 + 1) f in
       let y = optional_end x t + 1 in
       let z = optional_end y u + 1 in
-      s.For (written_start (at + 1 + 1) f) (optional_term x t) (optional_term y u) (list_of_item z (statement_end z b) (s.States (written_labels z b) (behind_labels z b)))
-  written_plain at (Switch e t) = let x = expression_end (at + 1 + 1) e + 1 in s.Switch (expression_term (at + 1 + 1) e) (list_of_item x (statement_end x t) (s.States (written_labels x t) (behind_labels x t)))
+      s.For (written_start (at + 1 + 1) f) (optional_term x t) (optional_term y u)
+      (list_of_item z (statement_end z b) (s.States (written_labels z b) (behind_labels z b)))
+  written_plain at (Switch e t) = let x = expression_end (at + 1 + 1) e + 1 in
+      s.Switch (expression_term (at + 1 + 1) e) (list_of_item x (statement_end x t) (s.States (written_labels x t) (behind_labels x t)))
   written_plain at Goto = s.Goto (at + 1)
   written_plain at Break = s.Break
   written_plain at Continue = s.Continue

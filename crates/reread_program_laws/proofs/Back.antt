@@ -76,12 +76,14 @@ module _ (counts : limits.FlatCounts) (flat : FlatCounts) (p : Program) (r : IsR
   pub words : AreWords word (spellings (printed_pieces p))
   words =
       let back = printed_reads_back p h in
-      reread_laws.words text tokens (spellings (printed_pieces p)) (each_inside text tokens (tokens_bound text (Ok (scanned_of (printed_pieces p))) (back.scanned))) (back.tokens)
+      reread_laws.words text tokens (spellings (printed_pieces p))
+      (each_inside text tokens (tokens_bound text (Ok (scanned_of (printed_pieces p))) (back.scanned))) (back.tokens)
 
   -- each function reads back by itself
   pub back : AllReadBack counts p.tops word (spellings (printed_pieces p)) words 0 p.tops
   back =
-      all_read counts p.tops word (spellings (printed_pieces p)) words p.tops at_start start.scopes 0 tt (tt, ((tt, (tt, (tt, (tt, (tt, tt))))), tt)) (reread_laws.starts p.tops r.bound) (program_given counts p r h)
+      all_read counts p.tops word (spellings (printed_pieces p)) words p.tops at_start start.scopes 0 tt (tt, ((tt, (tt, (tt, (tt, (tt, tt))))), tt))
+      (reread_laws.starts p.tops r.bound) (program_given counts p r h)
       (program_formed counts p.tops p.tops r.tops) (first_stands p)
 
   bodies : (m : List ℕ) → has_function file.bodies m ≡ is_some (first_function (λ f. is_some f.body) m p.tops)
@@ -89,12 +91,14 @@ module _ (counts : limits.FlatCounts) (flat : FlatCounts) (p : Program) (r : IsR
 
   pub tops_read : AreMeasured file 0 p.tops → AreTops counts p.tops file at_start [] 0 [] p.tops
   tops_read m =
-      tops_are counts p.tops file bodies p.tops at_start [] 0 [] (program_given counts p r h) r.declarations (first_single p.tops) (notes_stand p h (program_formed counts p.tops p.tops r.tops)) m
+      tops_are counts p.tops file bodies p.tops at_start [] 0 [] (program_given counts p r h) r.declarations (first_single p.tops)
+      (notes_stand p h (program_formed counts p.tops p.tops r.tops)) m
 
   -- the classes of its tokens are those of the derivation of the program
   spelled : classes_of text tokens ++ c.End ∷ [] ≡ file_tokens (file_of p) (c.End ∷ [])
   spelled =
-      ap (λ (l : List Class). l ++ c.End ∷ []) (classes_read text tokens ∙ ap (map class_of_spelling) ((printed_reads_back p h).tokens)) ∙ (program_reads p.tops h.tops).reads []
+      ap (λ (l : List Class). l ++ c.End ∷ []) (classes_read text tokens ∙ ap (map class_of_spelling) ((printed_reads_back p h).tokens)) ∙
+      (program_reads p.tops h.tops).reads []
 
   pub limits_kept : AreCounts flat counts → AreMeasured file 0 p.tops
   limits_kept e =
@@ -108,5 +112,6 @@ back_laws = record {
   tops = λ counts flat e p r t. let h = resolved_laws.printable counts p r t in tops_read counts flat p r h (limits_kept counts flat p r h e);
   programs = λ counts flat e p r t.
       let h = resolved_laws.printable counts p r t in
-      reread_laws.programs counts p flat (text_of p) (tokens_in p) (comments_in p) (words counts flat p r h) r.bound (tops_read counts flat p r h (limits_kept counts flat p r h e));
+      reread_laws.programs counts p flat (text_of p) (tokens_in p) (comments_in p) (words counts flat p r h) r.bound
+      (tops_read counts flat p r h (limits_kept counts flat p r h e));
 }

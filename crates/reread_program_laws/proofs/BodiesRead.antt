@@ -60,7 +60,8 @@ constants_of_file [] ss h = h
 constants_of_file (e ∷ es) ss h = constants_of_file es (bind e.name (AConstant e.value) ss) (bind_of_file e.name (AConstant e.value) ss tt h)
 
 -- behind a directive
-past_directive : (tokens : List Spelling) (bytes : List ℕ) (at : ℕ) (ps : List Piece) → IsDirective bytes → Stands tokens at (verbatim bytes (newline ps)) → Stands tokens (at + 1) ps
+past_directive : (tokens : List Spelling) (bytes : List ℕ) (at : ℕ) (ps : List Piece) → IsDirective bytes →
+    Stands tokens at (verbatim bytes (newline ps)) → Stands tokens (at + 1) ps
 past_directive tokens [] at ps h s = absurd h
 past_directive tokens (a ∷ []) at ps h s = absurd h
 past_directive tokens (a ∷ b ∷ w) at ps h s =
@@ -108,12 +109,22 @@ module _ (counts : FlatCounts) (ts : List Top) (word : ℕ → List ℕ) (tokens
     behind : Stands tokens (function_end at (function_of f)) ps
 
   -- wherever its Notes stand
-  function_stands : (f : Function) (ss : List Scope) (scopes : List kinds.Scope) (at : ℕ) (ps : List Piece) → IsInScope ss → AreOfFile ss → AreSameScopes n ss scopes → IsGiven counts ts f ss → AreFormed (T.Function f ∷ [])
+  function_stands : (f : Function) (ss : List Scope) (scopes : List kinds.Scope) (at : ℕ) (ps : List Piece) → IsInScope ss → AreOfFile ss →
+      AreSameScopes n ss scopes → IsGiven counts ts f ss → AreFormed (T.Function f ∷ [])
       → Stands tokens at (function_text f ps) → FunctionStands f ss at ps
   function_stands f ss scopes at ps there k h g form b =
       let q = (g.the).function in
       let d : IsDeclared ts f q (own f q) [] ss
-      = record { is = (g.the).is; defined = own_has f q; result = (g.the).alike.result; parameters = (g.the).alike.parameters; named = g.named; unknown = g.unknown; formed = g.formed; single = alone (is_some f.body) } in
+      = record {
+        is = (g.the).is;
+        defined = own_has f q;
+        result = (g.the).alike.result;
+        parameters = (g.the).alike.parameters;
+        named = g.named;
+        unknown = g.unknown;
+        formed = g.formed;
+        single = alone (is_some f.body);
+      } in
       let x = of at f in
       let behind = behind_top ss (T.Function f) in
       let first = bound_same ts f q word x (own f q) [] ss d scopes there h in
@@ -122,7 +133,8 @@ module _ (counts : FlatCounts) (ts : List Top) (word : ℕ → List ℕ) (tokens
       let z : end + length {A = Class} [] ≡ end = omega arith in
       let o = body_here word (λ t. form_place at (tops.Defines x) t) end f at [] (form.0) z (λ t u v. refl) in
       let notes : Anchor → List (List ℕ) = λ a. chosen a o.here in
-      let r = reread_laws.functions counts ts f word notes tokens behind inner at ps (g.function) words (reread_laws.inward ts f behind inner (bind_of_file f.name AFunction ss tt k) first) (o.holds notes (λ a i. refl)) b in
+      let r = reread_laws.functions counts ts f word notes tokens behind inner at ps (g.function) words
+      (reread_laws.inward ts f behind inner (bind_of_file f.name AFunction ss tt k) first) (o.holds notes (λ a i. refl)) b in
       record { scopes = inner; same = first; back = record { notes = notes; scopes = inner; name = r.name; function = r.function }; behind = r.behind }
     where
       alone : (b : Bool) → (b && false) ≡ false
@@ -136,20 +148,29 @@ module _ (counts : FlatCounts) (ts : List Top) (word : ℕ → List ℕ) (tokens
       by None y = refl
       by (Some xs) y = refl
 
-  pub all_read : (xs : List Top) (ss : List Scope) (scopes : List kinds.Scope) (at : ℕ) → IsInScope ss → AreOfFile ss → AreSameScopes n ss scopes → AreGiven counts ts ss xs → AreFormed xs → Stands tokens at (joined (map top_text xs) []) → AllReadBack at xs
+  pub all_read : (xs : List Top) (ss : List Scope) (scopes : List kinds.Scope) (at : ℕ) → IsInScope ss → AreOfFile ss → AreSameScopes n ss scopes →
+      AreGiven counts ts ss xs → AreFormed xs → Stands tokens at (joined (map top_text xs) []) → AllReadBack at xs
   all_read [] ss scopes at there k h g f b = tt
-  all_read (T.Note bytes ∷ xs) ss scopes at there k h g f b = all_read xs ss scopes at there k h g.1 f.1 (past_comment tokens at bytes (newline (joined (map top_text xs) [])) (g.0) b)
-  all_read (T.Include bytes ∷ xs) ss scopes at there k h g f b = all_read xs ss scopes (at + 1) there k h g.1 f.1 (past_directive tokens bytes at (joined (map top_text xs) []) (g.0) b)
+  all_read (T.Note bytes ∷ xs) ss scopes at there k h g f b = all_read xs ss scopes at there k h g.1 f.1
+      (past_comment tokens at bytes (newline (joined (map top_text xs) [])) (g.0) b)
+  all_read (T.Include bytes ∷ xs) ss scopes at there k h g f b = all_read xs ss scopes (at + 1) there k h g.1 f.1
+      (past_directive tokens bytes at (joined (map top_text xs) []) (g.0) b)
   all_read (T.Enum [] ∷ xs) ss scopes at there k h g f b = absurd g
   all_read (T.Enum (x ∷ es) ∷ xs) ss scopes at there k h g f b =
       let e = reread_laws.enums ts x es ss (record { word = word; scopes = scopes }) tokens at (joined (map top_text xs) []) words there h (g.0) b in
-      all_read xs (bind_constants (x ∷ es) ss) _ (enumeration_end at (enumeration_of x es)) (constants_inside (x ∷ es) ss there) (constants_of_file (x ∷ es) ss k) (e.same) g.1 f.1 (e.behind)
+      all_read xs (bind_constants (x ∷ es) ss) _ (enumeration_end at (enumeration_of x es)) (constants_inside (x ∷ es) ss there)
+      (constants_of_file (x ∷ es) ss k) (e.same) g.1 f.1 (e.behind)
   all_read (T.Global v ∷ xs) ss scopes at there k h g f b =
       let e = reread_laws.variables ts v ss (record { word = word; scopes = scopes }) tokens at (joined (map top_text xs) []) words there h (g.0) b in
-      all_read xs (behind_top ss (T.Global v)) _ (declaration_end at (global_of v)) (bind_inside v.slot.name (AVariable (H.Global v.slot.name)) ss there) (bind_of_file v.slot.name (AVariable (H.Global v.slot.name)) ss tt k) (e.same) g.1 f.1 (e.behind)
+      all_read xs (behind_top ss (T.Global v)) _ (declaration_end at (global_of v))
+      (bind_inside v.slot.name (AVariable (H.Global v.slot.name)) ss there) (bind_of_file v.slot.name (AVariable (H.Global v.slot.name)) ss tt k)
+      (e.same) g.1 f.1 (e.behind)
   all_read (T.Function v ∷ xs) ss scopes at there k h g f b =
-      let e = function_stands v ss scopes at (joined (map top_text xs) []) there k h (g.0) (f.0, tt) b in
-      (e.back, all_read xs (behind_top ss (T.Function v)) (e.scopes) (function_end at (function_of v)) (bind_inside v.name AFunction ss there) (bind_of_file v.name AFunction ss tt k) (e.same) g.1 f.1 (e.behind))
+      let e = function_stands v ss scopes at (joined (map top_text xs) []) there k h (g.0) (f.0, tt) b in (
+        e.back,
+        all_read xs (behind_top ss (T.Function v)) (e.scopes) (function_end at (function_of v)) (bind_inside v.name AFunction ss there)
+            (bind_of_file v.name AFunction ss tt k) (e.same) g.1 f.1 (e.behind),
+      )
 
   -- so the functions with a body are those of the program
   pub bodies_read : (xs : List Top) (at : ℕ) → AllReadBack at xs → bodies_of word (written_tops word at (tops_of xs)) ≡ named_bodies xs

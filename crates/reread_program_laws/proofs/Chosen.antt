@@ -43,7 +43,8 @@ pub chosen_both : (a : Anchor) (xs ys : List Placed) → chosen a (xs ++ ys) ≡
 chosen_both a [] ys = refl
 chosen_both a (x ∷ xs) ys = by (same_place x.0 a) (chosen_both a xs ys)
   where
-    by : (b : Bool) → chosen a (xs ++ ys) ≡ chosen a xs ++ chosen a ys → cond b (x.1 ∷ chosen a (xs ++ ys)) (chosen a (xs ++ ys)) ≡ cond b (x.1 ∷ chosen a xs) (chosen a xs) ++ chosen a ys
+    by : (b : Bool) → chosen a (xs ++ ys) ≡ chosen a xs ++ chosen a ys →
+        cond b (x.1 ∷ chosen a (xs ++ ys)) (chosen a (xs ++ ys)) ≡ cond b (x.1 ∷ chosen a xs) (chosen a xs) ++ chosen a ys
     by true e = ap (λ l. x.1 ∷ l) e
     by false e = e
 
@@ -125,7 +126,8 @@ module _ (last : ℕ) where
   Agrees notes lo hi es = (a : Anchor) → In lo hi a → notes a ≡ chosen a es
 
   -- so they do in a part, where the others are of no place in it
-  pub agrees_part : (notes : Anchor → List (List ℕ)) (lo hi l h : ℕ) (xs es ys : List Placed) → Agrees notes lo hi (xs ++ (es ++ ys)) → lo ≤ l → h ≤ hi → Outside l h xs → Outside l h ys → Agrees notes l h es
+  pub agrees_part : (notes : Anchor → List (List ℕ)) (lo hi l h : ℕ) (xs es ys : List Placed) → Agrees notes lo hi (xs ++ (es ++ ys)) → lo ≤ l →
+      h ≤ hi → Outside l h xs → Outside l h ys → Agrees notes l h es
   agrees_part notes lo hi l h xs es ys g x y o q a i =
       let u = i.0 in
       let v = i.1 in
@@ -133,11 +135,14 @@ module _ (last : ℕ) where
       ∙ chosen_both a xs (es ++ ys) ∙ ap (λ l. l ++ chosen a (es ++ ys)) (chosen_none l h a i xs o)
       ∙ chosen_both a es ys ∙ ap (λ l. chosen a es ++ l) (chosen_none l h a i ys q) ∙ append-nil (chosen a es)
 
-  pub agrees_last : (notes : Anchor → List (List ℕ)) (lo hi l h : ℕ) (xs es : List Placed) → Agrees notes lo hi (xs ++ es) → lo ≤ l → h ≤ hi → Outside l h xs → Agrees notes l h es
-  agrees_last notes lo hi l h xs es g x y o = agrees_part notes lo hi l h xs es [] (subst (Agrees notes lo hi) (ap (λ l. xs ++ l) (sym (append-nil es))) g) x y o tt
+  pub agrees_last : (notes : Anchor → List (List ℕ)) (lo hi l h : ℕ) (xs es : List Placed) → Agrees notes lo hi (xs ++ es) → lo ≤ l → h ≤ hi →
+      Outside l h xs → Agrees notes l h es
+  agrees_last notes lo hi l h xs es g x y o = agrees_part notes lo hi l h xs es []
+      (subst (Agrees notes lo hi) (ap (λ l. xs ++ l) (sym (append-nil es))) g) x y o tt
 
   -- those at one place
-  pub agrees_at : (notes : Anchor → List (List ℕ)) (lo hi : ℕ) (xs : List Placed) (a : Anchor) (bs : List (List ℕ)) (ys : List Placed) → Agrees notes lo hi (xs ++ (all_at a bs ++ ys)) → In lo hi a
+  pub agrees_at : (notes : Anchor → List (List ℕ)) (lo hi : ℕ) (xs : List Placed) (a : Anchor) (bs : List (List ℕ)) (ys : List Placed) →
+      Agrees notes lo hi (xs ++ (all_at a bs ++ ys)) → In lo hi a
       → Outside (key last a) (key last a + 1) xs → Outside (key last a) (key last a + 1) ys → notes a ≡ bs
   agrees_at notes lo hi xs a bs ys g i o q =
       let u = i.0 in
@@ -145,7 +150,8 @@ module _ (last : ℕ) where
       agrees_part notes lo hi (key last a) (key last a + 1) xs (all_at a bs) ys g u (omega (arith, v)) o q a (omega arith, omega arith) ∙ chosen_all a bs
 
   -- none at this place
-  pub agrees_none : (notes : Anchor → List (List ℕ)) (lo hi : ℕ) (a : Anchor) (es : List Placed) → Agrees notes lo hi es → In lo hi a → Outside (key last a) (key last a + 1) es → notes a ≡ []
+  pub agrees_none : (notes : Anchor → List (List ℕ)) (lo hi : ℕ) (a : Anchor) (es : List Placed) → Agrees notes lo hi es → In lo hi a →
+      Outside (key last a) (key last a + 1) es → notes a ≡ []
   agrees_none notes lo hi a es g i o = g a i ∙ chosen_none (key last a) (key last a + 1) a (omega arith, omega arith) es o
 
   -- ---- comments by the tokens behind them, and what holds of their places
@@ -158,7 +164,8 @@ module _ (last : ℕ) where
       pub ranged : Ranged lo hi here
       pub holds : (notes : Anchor → List (List ℕ)) → Agrees notes lo hi here → Fact notes
 
-    pub told_wider : (lo hi l h : ℕ) (tell : Comments → Comments) (P : (Anchor → List (List ℕ)) → Type 0) → l ≤ lo → hi ≤ h → Told lo hi tell P → Told l h tell P
+    pub told_wider : (lo hi l h : ℕ) (tell : Comments → Comments) (P : (Anchor → List (List ℕ)) → Type 0) → l ≤ lo → hi ≤ h → Told lo hi tell P →
+        Told l h tell P
     told_wider lo hi l h tell P x y t =
         record {
           here = t.here;
@@ -167,20 +174,24 @@ module _ (last : ℕ) where
           holds = λ notes g. t.holds notes (λ a i. let u = i.0 in let v = i.1 in g a (omega (arith, x, u), omega (arith, y, v)));
         }
 
-    pub told_as : (lo hi : ℕ) (tell : Comments → Comments) (P Q : (Anchor → List (List ℕ)) → Type 0) → ((notes : Anchor → List (List ℕ)) → P notes → Q notes) → Told lo hi tell P → Told lo hi tell Q
+    pub told_as : (lo hi : ℕ) (tell : Comments → Comments) (P Q : (Anchor → List (List ℕ)) → Type 0) →
+        ((notes : Anchor → List (List ℕ)) → P notes → Q notes) → Told lo hi tell P → Told lo hi tell Q
     told_as lo hi tell P Q f t = record { here = t.here; tells = t.tells; ranged = t.ranged; holds = λ notes g. f notes (t.holds notes g) }
 
     -- a fact that needs no comment
-    pub told_none : (lo hi : ℕ) (P : (Anchor → List (List ℕ)) → Type 0) → ((notes : Anchor → List (List ℕ)) → Agrees notes lo hi [] → P notes) → Told lo hi (λ n. n) P
+    pub told_none : (lo hi : ℕ) (P : (Anchor → List (List ℕ)) → Type 0) → ((notes : Anchor → List (List ℕ)) → Agrees notes lo hi [] → P notes) →
+        Told lo hi (λ n. n) P
     told_none lo hi P f = record { here = []; tells = λ n. refl; ranged = tt; holds = f }
 
     -- one after another
-    pub told_both : (lo mid hi : ℕ) (f g : Comments → Comments) (P Q : (Anchor → List (List ℕ)) → Type 0) → lo ≤ mid → mid ≤ hi → Told lo mid f P → Told mid hi g Q → Told lo hi (λ n. f (g n)) (λ notes. P notes × Q notes)
+    pub told_both : (lo mid hi : ℕ) (f g : Comments → Comments) (P Q : (Anchor → List (List ℕ)) → Type 0) → lo ≤ mid → mid ≤ hi → Told lo mid f P →
+        Told mid hi g Q → Told lo hi (λ n. f (g n)) (λ notes. P notes × Q notes)
     told_both lo mid hi f g P Q x y t u =
         record {
           here = t.here ++ u.here;
           tells = λ n. t.tells (g n) ∙ ap (λ l. t.here ++ l) (u.tells n) ∙ sym (append_assoc t.here u.here (found n));
-          ranged = ranged_both lo hi t.here u.here (ranged_wider lo mid lo hi (omega arith) y t.here t.ranged) (ranged_wider mid hi lo hi x (omega arith) u.here u.ranged);
+          ranged = ranged_both lo hi t.here u.here (ranged_wider lo mid lo hi (omega arith) y t.here t.ranged)
+              (ranged_wider mid hi lo hi x (omega arith) u.here u.ranged);
           holds = λ notes k. (
             t.holds notes (agrees_part notes lo hi lo mid [] t.here u.here k (omega arith) y tt (outside_before mid hi lo mid (omega arith) u.here u.ranged)),
             u.holds notes (agrees_last notes lo hi mid hi t.here u.here k x (omega arith) (outside_behind lo mid mid hi (omega arith) t.here t.ranged)),

@@ -49,7 +49,8 @@ token_from (l.Directive w) at place h = (h, tt)
 
 all_from : (ps : List Piece) (at place : ℕ) → place ≤ at → AllFrom place (all_of token_of ps at)
 all_from [] at place h = tt
-all_from (p ∷ ps) at place h = both (λ t. place ≤ t.start) (token_of p at) (all_of token_of ps (behind p at)) (token_from p at place h) (all_from ps (behind p at) place (omega (arith, h)))
+all_from (p ∷ ps) at place h = both (λ t. place ≤ t.start) (token_of p at) (all_of token_of ps (behind p at)) (token_from p at place h)
+    (all_from ps (behind p at) place (omega (arith, h)))
 
 token_before : (p : Piece) (at : ℕ) → at < behind p at → AllBefore (behind p at) (token_of p at)
 token_before (l.Space b) at h = tt
@@ -68,7 +69,8 @@ none_next (t ∷ ts) place h = ap (λ b. cond b (suc (next_token ts place)) 0) (
 
 all_behind : (ts : List Token) (place : ℕ) → AllFrom place ts → tokens_behind place ts ≡ ts
 all_behind [] place h = refl
-all_behind (t ∷ ts) place h = ap (λ b. cond b (t ∷ tokens_behind place ts) (tokens_behind place ts)) (le-leb place t.start (h.0)) ∙ ap (λ l. t ∷ l) (all_behind ts place h.1)
+all_behind (t ∷ ts) place h = ap (λ b. cond b (t ∷ tokens_behind place ts) (tokens_behind place ts)) (le-leb place t.start (h.0)) ∙
+    ap (λ l. t ∷ l) (all_behind ts place h.1)
 
 front_next : (ts us : List Token) (place : ℕ) → AllBefore place ts → next_token (ts ++ us) place ≡ length ts + next_token us place
 front_next [] us place h = omega arith
@@ -77,13 +79,15 @@ front_next (t ∷ ts) us place h =
 
 front_behind : (ts us : List Token) (place : ℕ) → AllBefore place ts → tokens_behind place (ts ++ us) ≡ tokens_behind place us
 front_behind [] us place h = refl
-front_behind (t ∷ ts) us place h = ap (λ b. cond b (t ∷ tokens_behind place (ts ++ us)) (tokens_behind place (ts ++ us))) (lt-leb place t.start (h.0)) ∙ front_behind ts us place h.1
+front_behind (t ∷ ts) us place h = ap (λ b. cond b (t ∷ tokens_behind place (ts ++ us)) (tokens_behind place (ts ++ us)))
+    (lt-leb place t.start (h.0)) ∙ front_behind ts us place h.1
 
 -- the tokens in front of a comment and those behind it are all
 abbrev pub IsNumbered : List Token → Span → Type 0
 IsNumbered ts s = next_token ts s.start + length (tokens_behind s.end ts) ≡ length ts
 
-split : (front rest : List Token) (start end : ℕ) → AllBefore start front → start ≤ end → AllFrom end rest → IsNumbered (front ++ rest) (record { start = start; end = end })
+split : (front rest : List Token) (start end : ℕ) → AllBefore start front → start ≤ end → AllFrom end rest →
+    IsNumbered (front ++ rest) (record { start = start; end = end })
 split front rest start end b h f =
     let later : AllFrom start rest = from_before rest f in
     let x = front_next front rest start b in
@@ -99,13 +103,18 @@ split front rest start end b h f =
 bare_short : (w : List ℕ) → length (bare w) ≤ length w
 bare_short w = let f = bare_front w in let e = ap length f.1 in let a = length-append (bare w) f.0 in omega (arith, e, a)
 
-comment_here : (p : Piece) (ps : List Piece) (front : List Token) (at : ℕ) → AllBefore at front → Each (IsNumbered (front ++ (token_of p at ++ all_of token_of ps (behind p at)))) (comment_of p at)
+comment_here : (p : Piece) (ps : List Piece) (front : List Token) (at : ℕ) → AllBefore at front →
+    Each (IsNumbered (front ++ (token_of p at ++ all_of token_of ps (behind p at)))) (comment_of p at)
 comment_here (l.Line w) ps front at b =
     let end = at + 1 + 1 + length (bare w) in
     let s = bare_short w in
     let n = length-append w [] in
     (split front (all_of token_of ps (behind (l.Line w) at)) at end b (omega arith) (all_from ps (behind (l.Line w) at) end (omega (arith, s, n))), tt)
-comment_here (l.Block w) ps front at b = (split front (all_of token_of ps (behind (l.Block w) at)) at (behind (l.Block w) at) b (omega arith) (all_from ps (behind (l.Block w) at) (behind (l.Block w) at) (omega arith)), tt)
+comment_here (l.Block w) ps front at b = (
+  split front (all_of token_of ps (behind (l.Block w) at)) at (behind (l.Block w) at) b (omega arith)
+      (all_from ps (behind (l.Block w) at) (behind (l.Block w) at) (omega arith)),
+  tt,
+)
 comment_here (l.Space d) ps front at b = tt
 comment_here (l.Word w) ps front at b = tt
 comment_here (l.Number w) ps front at b = tt
@@ -118,7 +127,8 @@ spans_both : (P : Span → Type 0) (xs ys : List Span) → Each P xs → Each P 
 spans_both P [] ys h k = k
 spans_both P (x ∷ xs) ys h k = (h.0, spans_both P xs ys h.1 k)
 
-numbered : (ps : List Piece) (first : Bool) (front : List Token) (at : ℕ) → Good first ps [] → AllBefore at front → Each (IsNumbered (front ++ all_of token_of ps at)) (all_of comment_of ps at)
+numbered : (ps : List Piece) (first : Bool) (front : List Token) (at : ℕ) → Good first ps [] → AllBefore at front →
+    Each (IsNumbered (front ++ all_of token_of ps at)) (all_of comment_of ps at)
 numbered [] first front at g b = tt
 numbered (p ∷ ps) first front at g b =
     let rest = all_of token_of ps (behind p at) in
@@ -126,7 +136,8 @@ numbered (p ∷ ps) first front at g b =
     let more : at < behind p at = omega (arith, byte) in
     let before = both (λ t. t.start < behind p at) front (token_of p at) (before_later at (behind p at) front (omega arith) b) (token_before p at more) in
     spans_both (IsNumbered (front ++ (token_of p at ++ rest))) (comment_of p at) (all_of comment_of ps (behind p at)) (comment_here p ps front at b)
-    (subst (λ ts. Each (IsNumbered ts) (all_of comment_of ps (behind p at))) (append_assoc front (token_of p at) rest) (numbered ps _ (front ++ token_of p at) (behind p at) (g.2) before))
+    (subst (λ ts. Each (IsNumbered ts) (all_of comment_of ps (behind p at))) (append_assoc front (token_of p at) rest)
+    (numbered ps _ (front ++ token_of p at) (behind p at) (g.2) before))
 
 pub comments_numbered : (ps : List Piece) (t : List ℕ) → Spells ps t → Each (IsNumbered (tokens_of ps)) (comments_of ps)
 comments_numbered ps t s =
@@ -136,7 +147,8 @@ comments_numbered ps t s =
 -- ---- the comments of a place
 
 -- those of a text at one place, by the tokens behind them
-pub notes_chosen : (text : List ℕ) (tokens : List Token) (file : List Top) (count : ℕ) (a : Anchor) (comments : List Span) → count ≡ length tokens + 1 → Each (IsNumbered tokens) comments
+pub notes_chosen : (text : List ℕ) (tokens : List Token) (file : List Top) (count : ℕ) (a : Anchor) (comments : List Span) →
+    count ≡ length tokens + 1 → Each (IsNumbered tokens) comments
     → notes_of text tokens comments file a ≡ chosen a (placed_by (place_in file) count (placed_at text tokens comments))
 notes_chosen text tokens file count a [] e h = refl
 notes_chosen text tokens file count a (s ∷ ss) e h =
@@ -146,10 +158,14 @@ notes_chosen text tokens file count a (s ∷ ss) e h =
     let y = length-append (classes_of text behind) (c.End ∷ []) in
     let z : length (classes_of text behind) ≡ length behind = length-map behind _ in
     let n : next_token tokens s.start ≡ number count ended = omega (arith, e, x, y, z) in
-    by (same_place (comment_place tokens file s) a) (notes_chosen text tokens file count a ss e h.1) ∙ ap (λ k. cond (same_place (place_in file k) a) (comment_bytes text s ∷ chosen a (placed_by (place_in file) count (placed_at text tokens ss))) (chosen a (placed_by (place_in file) count (placed_at text tokens ss)))) n
+    by (same_place (comment_place tokens file s) a) (notes_chosen text tokens file count a ss e h.1) ∙
+    ap (λ k. cond (same_place (place_in file k) a) (comment_bytes text s ∷ chosen a (placed_by (place_in file) count (placed_at text tokens ss)))
+    (chosen a (placed_by (place_in file) count (placed_at text tokens ss)))) n
   where
     by : (b : Bool) → notes_of text tokens ss file a ≡ chosen a (placed_by (place_in file) count (placed_at text tokens ss))
-        → map (comment_bytes text) (cond b (s ∷ filter (λ d. same_place (comment_place tokens file d) a) ss) (filter (λ d. same_place (comment_place tokens file d) a) ss))
-        ≡ cond b (comment_bytes text s ∷ chosen a (placed_by (place_in file) count (placed_at text tokens ss))) (chosen a (placed_by (place_in file) count (placed_at text tokens ss)))
+        → map (comment_bytes text) (cond b (s ∷ filter (λ d. same_place (comment_place tokens file d) a) ss)
+        (filter (λ d. same_place (comment_place tokens file d) a) ss))
+        ≡ cond b (comment_bytes text s ∷ chosen a (placed_by (place_in file) count (placed_at text tokens ss)))
+        (chosen a (placed_by (place_in file) count (placed_at text tokens ss)))
     by true e = ap (λ l. comment_bytes text s ∷ l) e
     by false e = e

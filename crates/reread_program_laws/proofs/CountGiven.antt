@@ -38,14 +38,16 @@ module _ (slots : List Slot) (m : ℕ) where
   assignment_few : (x : ExpressionTree) → FullPrints slots 2 x → counted_at 2 x ≤ m → assignment_count (assignment_of x) ≤ m
   assignment_few x h k =
       let few = h.few in
-      let w = (laid_adds 2 (counted x) x _ (assignment_events (assignment_of x)) (lies_assigned (derivation_of x) (fits x)) (costs x) 0 [] (omega (arith, few)) nothing).few in
+      let w = (laid_adds 2 (counted x) x _ (assignment_events (assignment_of x)) (lies_assigned (derivation_of x) (fits x)) (costs x) 0 []
+      (omega (arith, few)) nothing).few in
       let e = assignment_held (assignment_of x) [] in
       omega (arith, k, w, e)
 
   conditional_few : (x : ExpressionTree) → FullPrints slots 3 x → counted_at 3 x ≤ m → conditional_count (conditional_of x) ≤ m
   conditional_few x h k =
       let few = h.few in
-      let w = (laid_adds 3 (counted x) x _ (conditional_events (conditional_of x)) (lies_chosen (derivation_of x) (fits x)) (costs x) 0 [] (omega (arith, few)) nothing).few in
+      let w = (laid_adds 3 (counted x) x _ (conditional_events (conditional_of x)) (lies_chosen (derivation_of x) (fits x)) (costs x) 0 []
+      (omega (arith, few)) nothing).few in
       let e = conditional_held (conditional_of x) [] in
       omega (arith, k, w, e)
 
@@ -55,7 +57,8 @@ module _ (slots : List Slot) (m : ℕ) where
   more_few [] h k = tt
   more_few (x ∷ xs) h k = (assignment_few x (h.0) (omega (arith, k)), more_few xs (h.1) (omega (arith, k)))
 
-  value_few : (cells : Option ℕ) (given : Option (List ExpressionTree)) → ValuesPrint slots cells given → most_listed given ≤ m → FewValue m (value_of cells given)
+  value_few : (cells : Option ℕ) (given : Option (List ExpressionTree)) → ValuesPrint slots cells given → most_listed given ≤ m →
+      FewValue m (value_of cells given)
   value_few None None h k = tt
   value_few (Some n) None h k = tt
   value_few None (Some (x ∷ [])) h k = assignment_few x h (omega (arith, k))
@@ -68,14 +71,16 @@ module _ (slots : List Slot) (m : ℕ) where
   size_few None = tt
   size_few (Some n) = omega arith
 
-  declarator_few : (k : ℕ) (given : Option (List ExpressionTree)) → SlotPrints slots (slice_get slots k) given → most_listed given ≤ m → FewDeclarator m (slot_declarator slots k given)
+  declarator_few : (k : ℕ) (given : Option (List ExpressionTree)) → SlotPrints slots (slice_get slots k) given → most_listed given ≤ m →
+      FewDeclarator m (slot_declarator slots k given)
   declarator_few k given h l = by (slice_get slots k) h
     where
       by : (o : Option Slot) → SlotPrints slots o given → FewDeclarator m (option_map_or (λ (s : Slot). declarator_of s given) o no_declarator)
       by None h = absurd h
       by (Some s) h = (size_few s.cells, value_few s.cells given h.values l)
 
-  local_few : (k : ℕ) (given : Option (List ExpressionTree)) (others : List Declarator) → SlotPrints slots (slice_get slots k) given → most_listed given ≤ m → Each (FewDeclarator m) others → FewLocal m (slot_declaration slots k given others)
+  local_few : (k : ℕ) (given : Option (List ExpressionTree)) (others : List Declarator) → SlotPrints slots (slice_get slots k) given →
+      most_listed given ≤ m → Each (FewDeclarator m) others → FewLocal m (slot_declaration slots k given others)
   local_few k given others h l e = by (slice_get slots k) h
     where
       by : (o : Option Slot) → SlotPrints slots o given → FewLocal m (option_map_or (λ (s : Slot). declaration_of s given others) o no_local)
@@ -149,7 +154,8 @@ module _ (f : Function) (m : ℕ) where
   abbrev ElseF : Forest → Type 0
   ElseF Nil = Unit {0}
   ElseF (Then y ys) =
-      ItemsPrint f (Then y ys) → most_counted (Then y ys) ≤ m → FewStatement m (cond (is_lone_if y ys) (statement_of f.slots y) (block (placed f.slots y (statement_of f.slots y) (items_of f.slots ys NoItems))))
+      ItemsPrint f (Then y ys) → most_counted (Then y ys) ≤ m → FewStatement m
+      (cond (is_lone_if y ys) (statement_of f.slots y) (block (placed f.slots y (statement_of f.slots y) (items_of f.slots ys NoItems))))
 
   abbrev LoneF : Forest → Type 0
   LoneF (Then (t.If d a b) Nil) = TreeF (t.If d a b)
@@ -167,7 +173,8 @@ module _ (f : Function) (m : ℕ) where
   mutual
     list_few : (xs : Forest) → ListF xs
     list_few Nil = λ others h k e. e
-    list_few (Then x xs) = λ others h k e. placed_few x (tree_few x) (items_of f.slots xs others) (h.0) (omega (arith, k)) (list_few xs others (h.1) (omega (arith, k)) e)
+    list_few (Then x xs) = λ others h k e. placed_few x (tree_few x) (items_of f.slots xs others) (h.0) (omega (arith, k))
+        (list_few xs others (h.1) (omega (arith, k)) e)
 
     lone_few : (b : Forest) → LoneF b
     lone_few (Then (t.If d a b) Nil) = if_few d a b (list_few a) (else_few b (list_few b) (lone_few b))
@@ -179,8 +186,12 @@ module _ (f : Function) (m : ℕ) where
     tree_few (t.If d a b) = if_few d a b (list_few a) (else_few b (list_few b) (lone_few b))
     tree_few (t.While d a) = λ h k. (test_few f.slots m d (h.0) (omega (arith, k)), list_few a NoItems (h.1) (omega (arith, k)) tt)
     tree_few (t.Do a d) = λ h k. (list_few a NoItems (h.0) (omega (arith, k)) tt, test_few f.slots m d (h.1) (omega (arith, k)))
-    tree_few (t.For first d u a) = λ h k.
-        (start_few f.slots m first (h.0) (omega (arith, k)), option_few f.slots m d (h.1) (omega (arith, k)), option_few f.slots m u (h.2) (omega (arith, k)), list_few a NoItems (h.3) (omega (arith, k)) tt)
+    tree_few (t.For first d u a) = λ h k. (
+      start_few f.slots m first (h.0) (omega (arith, k)),
+      option_few f.slots m d (h.1) (omega (arith, k)),
+      option_few f.slots m u (h.2) (omega (arith, k)),
+      list_few a NoItems (h.3) (omega (arith, k)) tt,
+    )
     tree_few (t.Switch s cs) = λ h k. (selector_few f.slots m s (h.0) (omega (arith, k)), sections_few cs (h.1) (omega (arith, k)))
     tree_few (t.Block a) = λ h k. list_few a NoItems h k tt
     tree_few (t.Mark l) = λ h k. (tt, tt)
@@ -192,7 +203,8 @@ module _ (f : Function) (m : ℕ) where
         let rest = sections_of f.slots cs in
         let end = section_end ends a (is_last cs) rest in
         let list = list_few a end (h.1) (omega (arith, k)) (end_few f.slots m ends a (is_last cs) rest (sections_few cs (h.2) (omega (arith, k)))) in
-        labelled_few f.slots m (labels_of cases default) (optional_item (starts_with_local a) null_statement (items_of f.slots a end)) (labels_few f.slots m cases default (h.0) (omega (arith, k)))
+        labelled_few f.slots m (labels_of cases default) (optional_item (starts_with_local a) null_statement (items_of f.slots a end))
+        (labels_few f.slots m cases default (h.0) (omega (arith, k)))
         (optional_item_few f.slots m (starts_with_local a) (items_of f.slots a end) list)
 
   -- the items of a body

@@ -60,14 +60,19 @@ AlikeNamed f = OfFunction (λ g. bytes_eq g.name f.name ≡ true → Alike f g)
 
 later_alike : (f : Function) (ts : List Top) → Each (AgreesWith f) ts → Each (AlikeNamed f) ts
 later_alike f [] h = tt
-later_alike f (T.Function g ∷ ts) h = (λ e. let a = h.0 (turned g.name f.name e) in record { result = a.result; parameters = a.parameters }, later_alike f ts h.1)
+later_alike f (T.Function g ∷ ts) h = (
+  λ e. let a = h.0 (turned g.name f.name e) in
+      record { result = a.result; parameters = a.parameters },
+  later_alike f ts h.1,
+)
 later_alike f (T.Global g ∷ ts) h = (tt, later_alike f ts h.1)
 later_alike f (T.Include bytes ∷ ts) h = (tt, later_alike f ts h.1)
 later_alike f (T.Enum es ∷ ts) h = (tt, later_alike f ts h.1)
 later_alike f (T.Note bytes ∷ ts) h = (tt, later_alike f ts h.1)
 
 -- one more in front
-with_first : (f : Function) (all ts : List Top) → Each (AgreesWith f) ts → Each (OfFunction (λ g. Each (AlikeNamed g) all)) ts → Each (OfFunction (λ g. Each (AlikeNamed g) (T.Function f ∷ all))) ts
+with_first : (f : Function) (all ts : List Top) → Each (AgreesWith f) ts → Each (OfFunction (λ g. Each (AlikeNamed g) all)) ts →
+    Each (OfFunction (λ g. Each (AlikeNamed g) (T.Function f ∷ all))) ts
 with_first f all [] h k = tt
 with_first f all (T.Function g ∷ ts) h k =
     ((λ e. let a = h.0 e in alike_turned f g (record { result = a.result; parameters = a.parameters }), k.0), with_first f all ts h.1 k.1)
@@ -85,7 +90,8 @@ other_alike : (g : Function) (x : Top) → IsOther x → AlikeNamed g x
 other_alike g (T.Function f) h = absurd h
 other_alike g x h = tt
 
-with_other : (x : Top) → IsOther x → (all ts : List Top) → Each (OfFunction (λ g. Each (AlikeNamed g) all)) ts → Each (OfFunction (λ g. Each (AlikeNamed g) (x ∷ all))) ts
+with_other : (x : Top) → IsOther x → (all ts : List Top) → Each (OfFunction (λ g. Each (AlikeNamed g) all)) ts →
+    Each (OfFunction (λ g. Each (AlikeNamed g) (x ∷ all))) ts
 with_other x o all [] k = tt
 with_other x o all (T.Function g ∷ ts) k = ((other_alike g x o, k.0), with_other x o all ts k.1)
 with_other x o all (T.Global g ∷ ts) k = (tt, with_other x o all ts k.1)
@@ -103,11 +109,13 @@ all_alike (T.Note bytes ∷ ts) d = (tt, with_other (T.Note bytes) tt ts ts (all
 
 -- ---- functions of a name
 
-found_function : (p : Function → Bool) (m : List ℕ) (Q : Function → Type 0) (ts : List Top) → Each (OfFunction (λ f. bytes_eq f.name m ≡ true → Q f)) ts → IfSome (first_function p m ts) (λ f. Q f × (p f ≡ true))
+found_function : (p : Function → Bool) (m : List ℕ) (Q : Function → Type 0) (ts : List Top) →
+    Each (OfFunction (λ f. bytes_eq f.name m ≡ true → Q f)) ts → IfSome (first_function p m ts) (λ f. Q f × (p f ≡ true))
 found_function p m Q [] h = tt
 found_function p m Q (T.Function f ∷ ts) h = by (bytes_eq f.name m) (p f) refl refl (found_function p m Q ts h.1)
   where
-    by : (b c : Bool) → bytes_eq f.name m ≡ b → p f ≡ c → IfSome (first_function p m ts) (λ f. Q f × (p f ≡ true)) → IfSome (cond (b && c) (Some f) (first_function p m ts)) (λ f. Q f × (p f ≡ true))
+    by : (b c : Bool) → bytes_eq f.name m ≡ b → p f ≡ c → IfSome (first_function p m ts) (λ f. Q f × (p f ≡ true)) →
+        IfSome (cond (b && c) (Some f) (first_function p m ts)) (λ f. Q f × (p f ≡ true))
     by true true e k r = (h.0 e, k)
     by true false e k r = r
     by false c e k r = r
@@ -117,11 +125,13 @@ found_function p m Q (T.Enum es ∷ ts) h = found_function p m Q ts h.1
 found_function p m Q (T.Note bytes ∷ ts) h = found_function p m Q ts h.1
 
 -- where none has the fact that is tested, each of the name has it not
-none_has : (p : Function → Bool) (m : List ℕ) (ts : List Top) → is_some (first_function p m ts) ≡ false → Each (OfFunction (λ f. bytes_eq f.name m ≡ true → p f ≡ false)) ts
+none_has : (p : Function → Bool) (m : List ℕ) (ts : List Top) → is_some (first_function p m ts) ≡ false →
+    Each (OfFunction (λ f. bytes_eq f.name m ≡ true → p f ≡ false)) ts
 none_has p m [] e = tt
 none_has p m (T.Function f ∷ ts) e = by (bytes_eq f.name m) (p f) refl refl e (none_has p m ts)
   where
-    by : (b c : Bool) → bytes_eq f.name m ≡ b → p f ≡ c → is_some (cond (b && c) (Some f) (first_function p m ts)) ≡ false → (is_some (first_function p m ts) ≡ false → Each (OfFunction (λ f. bytes_eq f.name m ≡ true → p f ≡ false)) ts)
+    by : (b c : Bool) → bytes_eq f.name m ≡ b → p f ≡ c → is_some (cond (b && c) (Some f) (first_function p m ts)) ≡ false →
+        (is_some (first_function p m ts) ≡ false → Each (OfFunction (λ f. bytes_eq f.name m ≡ true → p f ≡ false)) ts)
         → (bytes_eq f.name m ≡ true → p f ≡ false) × Each (OfFunction (λ f. bytes_eq f.name m ≡ true → p f ≡ false)) ts
     by true true i j e r = absurd (true≢false e)
     by true false i j e r = (λ k. j, r e)
@@ -149,7 +159,10 @@ there_behind h all (T.Note bytes ∷ ts) k = (tt, there_behind h all ts k.1)
 
 all_there : (ts : List Top) → Each (OfFunction (IsThere ts)) ts
 all_there [] = tt
-all_there (T.Function f ∷ ts) = (ap (λ b. is_some (cond (b && true) (Some f) (first_function (λ g. true) f.name ts))) (same_self f.name), there_behind f ts ts (all_there ts))
+all_there (T.Function f ∷ ts) = (
+  ap (λ b. is_some (cond (b && true) (Some f) (first_function (λ g. true) f.name ts))) (same_self f.name),
+  there_behind f ts ts (all_there ts),
+)
 all_there (T.Global g ∷ ts) = (tt, all_there ts)
 all_there (T.Include bytes ∷ ts) = (tt, all_there ts)
 all_there (T.Enum es ∷ ts) = (tt, all_there ts)
@@ -164,11 +177,14 @@ pub record TheFunction (ts : List Top) (f : Function) : Type 0 where
 
 the_one : (ts : List Top) (f : Function) → Each (AlikeNamed f) ts → IsThere ts f → TheFunction ts f
 the_one ts f a t =
-    by (first_function (λ g. is_some g.body) f.name ts) (first_function (λ g. true) f.name ts) refl refl (found_function (λ g. is_some g.body) f.name (Alike f) ts a) (found_function (λ g. true) f.name (Alike f) ts a) t
+    by (first_function (λ g. is_some g.body) f.name ts) (first_function (λ g. true) f.name ts) refl refl
+    (found_function (λ g. is_some g.body) f.name (Alike f) ts a) (found_function (λ g. true) f.name (Alike f) ts a) t
     (λ e. found_function (λ g. true) f.name (λ g. is_some g.body ≡ false) ts (none_has (λ g. is_some g.body) f.name ts e))
   where
-    by : (o u : Option Function) → first_function (λ g. is_some g.body) f.name ts ≡ o → first_function (λ g. true) f.name ts ≡ u → IfSome o (λ g. Alike f g × (is_some g.body ≡ true)) → IfSome u (λ g. Alike f g × (true ≡ true)) → is_some u ≡ true
-        → (is_some (first_function (λ g. is_some g.body) f.name ts) ≡ false → IfSome (first_function (λ g. true) f.name ts) (λ g. (is_some g.body ≡ false) × (true ≡ true))) → TheFunction ts f
+    by : (o u : Option Function) → first_function (λ g. is_some g.body) f.name ts ≡ o → first_function (λ g. true) f.name ts ≡ u →
+        IfSome o (λ g. Alike f g × (is_some g.body ≡ true)) → IfSome u (λ g. Alike f g × (true ≡ true)) → is_some u ≡ true
+        → (is_some (first_function (λ g. is_some g.body) f.name ts) ≡ false →
+        IfSome (first_function (λ g. true) f.name ts) (λ g. (is_some g.body ≡ false) × (true ≡ true))) → TheFunction ts f
     by (Some g) u i j h k t n = record { function = g; is = (λ z. option_or (i z) (j z)); alike = h.0; defined = ap is_some i ∙ sym h.1 }
     by None (Some g) i j h k t n =
         let no : is_some (first_function (λ g. is_some g.body) f.name ts) ≡ false = ap is_some i in
@@ -195,10 +211,12 @@ named_bodies [] = []
 named_bodies (T.Function f ∷ ts) = bodies_behind f (named_bodies ts)
 named_bodies (_ ∷ ts) = named_bodies ts
 
-has_behind : (m : List ℕ) (f : Function) (xs : List (List ℕ)) → has_function (bodies_behind f xs) m ≡ ((bytes_eq m f.name && is_some f.body) || has_function xs m)
+has_behind : (m : List ℕ) (f : Function) (xs : List (List ℕ)) → has_function (bodies_behind f xs)
+    m ≡ ((bytes_eq m f.name && is_some f.body) || has_function xs m)
 has_behind m f xs = by (is_some f.body) (bytes_eq m f.name) (has_with m f.name xs)
   where
-    by : (b c : Bool) → has_function (with_function f.name xs) m ≡ (c || has_function xs m) → has_function (cond b (with_function f.name xs) xs) m ≡ ((c && b) || has_function xs m)
+    by : (b c : Bool) → has_function (with_function f.name xs) m ≡ (c || has_function xs m) →
+        has_function (cond b (with_function f.name xs) xs) m ≡ ((c && b) || has_function xs m)
     by true true h = h
     by true false h = h
     by false true h = refl
@@ -206,9 +224,11 @@ has_behind m f xs = by (is_some f.body) (bytes_eq m f.name) (has_with m f.name x
 
 pub has_named : (m : List ℕ) (ts : List Top) → has_function (named_bodies ts) m ≡ is_some (first_function (λ f. is_some f.body) m ts)
 has_named m [] = refl
-has_named m (T.Function f ∷ ts) = has_behind m f (named_bodies ts) ∙ ap (λ b. (b && is_some f.body) || has_function (named_bodies ts) m) (eq_turns m f.name) ∙ by (bytes_eq f.name m && is_some f.body) (has_named m ts)
+has_named m (T.Function f ∷ ts) = has_behind m f (named_bodies ts) ∙ ap (λ b. (b && is_some f.body) || has_function (named_bodies ts) m)
+    (eq_turns m f.name) ∙ by (bytes_eq f.name m && is_some f.body) (has_named m ts)
   where
-    by : (b : Bool) → has_function (named_bodies ts) m ≡ is_some (first_function (λ f. is_some f.body) m ts) → (b || has_function (named_bodies ts) m) ≡ is_some (cond b (Some f) (first_function (λ f. is_some f.body) m ts))
+    by : (b : Bool) → has_function (named_bodies ts) m ≡ is_some (first_function (λ f. is_some f.body) m ts) →
+        (b || has_function (named_bodies ts) m) ≡ is_some (cond b (Some f) (first_function (λ f. is_some f.body) m ts))
     by true e = refl
     by false e = e
 has_named m (T.Global g ∷ ts) = has_named m ts
@@ -232,12 +252,16 @@ first_single (T.Include bytes ∷ ts) = (tt, first_single ts)
 first_single (T.Enum es ∷ ts) = (tt, first_single ts)
 first_single (T.Note bytes ∷ ts) = (tt, first_single ts)
 
-pub next_single : (f : Function) (before : List (List ℕ)) (ts : List Top) → Each (AgreesWith f) ts → Each (OfFunction (IsSingle before)) ts → Each (OfFunction (IsSingle (bodies_behind f before))) ts
+pub next_single : (f : Function) (before : List (List ℕ)) (ts : List Top) → Each (AgreesWith f) ts → Each (OfFunction (IsSingle before)) ts →
+    Each (OfFunction (IsSingle (bodies_behind f before))) ts
 next_single f before [] a h = tt
-next_single f before (T.Function g ∷ ts) a h =
-    (ap (λ b. is_some g.body && b) (has_behind g.name f before) ∙ by (bytes_eq g.name f.name) (is_some f.body) (is_some g.body) refl refl refl (h.0), next_single f before ts a.1 h.1)
+next_single f before (T.Function g ∷ ts) a h = (
+  ap (λ b. is_some g.body && b) (has_behind g.name f before) ∙ by (bytes_eq g.name f.name) (is_some f.body) (is_some g.body) refl refl refl (h.0),
+  next_single f before ts a.1 h.1,
+)
   where
-    by : (b c d : Bool) → bytes_eq g.name f.name ≡ b → is_some f.body ≡ c → is_some g.body ≡ d → (d && has_function before g.name) ≡ false → (d && ((b && c) || has_function before g.name)) ≡ false
+    by : (b c d : Bool) → bytes_eq g.name f.name ≡ b → is_some f.body ≡ c → is_some g.body ≡ d → (d && has_function before g.name) ≡ false →
+        (d && ((b && c) || has_function before g.name)) ≡ false
     by true true true e i j k = sym j ∙ (a.0 (turned g.name f.name e)).single i
     by true true false e i j k = refl
     by true false d e i j k = k

@@ -56,7 +56,8 @@ module _ (slots : List Slot) where
   abbrev TreeS : Tree → Type 0
   TreeS x = (n : ℕ) → depth_of x ≤ n → StatementShallow n (statement_of slots x)
 
-  placed_shallow : (x : Tree) (n : ℕ) (others : Items) → StatementShallow n (statement_of slots x) → Shallow n others → Shallow n (placed slots x (statement_of slots x) others)
+  placed_shallow : (x : Tree) (n : ℕ) (others : Items) → StatementShallow n (statement_of slots x) → Shallow n others →
+      Shallow n (placed slots x (statement_of slots x) others)
   placed_shallow (t.Local k given) n others g h = local_shallow n _ others h
   placed_shallow (t.Note bytes) n others g h = h
   placed_shallow x n others g h = stated_shallow n (statement_of slots x) others g h
@@ -69,7 +70,8 @@ module _ (slots : List Slot) where
   ElseS Nil = Unit {0}
   ElseS (Then y ys) =
       (n e : ℕ) → max (depth_of y) (depth ys) + 1 ≤ n
-      → let x = cond (is_lone_if y ys) (statement_of slots y) (block (placed slots y (statement_of slots y) (items_of slots ys NoItems))) in body_depth (list_of_item e (statement_end e x) (s.States (written_labels e x) (behind_labels e x))) ≤ n
+      → let x = cond (is_lone_if y ys) (statement_of slots y) (block (placed slots y (statement_of slots y) (items_of slots ys NoItems))) in
+      body_depth (list_of_item e (statement_end e x) (s.States (written_labels e x) (behind_labels e x))) ≤ n
 
   abbrev LoneS : Forest → Type 0
   LoneS (Then (t.If d a b) Nil) = TreeS (t.If d a b)
@@ -91,7 +93,8 @@ module _ (slots : List Slot) where
   mutual
     list_shallow : (xs : Forest) → ListS xs
     list_shallow Nil = λ n others h k. k
-    list_shallow (Then x xs) = λ n others h k. placed_shallow x n (items_of slots xs others) (tree_shallow x n (omega (arith, h))) (list_shallow xs n others (omega (arith, h)) k)
+    list_shallow (Then x xs) = λ n others h k. placed_shallow x n (items_of slots xs others) (tree_shallow x n (omega (arith, h)))
+        (list_shallow xs n others (omega (arith, h)) k)
 
     lone_shallow : (b : Forest) → LoneS b
     lone_shallow (Then (t.If d a b) Nil) = if_shallow d a b (list_shallow a) (else_shallow b (list_shallow b) (lone_shallow b))
@@ -102,7 +105,8 @@ module _ (slots : List Slot) where
     tree_shallow (t.While d a) = λ n h at. in_block a (list_shallow a) n _ h
     tree_shallow (t.Do a d) = λ n h at. in_block a (list_shallow a) n _ h
     tree_shallow (t.For first d u a) = λ n h at. in_block a (list_shallow a) n _ h
-    tree_shallow (t.Switch e cs) = λ n h at. let k = sections_shallow cs (depth_in cs) (omega arith) (expression_end (at + 1 + 1) (selector_of e) + 1 + 1) in omega (arith, h, k)
+    tree_shallow (t.Switch e cs) = λ n h at. let k = sections_shallow cs (depth_in cs) (omega arith)
+        (expression_end (at + 1 + 1) (selector_of e) + 1 + 1) in omega (arith, h, k)
     tree_shallow (t.Block a) = λ n h at. in_block a (list_shallow a) n _ h
     tree_shallow x = λ n h at. omega arith
 
@@ -110,8 +114,10 @@ module _ (slots : List Slot) where
     sections_shallow NoSection n h at = omega arith
     sections_shallow (Section cases default a ends cs) n h at =
         let end = section_end ends a (is_last cs) (sections_of slots cs) in
-        let list = list_shallow a n end (omega (arith, h)) (end_shallow n ends a (is_last cs) (sections_of slots cs) (sections_shallow cs n (omega (arith, h)))) in
-        labelled_shallow n (labels_of cases default) (optional_item (starts_with_local a) null_statement (items_of slots a end)) (optional_shallow n (starts_with_local a) (items_of slots a end) list) at
+        let list = list_shallow a n end (omega (arith, h)) (end_shallow n ends a (is_last cs) (sections_of slots cs)
+        (sections_shallow cs n (omega (arith, h)))) in
+        labelled_shallow n (labels_of cases default) (optional_item (starts_with_local a) null_statement (items_of slots a end))
+        (optional_shallow n (starts_with_local a) (items_of slots a end) list) at
 
   -- the lists of a body
   pub body_shallow : (a : Forest) (at : ℕ) → list_depth (written_items (at + 1) (items_of slots a NoItems)) + 1 ≤ 1 + depth a

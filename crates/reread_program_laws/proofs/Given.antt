@@ -46,7 +46,8 @@ AreGiven counts ts ss (T.Global g ∷ xs) = IsFileVariable ts g ss × AreGiven c
 AreGiven counts ts ss (T.Function f ∷ xs) = IsGiven counts ts f ss × AreGiven counts ts (behind_top ss (T.Function f)) xs
 
 module _ (counts : FlatCounts) (ts : List Top) where
-  given_tops : (xs : List Top) (ss : List Scope) → TopsPrint xs → Each TopIsSpelled xs → TopsAreBound ss xs → Each MainIsFormed xs → Each (IsResolvedTop counts ts) xs → Each (IsFound ts) xs → Each (OfFunction (TheFunction ts)) xs → AreGiven counts ts ss xs
+  given_tops : (xs : List Top) (ss : List Scope) → TopsPrint xs → Each TopIsSpelled xs → TopsAreBound ss xs → Each MainIsFormed xs →
+      Each (IsResolvedTop counts ts) xs → Each (IsFound ts) xs → Each (OfFunction (TheFunction ts)) xs → AreGiven counts ts ss xs
   given_tops [] ss p s b m r f d = tt
   given_tops (T.Note bytes ∷ xs) ss p s b m r f d = (p.0, given_tops xs ss p.1 s.1 b.1 m.1 r.1 f.1 d.1)
   given_tops (T.Include bytes ∷ xs) ss p s b m r f d = (p.0, given_tops xs ss p.1 s.1 b.1 m.1 r.1 f.1 d.1)
@@ -69,7 +70,8 @@ module _ (counts : FlatCounts) (ts : List Top) where
 
 pub program_given : (counts : FlatCounts) (p : Program) → IsResolvedWith counts p → IsPrintable p → AreGiven counts p.tops resolved.at_start p.tops
 program_given counts p r h =
-    given_tops counts p.tops p.tops resolved.at_start h.tops r.spelled r.bound r.main r.tops (reread_laws.found_variables p.tops r.bound) (all_declared p.tops r.declarations)
+    given_tops counts p.tops p.tops resolved.at_start h.tops r.spelled r.bound r.main r.tops (reread_laws.found_variables p.tops r.bound)
+    (all_declared p.tops r.declarations)
 
 -- the functions have the form of a source
 pub program_formed : (counts : FlatCounts) (ts xs : List Top) → Each (IsResolvedTop counts ts) xs → AreFormed xs
@@ -82,21 +84,39 @@ program_formed counts ts (T.Note bytes ∷ xs) r = (tt, program_formed counts ts
 
 -- ---- together with the comments and the limits
 
-module _ (counts : FlatCounts) (ts : List Top) (file : File) (bodies : (m : List ℕ) → has_function file.bodies m ≡ is_some (first_function (λ f. is_some f.body) m ts)) where
-  declared_so : (f : Function) (before : List (List ℕ)) (ss : List Scope) → IsGiven counts ts f ss → IsSingle before f → IsSomeAnd (the_function f.name ts) (λ g. IsDeclared ts f g file.bodies before ss)
+module _ (counts : FlatCounts) (ts : List Top) (file : File)
+    (bodies : (m : List ℕ) → has_function file.bodies m ≡ is_some (first_function (λ f. is_some f.body) m ts)) where
+  declared_so : (f : Function) (before : List (List ℕ)) (ss : List Scope) → IsGiven counts ts f ss → IsSingle before f →
+      IsSomeAnd (the_function f.name ts) (λ g. IsDeclared ts f g file.bodies before ss)
   declared_so f before ss g s =
       let q = g.the in
       subst (λ o. IsSomeAnd o (λ h. IsDeclared ts f h file.bodies before ss)) (sym q.is)
-      (record { is = q.is; defined = bodies f.name ∙ q.defined; result = q.alike.result; parameters = q.alike.parameters; named = g.named; unknown = g.unknown; formed = g.formed; single = s })
+      (record {
+        is = q.is;
+        defined = bodies f.name ∙ q.defined;
+        result = q.alike.result;
+        parameters = q.alike.parameters;
+        named = g.named;
+        unknown = g.unknown;
+        formed = g.formed;
+        single = s;
+      })
 
-  pub tops_are : (xs : List Top) (ss : List Scope) (before : List (List ℕ)) (at : ℕ) (noted : List (List ℕ)) → AreGiven counts ts ss xs → DeclarationsAgree xs → Each (OfFunction (IsSingle before)) xs → NotesOfTops file.notes at noted xs → AreMeasured file at xs
+  pub tops_are : (xs : List Top) (ss : List Scope) (before : List (List ℕ)) (at : ℕ) (noted : List (List ℕ)) → AreGiven counts ts ss xs →
+      DeclarationsAgree xs → Each (OfFunction (IsSingle before)) xs → NotesOfTops file.notes at noted xs → AreMeasured file at xs
       → AreTops counts ts file ss before at noted xs
   tops_are [] ss before at noted g d s n m = n
   tops_are (T.Note bytes ∷ xs) ss before at noted g d s n m = (g.0, tops_are xs ss before at (noted ++ bytes ∷ []) g.1 d s.1 n m)
   tops_are (T.Include bytes ∷ xs) ss before at noted g d s n m = (g.0, n.0, tops_are xs ss before (at + 1) [] g.1 d s.1 n.1 m)
   tops_are (T.Enum [] ∷ xs) ss before at noted g d s n m = absurd g
-  tops_are (T.Enum (x ∷ es) ∷ xs) ss before at noted g d s n m = (g.0, n.0, tops_are xs (bind_constants (x ∷ es) ss) before (enumeration_end at (enumeration_of x es)) [] g.1 d s.1 n.1 m)
-  tops_are (T.Global v ∷ xs) ss before at noted g d s n m = (g.0, n.0, tops_are xs (behind_top ss (T.Global v)) before (declaration_end at (global_of v)) [] g.1 d s.1 n.1 m)
+  tops_are (T.Enum (x ∷ es) ∷ xs) ss before at noted g d s n m =
+      (g.0, n.0, tops_are xs (bind_constants (x ∷ es) ss) before (enumeration_end at (enumeration_of x es)) [] g.1 d s.1 n.1 m)
+  tops_are (T.Global v ∷ xs) ss before at noted g d s n m = (
+    g.0,
+    n.0,
+    tops_are xs (behind_top ss (T.Global v)) before
+        (declaration_end at (global_of v)) [] g.1 d s.1 n.1 m,
+  )
   tops_are (T.Function f ∷ xs) ss before at noted g d s n m = (
     record { declared = declared_so f before ss (g.0) (s.0); function = (g.0).function; notes = n.1; untangled = m.0 },
     n.0,

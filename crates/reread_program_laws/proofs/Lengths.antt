@@ -102,14 +102,16 @@ word_reaches : (at : ℕ) (t : Class) (b : Bool) → Reaches at (word_end at b) 
 word_reaches at t false r = refl
 word_reaches at t true r = omega arith
 
-more_reach : {X : Type 0} (end : ℕ → X → ℕ) (tokens : X → List Class → List Class) → ((at : ℕ) (x : X) → Reaches at (end at x) (tokens x)) → (at : ℕ) (xs : List X) → Reaches at (more_end end at xs) (more_tokens tokens xs)
+more_reach : {X : Type 0} (end : ℕ → X → ℕ) (tokens : X → List Class → List Class) → ((at : ℕ) (x : X) → Reaches at (end at x) (tokens x)) →
+    (at : ℕ) (xs : List X) → Reaches at (more_end end at xs) (more_tokens tokens xs)
 more_reach end tokens h at [] r = refl
 more_reach end tokens h at (x ∷ xs) r =
     let y = h (at + 1) x (more_tokens tokens xs r) in
     let z = more_reach end tokens h (end (at + 1) x) xs r in
     omega (arith, y, z)
 
-rest_reaches : {X : Type 0} (end : ℕ → X → ℕ) (tokens : X → List Class → List Class) → ((at : ℕ) (x : X) → Reaches at (end at x) (tokens x)) → (at : ℕ) (xs : List X) (trailing : Bool) → Reaches at (rest_end end at xs trailing) (rest_tokens tokens xs trailing)
+rest_reaches : {X : Type 0} (end : ℕ → X → ℕ) (tokens : X → List Class → List Class) → ((at : ℕ) (x : X) → Reaches at (end at x) (tokens x)) →
+    (at : ℕ) (xs : List X) (trailing : Bool) → Reaches at (rest_end end at xs trailing) (rest_tokens tokens xs trailing)
 rest_reaches end tokens h at [] trailing r = let x = word_reaches at c.Comma trailing (c.CloseBlock ∷ r) in omega (arith, x)
 rest_reaches end tokens h at (x ∷ xs) trailing r =
     let y = h (at + 1) x (rest_tokens tokens xs trailing r) in
@@ -302,14 +304,16 @@ mutual
   pub plain_later : (at : ℕ) (x : s.Plain) → at < plain_end at x
   plain_later at (s.Compound (s.Braces xs)) = let u = items_reach (at + 1) xs [] in omega (arith, u)
   plain_later at (s.Simple o) = let u = optional_reaches at o [] in omega (arith, u)
-  plain_later at (s.If e x) = let u = expression_reaches (at + 1 + 1) e [] in let v = statement_later (expression_end (at + 1 + 1) e + 1) x in omega (arith, u, v)
+  plain_later at (s.If e x) = let u = expression_reaches (at + 1 + 1) e [] in let v = statement_later (expression_end (at + 1 + 1) e + 1) x in
+      omega (arith, u, v)
   plain_later at (s.IfElse e x y) =
       let b = expression_end (at + 1 + 1) e + 1 in
       let u = expression_reaches (at + 1 + 1) e [] in
       let v = statement_later b x in
       let w = statement_later (statement_end b x + 1) y in
       omega (arith, u, v, w)
-  plain_later at (s.While e x) = let u = expression_reaches (at + 1 + 1) e [] in let v = statement_later (expression_end (at + 1 + 1) e + 1) x in omega (arith, u, v)
+  plain_later at (s.While e x) = let u = expression_reaches (at + 1 + 1) e [] in let v = statement_later (expression_end (at + 1 + 1) e + 1) x in
+      omega (arith, u, v)
   plain_later at (s.DoWhile x e) =
       let u = statement_later (at + 1) x in
       let v = expression_reaches (statement_end (at + 1) x + 1 + 1) e [] in
@@ -322,7 +326,8 @@ mutual
       let j = optional_reaches b v [] in
       let k = statement_later (optional_end b v + 1) y in
       omega (arith, h, i, j, k)
-  plain_later at (s.Switch e x) = let u = expression_reaches (at + 1 + 1) e [] in let v = statement_later (expression_end (at + 1 + 1) e + 1) x in omega (arith, u, v)
+  plain_later at (s.Switch e x) = let u = expression_reaches (at + 1 + 1) e [] in let v = statement_later (expression_end (at + 1 + 1) e + 1) x in
+      omega (arith, u, v)
   plain_later at s.Goto = omega arith
   plain_later at s.Break = omega arith
   plain_later at s.Continue = omega arith
@@ -342,7 +347,8 @@ top_later at (f.OfEnum (f.Enumerated x xs trailing)) =
     let y = enumerator_reaches (at + 1 + 1) x [] in
     let z = rest_reaches enumerator_end enumerator_tokens enumerator_reaches (enumerator_end (at + 1 + 1) x) xs trailing [] in
     omega (arith, y, z)
-top_later at (f.OfDeclaration (f.Declares static x)) = let y = word_reaches at c.Static static [] in let z = local_later (word_end at static) x in omega (arith, y, z)
+top_later at (f.OfDeclaration (f.Declares static x)) = let y = word_reaches at c.Static static [] in let z = local_later (word_end at static) x in
+    omega (arith, y, z)
 top_later at (f.OfFunction (f.Defined static n xs b)) =
     let u = body_later at static n xs in
     let v = body_reaches (parameters_end (result_end (word_end at static) n + 1 + 1) xs + 1) b [] in

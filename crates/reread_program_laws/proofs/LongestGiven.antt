@@ -60,7 +60,8 @@ module _ (ctx : Context) where
   labelled (Case at after t ∷ ls) rest L h = let r = labelled ls rest L h in (both_most 0 (longest_label ctx.word ls) L (omega arith) r.0, r.1)
   labelled (Default at after ∷ ls) rest L h = let r = labelled ls rest L h in (both_most 0 (longest_label ctx.word ls) L (omega arith) r.0, r.1)
 
-  with_labels : (ls : List Label) (before after : List Slot) (labels rest : List ℕ) (n : ℕ) → Bound before after labels rest n → Bound before after (named_in ls labels) rest (max (longest_label ctx.word ls) n)
+  with_labels : (ls : List Label) (before after : List Slot) (labels rest : List ℕ) (n : ℕ) → Bound before after labels rest n →
+      Bound before after (named_in ls labels) rest (max (longest_label ctx.word ls) n)
   with_labels ls before after labels rest n x =
       record {
         more = x.more;
@@ -68,7 +69,8 @@ module _ (ctx : Context) where
         within = λ L h k. let p = labelled ls labels L k in let q = x.within L h (p.1) in (both_most (longest_label ctx.word ls) n L (p.0) (q.0), q.1);
       }
 
-  locals : (k : Kinded) (ds : List Declarator) (w : Walk) (rest : List ℕ) → Bound w.slots (all_declared ctx.word k ds w).slots rest rest (longest_declared ctx.word ds)
+  locals : (k : Kinded) (ds : List Declarator) (w : Walk) (rest : List ℕ) →
+      Bound w.slots (all_declared ctx.word k ds w).slots rest rest (longest_declared ctx.word ds)
   locals k [] w rest = none w.slots rest
   locals k (d ∷ ds) w rest =
       let s = slot_of (env_in ctx.word w) k d in
@@ -83,21 +85,25 @@ module _ (ctx : Context) where
   mutual
     item_bound : (x : Item) (w : Walk) (rest : List ℕ) → Bound w.slots (behind_item ctx x w).slots (item_labels x rest) rest (item_longest ctx.word x)
     item_bound (Declares first after d) w rest = locals (kinded ctx.word d) d.names w rest
-    item_bound (States ls p) w rest = with_labels ls w.slots (behind_plain ctx p w).slots (plain_labels p rest) rest (plain_longest ctx.word p) (plain_bound p w rest)
+    item_bound (States ls p) w rest = with_labels ls w.slots (behind_plain ctx p w).slots (plain_labels p rest) rest (plain_longest ctx.word p)
+        (plain_bound p w rest)
 
     plain_bound : (p : Plain) (w : Walk) (rest : List ℕ) → Bound w.slots (behind_plain ctx p w).slots (plain_labels p rest) rest (plain_longest ctx.word p)
     plain_bound (From first after s) w rest = statement_bound s w rest
 
-    statement_bound : (s : Statement) (w : Walk) (rest : List ℕ) → Bound w.slots (behind_statement ctx s w).slots (statement_labels s rest) rest (statement_longest ctx.word s)
+    statement_bound : (s : Statement) (w : Walk) (rest : List ℕ) → Bound w.slots (behind_statement ctx s w).slots (statement_labels s rest) rest
+        (statement_longest ctx.word s)
     statement_bound (If t b) w rest = body_bound b w rest
     statement_bound (IfElse t b d) w rest =
         let v = behind_body ctx b w in
-        both w.slots v.slots (behind_body ctx d v).slots (body_labels b (body_labels d rest)) (body_labels d rest) rest (body_longest ctx.word b) (body_longest ctx.word d) (body_bound b w (body_labels d rest)) (body_bound d v rest)
+        both w.slots v.slots (behind_body ctx d v).slots (body_labels b (body_labels d rest)) (body_labels d rest) rest (body_longest ctx.word b)
+        (body_longest ctx.word d) (body_bound b w (body_labels d rest)) (body_bound d v rest)
     statement_bound (While t b) w rest = body_bound b w rest
     statement_bound (DoWhile b t) w rest = body_bound b w rest
     statement_bound (For start t u b) w rest =
         let v = behind_start ctx start (enter w) in
-        both w.slots v.slots (behind_body ctx b v).slots (body_labels b rest) (body_labels b rest) rest (start_longest ctx.word start) (body_longest ctx.word b) (starts start (enter w) (body_labels b rest)) (body_bound b v rest)
+        both w.slots v.slots (behind_body ctx b v).slots (body_labels b rest) (body_labels b rest) rest (start_longest ctx.word start)
+        (body_longest ctx.word b) (starts start (enter w) (body_labels b rest)) (body_bound b v rest)
     statement_bound (Switch t b) w rest = body_bound b w rest
     statement_bound (Block b) w rest = body_bound b w rest
     statement_bound Null w rest = none w.slots rest
@@ -116,7 +122,8 @@ module _ (ctx : Context) where
     list_bound NoItem w rest = none w.slots rest
     list_bound (Then x xs) w rest =
         let v = behind_item ctx x w in
-        both w.slots v.slots (behind_items ctx xs v).slots (item_labels x (list_labels xs rest)) (list_labels xs rest) rest (item_longest ctx.word x) (list_longest ctx.word xs) (item_bound x w (list_labels xs rest)) (list_bound xs v rest)
+        both w.slots v.slots (behind_items ctx xs v).slots (item_labels x (list_labels xs rest)) (list_labels xs rest) rest (item_longest ctx.word x)
+        (list_longest ctx.word xs) (item_bound x w (list_labels xs rest)) (list_bound xs v rest)
 
   -- the list of a function, which is in the scope of its parameters
   function_bound : (b : Body) (w : Walk) → Bound w.slots (behind_list ctx b w).slots (body_labels b []) [] (body_longest ctx.word b)
@@ -140,7 +147,8 @@ kept_once P (n ∷ ns) known k h = by (has_label known n) refl h (kept_once P ns
         either true i q = subst P (sym (same_names m n i)) p
         either false i q = k m q
 
-    by : (b : Bool) → has_label known n ≡ b → Each P (cond b (distinct_from (with_number n known) ns) (n ∷ distinct_from (with_number n known) ns)) → ((known : Names ℕ) → AllKnown P known → Each P (distinct_from known ns) → Each P ns) → P n × Each P ns
+    by : (b : Bool) → has_label known n ≡ b → Each P (cond b (distinct_from (with_number n known) ns) (n ∷ distinct_from (with_number n known) ns)) →
+        ((known : Names ℕ) → AllKnown P known → Each P (distinct_from known ns) → Each P ns) → P n × Each P ns
     by true e h r = (k n e, r (with_number n known) (later (has_label known n) (k n e)) h)
     by false e h r = (h.0, r (with_number n known) (later (has_label known n) (h.0)) h.1)
 
@@ -149,11 +157,13 @@ each_word word [] h = tt
 each_word word (at ∷ ats) h = (h.0, each_word word ats h.1)
 
 -- of what is read as a function whose names are short
-pub longest_short : (word : ℕ → List ℕ) (notes : Anchor → List (List ℕ)) (x : Function) (scopes : List Scope) (f : tree.Function) (b : Body) → x.body ≡ Some b → function_of word notes x scopes ≡ f → Each IsShort f.labels → Each (λ (s : Slot). IsShort s.name) (drop f.params f.slots)
+pub longest_short : (word : ℕ → List ℕ) (notes : Anchor → List (List ℕ)) (x : Function) (scopes : List Scope) (f : tree.Function) (b : Body) →
+    x.body ≡ Some b → function_of word notes x scopes ≡ f → Each IsShort f.labels → Each (λ (s : Slot). IsShort s.name) (drop f.params f.slots)
     → body_longest word b ≤ 63
 longest_short word notes x scopes f b e i l v = by x.body e (ap (λ (g : tree.Function). g.labels) i) (ap (λ (g : tree.Function). drop g.params g.slots) i)
   where
-    by : (o : Option Body) → o ≡ Some b → labels_within word o ≡ f.labels → drop (length x.parameters) (behind_within word notes x o (inside word x scopes)).slots ≡ drop f.params f.slots → body_longest word b ≤ 63
+    by : (o : Option Body) → o ≡ Some b → labels_within word o ≡ f.labels →
+        drop (length x.parameters) (behind_within word notes x o (inside word x scopes)).slots ≡ drop f.params f.slots → body_longest word b ≤ 63
     by None e p q = cc
     by (Some d) e p q =
         let ctx = context word notes x d in

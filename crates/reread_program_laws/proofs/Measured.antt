@@ -72,16 +72,19 @@ module _ (word : ℕ → List ℕ) (m : ℕ) where
       let size = parameter_size s.cells in
       let front = type_node x n ∷ word_parts y named in
       let e = join_low word m (word_parts at s.constant) front (word_low word m s.constant at) (type_low word m n x, word_low word m named y) in
-      node_low word m p.Param at (size_end z size) (word_parts at s.constant ++ front ++ size_parts z size) refl (join_low word m (word_parts at s.constant ++ front) (size_parts z size) e (size_low s.cells z))
+      node_low word m p.Param at (size_end z size) (word_parts at s.constant ++ front ++ size_parts z size) refl
+      (join_low word m (word_parts at s.constant ++ front) (size_parts z size) e (size_low s.cells z))
 
   more_low : (ss : List Slot) (at : ℕ) → Low word m (more_parts parameter_end parameter_node at (map parameter_of ss))
   more_low [] at = tt
   more_low (s ∷ ss) at = (leaf_low word m at, (parameter_low s (at + 1), more_low ss (parameter_end (at + 1) (parameter_of s))))
 
   parameters_low : (ss : List Slot) (at : ℕ) → most_in word (parameters_node at (parameters_of ss)) ≤ m
-  parameters_low [] at = node_low word m p.Params at (parameters_end at (parameters_of [])) (parameters_parts at (parameters_of [])) refl (leaf_low word m at, tt)
+  parameters_low [] at = node_low word m p.Params at (parameters_end at (parameters_of [])) (parameters_parts at (parameters_of [])) refl
+      (leaf_low word m at, tt)
   parameters_low (s ∷ ss) at =
-      node_low word m p.Params at (parameters_end at (parameters_of (s ∷ ss))) (parameters_parts at (parameters_of (s ∷ ss))) refl (parameter_low s at, more_low ss (parameter_end at (parameter_of s)))
+      node_low word m p.Params at (parameters_end at (parameters_of (s ∷ ss))) (parameters_parts at (parameters_of (s ∷ ss))) refl
+      (parameter_low s at, more_low ss (parameter_end at (parameter_of s)))
 
   result_low : (o : Option NumberType) (at : ℕ) → most_in word (result_node at o) ≤ m
   result_low None at = leaf_low word m at
@@ -90,12 +93,15 @@ module _ (word : ℕ → List ℕ) (m : ℕ) where
 module _ (word : ℕ → List ℕ) (f : Function) (at : ℕ) where
   -- the function, with this body
   abbrev with_body : Option (List Item) → tops.Function
-  with_body o = written_function word at (Defined f.file_only (option_map type_of f.result) (parameters_of (take f.params f.slots)) (derivation.body_of f.slots o))
+  with_body o = written_function word at (Defined f.file_only (option_map type_of f.result) (parameters_of (take f.params f.slots))
+      (derivation.body_of f.slots o))
 
   abbrev start : ℕ
   start = parameters_end (result_end (word_end at f.file_only) (option_map type_of f.result) + 1 + 1) (parameters_of (take f.params f.slots)) + 1
 
-  counted_few : (body : List Item) (r : List Class) → ItemsPrint f (trees_of body) → Along IsWeighed word at (function_tokens (Defined f.file_only (option_map type_of f.result) (parameters_of (take f.params f.slots)) (derivation.body_of f.slots (Some body))) r)
+  counted_few : (body : List Item) (r : List Class) → ItemsPrint f (trees_of body) →
+      Along IsWeighed word at (function_tokens (Defined f.file_only (option_map type_of f.result) (parameters_of (take f.params f.slots))
+      (derivation.body_of f.slots (Some body))) r)
       → (with_body (Some body)).counted ≤ most_counted (trees_of body)
   counted_few body r h s =
       let m = most_counted (trees_of body) in
@@ -107,13 +113,27 @@ module _ (word : ℕ → List ℕ) (f : Function) (at : ℕ) where
       let y = parameters_end (x + 1 + 1) xs in
       let i = ((result_past IsWeighed word n w _ (word_past IsWeighed word f.file_only c.Static at _ s)).1).1 in
       let j = (parameters_past IsWeighed word xs (x + 1 + 1) _ i).1 in
-      let few = items_low word m items (y + 1 + 1) (c.CloseBlock ∷ r) (items_fit f.slots (trees_of body) NoItems tt) (j.1) (body_few f m (trees_of body) h (omega arith)) in
-      greatest_low word m (function_parts w n xs (Some (Braces items)))
-      (result_low word m n w, (leaf_low word m x, (leaf_low word m (x + 1), (parameters_low word m (take f.params f.slots) (x + 1 + 1), (leaf_low word m y, (block_low word m (y + 1) items few, tt))))))
+      let few = items_low word m items (y + 1 + 1) (c.CloseBlock ∷ r) (items_fit f.slots (trees_of body) NoItems tt) (j.1)
+      (body_few f m (trees_of body) h (omega arith)) in
+      greatest_low word m (function_parts w n xs (Some (Braces items))) (
+        result_low word m n w,
+        (
+          leaf_low word m x,
+          (
+            leaf_low word m (x + 1),
+            (
+              parameters_low word m (take f.params f.slots) (x + 1 + 1),
+              (leaf_low word m y, (block_low word m (y + 1) items few, tt)),
+            ),
+          ),
+        ),
+      )
 
   -- it is within its limits, so it is not too tangled
-  untangled : (body : List Item) (r : List Class) (notes : Anchor → List (List ℕ)) (scopes : List kinds.Scope) (n : ℕ × ℕ) → f.body ≡ Some body → IsWithinLimits f n → ItemsPrint f (trees_of body)
-      → Along IsWeighed word at (function_tokens (Defined f.file_only (option_map type_of f.result) (parameters_of (take f.params f.slots)) (derivation.body_of f.slots (Some body))) r) → read.function_of word notes (with_body (Some body)) scopes ≡ f
+  untangled : (body : List Item) (r : List Class) (notes : Anchor → List (List ℕ)) (scopes : List kinds.Scope) (n : ℕ × ℕ) → f.body ≡ Some body →
+      IsWithinLimits f n → ItemsPrint f (trees_of body)
+      → Along IsWeighed word at (function_tokens (Defined f.file_only (option_map type_of f.result) (parameters_of (take f.params f.slots))
+      (derivation.body_of f.slots (Some body))) r) → read.function_of word notes (with_body (Some body)) scopes ≡ f
       → is_tangled (measures word (with_body (Some body)) (written_block start (items_of f.slots (trees_of body) NoItems)) n) ≡ false
   untangled body r notes scopes n e l h s i =
       let x = with_body (Some body) in
@@ -125,14 +145,18 @@ module _ (word : ℕ → List ℕ) (f : Function) (at : ℕ) where
       let counts = subst (λ a. most_counted a + 6 * n.1 ≤ 400) same l.counted in
       let long = longest_short word notes x scopes f b refl i l.labels l.variables in
       or_from (nat_lt 400 (body_depth b + 3 * n.0) || nat_lt 400 (x.counted + 6 * n.1)) (nat_lt 63 (body_longest word b))
-      (or_from (nat_lt 400 (body_depth b + 3 * n.0)) (nat_lt 400 (x.counted + 6 * n.1)) (le-ltb 400 (body_depth b + 3 * n.0) (omega (arith, deep, depths))) (le-ltb 400 (x.counted + 6 * n.1) (omega (arith, many, counts))))
+      (or_from (nat_lt 400 (body_depth b + 3 * n.0)) (nat_lt 400 (x.counted + 6 * n.1))
+      (le-ltb 400 (body_depth b + 3 * n.0) (omega (arith, deep, depths))) (le-ltb 400 (x.counted + 6 * n.1) (omega (arith, many, counts))))
       (le-ltb 63 (body_longest word b) long)
 
-module _ (counts : limits.FlatCounts) (ts : List Top) (file : File) (tokens : List Spelling) (words : AreWords file.word tokens) (same : AreCounts file.flat counts) where
-  function_measured : (f : Function) (at : ℕ) (r : List Class) → IsUntangled counts f → MaybeBody f f.body → Along IsWeighed file.word at (function_tokens (function_of f) r) → IsReadBack counts ts file.word tokens words f at → IsMeasured file at f
+module _ (counts : limits.FlatCounts) (ts : List Top) (file : File) (tokens : List Spelling) (words : AreWords file.word tokens)
+    (same : AreCounts file.flat counts) where
+  function_measured : (f : Function) (at : ℕ) (r : List Class) → IsUntangled counts f → MaybeBody f f.body →
+      Along IsWeighed file.word at (function_tokens (function_of f) r) → IsReadBack counts ts file.word tokens words f at → IsMeasured file at f
   function_measured f at r u h s g = λ vs. by f.body refl h s (g.function) vs
     where
-      by : (o : Option (List Item)) → f.body ≡ o → MaybeBody f o → Along IsWeighed file.word at (function_tokens (Defined f.file_only (option_map type_of f.result) (parameters_of (take f.params f.slots)) (derivation.body_of f.slots o)) r)
+      by : (o : Option (List Item)) → f.body ≡ o → MaybeBody f o → Along IsWeighed file.word at
+          (function_tokens (Defined f.file_only (option_map type_of f.result) (parameters_of (take f.params f.slots)) (derivation.body_of f.slots o)) r)
           → read.function_of file.word g.notes (with_body file.word f at o) g.scopes ≡ f → (vs : Faults)
           → measured file.flat file.word (with_body file.word f at o) (written_function_body (start file.word f at) (derivation.body_of f.slots o)) o vs ≡ vs
       by None e h s i vs = refl
@@ -146,18 +170,25 @@ module _ (counts : limits.FlatCounts) (ts : List Top) (file : File) (tokens : Li
         where
           counted : (o : Option (ℕ × ℕ)) → IfSome o (IsWithinLimits f)
               → (elim o as (λ _. Faults) [
-                | Some n ↦ fault_if (is_tangled (measures file.word (with_body file.word f at (Some body)) (written_block (start file.word f at) (items_of f.slots (trees_of body) NoItems)) n)) (with_body file.word f at (Some body)).name 39 vs
+                | Some n ↦ fault_if (is_tangled (measures file.word (with_body file.word f at (Some body))
+                    (written_block (start file.word f at) (items_of f.slots (trees_of body) NoItems)) n)) (with_body file.word f at (Some body)).name 39 vs
                 | None ↦ vs
               ]) ≡ vs
           counted None l = refl
-          counted (Some n) l = ap (λ z. fault_if z (with_body file.word f at (Some body)).name 39 vs) (untangled file.word f at body r g.notes g.scopes n e l h.items s i)
+          counted (Some n) l = ap (λ z. fault_if z (with_body file.word f at (Some body)).name 39 vs)
+              (untangled file.word f at body r g.notes g.scopes n e l h.items s i)
 
-  pub all_measured : (xs : List Top) (at : ℕ) → TopsPrint xs → Each (IsResolvedTop counts ts) xs → Along IsWeighed file.word at (file_tokens (tops_of xs) (c.End ∷ [])) → AllReadBack counts ts file.word tokens words at xs → AreMeasured file at xs
+  pub all_measured : (xs : List Top) (at : ℕ) → TopsPrint xs → Each (IsResolvedTop counts ts) xs →
+      Along IsWeighed file.word at (file_tokens (tops_of xs) (c.End ∷ [])) → AllReadBack counts ts file.word tokens words at xs → AreMeasured file at xs
   all_measured [] at h r s g = tt
   all_measured (T.Note bytes ∷ xs) at h r s g = all_measured xs at h.1 r.1 s g
   all_measured (T.Include bytes ∷ xs) at h r s g = all_measured xs (at + 1) h.1 r.1 (s.1) g
   all_measured (T.Enum [] ∷ xs) at h r s g = absurd h.0
-  all_measured (T.Enum (x ∷ es) ∷ xs) at h r s g = all_measured xs (enumeration_end at (enumeration_of x es)) h.1 r.1 (top_past IsWeighed file.word (OfEnum (enumeration_of x es)) at _ s) g
-  all_measured (T.Global v ∷ xs) at h r s g = all_measured xs (declaration_end at (global_of v)) h.1 r.1 (top_past IsWeighed file.word (OfDeclaration (global_of v)) at _ s) g
-  all_measured (T.Function f ∷ xs) at h r s g =
-      (function_measured f at (file_tokens (tops_of xs) (c.End ∷ [])) (r.0).untangled (h.0).body s (g.0), all_measured xs (function_end at (function_of f)) h.1 r.1 (top_past IsWeighed file.word (OfFunction (function_of f)) at _ s) g.1)
+  all_measured (T.Enum (x ∷ es) ∷ xs) at h r s g = all_measured xs (enumeration_end at (enumeration_of x es)) h.1 r.1
+      (top_past IsWeighed file.word (OfEnum (enumeration_of x es)) at _ s) g
+  all_measured (T.Global v ∷ xs) at h r s g = all_measured xs (declaration_end at (global_of v)) h.1 r.1
+      (top_past IsWeighed file.word (OfDeclaration (global_of v)) at _ s) g
+  all_measured (T.Function f ∷ xs) at h r s g = (
+    function_measured f at (file_tokens (tops_of xs) (c.End ∷ [])) (r.0).untangled (h.0).body s (g.0),
+    all_measured xs (function_end at (function_of f)) h.1 r.1 (top_past IsWeighed file.word (OfFunction (function_of f)) at _ s) g.1,
+  )

@@ -55,4 +55,5 @@ module _ (p : Program) (h : IsPrintable p) where
       let back = printed_reads_back p h in
       let r = tops_told word (place_in file) count p.tops [] 0 (λ t u. refl) k all_counted in
       r.holds (notes_of (text_of p) tokens comments file)
-      (λ a i. notes_chosen (text_of p) tokens file count a comments refl (comments_numbered (printed_pieces p) (text_of p) (back.spells)) ∙ ap (λ n. chosen a (placed_by (place_in file) count n)) (back.notes))
+      (λ a i. notes_chosen (text_of p) tokens file count a comments refl (comments_numbered (printed_pieces p) (text_of p) (back.spells)) ∙
+      ap (λ n. chosen a (placed_by (place_in file) count n)) (back.notes))

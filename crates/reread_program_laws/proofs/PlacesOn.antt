@@ -36,12 +36,14 @@ front slots at Nil rest = rest
 front slots at (Then (t.Note bytes) xs) rest = front slots at xs rest
 front slots at (Then x xs) rest = s.Then (source_of slots at x) (front slots (item_end slots at x) xs rest)
 
-pub written_front : (slots : List Slot) (xs : Forest) (at : ℕ) (others : g.Items) → written_items at (items_of slots xs others) ≡ front slots at xs (written_items (list_end slots at xs) others)
+pub written_front : (slots : List Slot) (xs : Forest) (at : ℕ) (others : g.Items) →
+    written_items at (items_of slots xs others) ≡ front slots at xs (written_items (list_end slots at xs) others)
 written_front slots Nil at others = refl
 written_front slots (Then (t.Note bytes) xs) at others = written_front slots xs at others
 written_front slots (Then x xs) at others = ap (λ l. s.Then (source_of slots at x) l) (written_front slots xs (item_end slots at x) others)
 
-pub end_front : (slots : List Slot) (xs : Forest) (at : ℕ) (others : g.Items) → items_end at (items_of slots xs others) ≡ items_end (list_end slots at xs) others
+pub end_front : (slots : List Slot) (xs : Forest) (at : ℕ) (others : g.Items) →
+    items_end at (items_of slots xs others) ≡ items_end (list_end slots at xs) others
 end_front slots Nil at others = refl
 end_front slots (Then (t.Note bytes) xs) at others = end_front slots xs at others
 end_front slots (Then x xs) at others = end_front slots xs (item_end slots at x) others
@@ -116,7 +118,8 @@ in_source at t (s.States [] (s.From first after x)) e h = in_plain first after t
 in_source at t (s.States (l ∷ ls) p) e h = absurd e
 in_source at t (s.Declares first after d) e h = absurd e
 
-pub in_braces : (before : Anchor) (first after t : ℕ) (xs : s.Items) → first < t → t < after → body_place before (s.Braces first after xs) t ≡ list_place (AtEnd first) xs t
+pub in_braces : (before : Anchor) (first after t : ℕ) (xs : s.Items) → first < t → t < after →
+    body_place before (s.Braces first after xs) t ≡ list_place (AtEnd first) xs t
 in_braces before first after t xs h k = place_not_most t first _ _ h ∙ place_less t after _ _ k
 
 pub in_lone : (before : Anchor) (first after t : ℕ) (x : s.Item) → first ≤ t → t < after → body_place before (s.Lone first after x) t ≡ item_place x t
@@ -137,13 +140,17 @@ HasLabel cases default = (0 < length cases) ⊎ IsTrue default
 labels_more : (cases : List ExpressionTree) (default : Bool) (at : ℕ) → at ≤ section_labels_end at cases default
 labels_more [] false at = omega arith
 labels_more [] true at = omega arith
-labels_more (x ∷ xs) default at = let y = conditional_end (at + 1) (conditional_of x) + 1 in let u = conditional_reaches (at + 1) (conditional_of x) [] in let v = labels_more xs default y in omega (arith, u, v)
+labels_more (x ∷ xs) default at = let y = conditional_end (at + 1) (conditional_of x) + 1 in let u =
+    conditional_reaches (at + 1) (conditional_of x)
+    [] in let v = labels_more xs default y in omega (arith, u, v)
 
 pub labels_later : (cases : List ExpressionTree) (default : Bool) (at : ℕ) → HasLabel cases default → at < section_labels_end at cases default
 labels_later [] false at (inl h) = absurd (omega (arith, h))
 labels_later [] false at (inr h) = cc
 labels_later [] true at h = omega arith
-labels_later (x ∷ xs) default at h = let y = conditional_end (at + 1) (conditional_of x) + 1 in let u = conditional_reaches (at + 1) (conditional_of x) [] in let v = labels_more xs default y in omega (arith, u, v)
+labels_later (x ∷ xs) default at h = let y = conditional_end (at + 1) (conditional_of x) + 1 in let u =
+    conditional_reaches (at + 1) (conditional_of x)
+    [] in let v = labels_more xs default y in omega (arith, u, v)
 
 module _ (P : ℕ → Anchor) where
   -- the tokens of a range have the places that an item gives them
@@ -162,7 +169,8 @@ module _ (P : ℕ → Anchor) where
   listed_first z at end hi x xs e h l t a b = let k : t < item_after x = omega (arith, b, e) in l t a (omega (arith, b, h)) ∙ place_less t (item_after x) _ _ k
 
   pub listed_rest : (z : Anchor) (at end hi : ℕ) (x : s.Item) (xs : s.Items) → item_after x ≡ end → at ≤ end → Listed z at hi (s.Then x xs) → Listed z end hi xs
-  listed_rest z at end hi x xs e h l t a b = let k : item_after x ≤ t = omega (arith, a, e) in l t (omega (arith, a, h)) b ∙ place_not_less t (item_after x) _ _ k
+  listed_rest z at end hi x xs e h l t a b = let k : item_after x ≤ t = omega (arith, a, e) in
+      l t (omega (arith, a, h)) b ∙ place_not_less t (item_after x) _ _ k
 
   -- behind the labels that are names no label of a section stands
   no_case : (ls : List s.Label) → AreNames ls → has_case ls ≡ false
@@ -174,14 +182,21 @@ module _ (P : ℕ → Anchor) where
   member_is : (switch t : ℕ) (x : s.Item) → IsNamed x → member_place true switch x t ≡ item_place x t
   member_is switch t (s.Declares first after d) h = refl
   member_is switch t (s.States ls p) h =
-      ap (λ b. elim b as (λ _. Anchor) [ true ↦ or_behind (section_place ls ls t) (plain_place p t) | false ↦ or_behind (labels_place ls t) (plain_place p t) ]) (no_case ls h)
+      ap (λ b. elim b as (λ _. Anchor) [
+        | true ↦ or_behind (section_place ls ls t) (plain_place p t)
+        | false ↦ or_behind (labels_place ls t)
+            (plain_place p t)
+      ]) (no_case ls h)
 
-  pub members_first : (switch first at end hi : ℕ) (x : s.Item) (xs : s.Items) → IsNamed x → item_after x ≡ end → end ≤ hi → Members true switch first at hi (s.Then x xs) → On at end x
+  pub members_first : (switch first at end hi : ℕ) (x : s.Item) (xs : s.Items) → IsNamed x → item_after x ≡ end → end ≤ hi →
+      Members true switch first at hi (s.Then x xs) → On at end x
   members_first switch first at end hi x xs n e h l t a b =
       let k : t < item_after x = omega (arith, b, e) in l t a (omega (arith, b, h)) ∙ place_less t (item_after x) _ _ k ∙ member_is switch t x n
 
-  pub members_rest : (switch first at end hi : ℕ) (x : s.Item) (xs : s.Items) → item_after x ≡ end → at ≤ end → Members true switch first at hi (s.Then x xs) → Members true switch first end hi xs
-  members_rest switch first at end hi x xs e h l t a b = let k : item_after x ≤ t = omega (arith, a, e) in l t (omega (arith, a, h)) b ∙ place_not_less t (item_after x) _ _ k
+  pub members_rest : (switch first at end hi : ℕ) (x : s.Item) (xs : s.Items) → item_after x ≡ end → at ≤ end →
+      Members true switch first at hi (s.Then x xs) → Members true switch first end hi xs
+  members_rest switch first at end hi x xs e h l t a b = let k : item_after x ≤ t = omega (arith, a, e) in
+      l t (omega (arith, a, h)) b ∙ place_not_less t (item_after x) _ _ k
 
   -- ---- lists of a tree
 
@@ -195,7 +210,8 @@ module _ (P : ℕ → Anchor) where
   pub no_token : (slots : List Slot) (at : ℕ) (bytes : List ℕ) → OnTree slots at (t.Note bytes)
   no_token slots at bytes k a b = absurd (omega (arith, a, b))
 
-  pub listed_front : (slots : List Slot) (z : Anchor) (hi : ℕ) (rest : s.Items) (xs : Forest) (at : ℕ) → list_end slots at xs ≤ hi → Listed z at hi (front slots at xs rest) → OnList slots at xs × Listed z (list_end slots at xs) hi rest
+  pub listed_front : (slots : List Slot) (z : Anchor) (hi : ℕ) (rest : s.Items) (xs : Forest) (at : ℕ) → list_end slots at xs ≤ hi →
+      Listed z at hi (front slots at xs rest) → OnList slots at xs × Listed z (list_end slots at xs) hi rest
   listed_front slots z hi rest Nil at h l = (tt, l)
   listed_front slots z hi rest (Then (t.Note bytes) xs) at h l = let r = listed_front slots z hi rest xs at h l in ((no_token slots at bytes, r.0), r.1)
   listed_front slots z hi rest (Then x xs) at h l =
@@ -207,10 +223,12 @@ module _ (P : ℕ → Anchor) where
       let r = listed_front slots z hi rest xs e h (listed_rest z at e hi (source_of slots at x) behind a m l) in
       ((listed_first z at e hi (source_of slots at x) behind a (omega (arith, h, k)) l, r.0), r.1)
 
-  pub members_front : (slots : List Slot) (switch first hi : ℕ) (rest : s.Items) (xs : Forest) (at : ℕ) → list_end slots at xs ≤ hi → Members true switch first at hi (front slots at xs rest)
+  pub members_front : (slots : List Slot) (switch first hi : ℕ) (rest : s.Items) (xs : Forest) (at : ℕ) → list_end slots at xs ≤ hi →
+      Members true switch first at hi (front slots at xs rest)
       → OnList slots at xs × Members true switch first (list_end slots at xs) hi rest
   members_front slots switch first hi rest Nil at h l = (tt, l)
-  members_front slots switch first hi rest (Then (t.Note bytes) xs) at h l = let r = members_front slots switch first hi rest xs at h l in ((no_token slots at bytes, r.0), r.1)
+  members_front slots switch first hi rest (Then (t.Note bytes) xs) at h l = let r = members_front slots switch first hi rest xs at h l in
+      ((no_token slots at bytes, r.0), r.1)
   members_front slots switch first hi rest (Then x xs) at h l =
       let e = item_end slots at x in
       let m = item_more slots at x in
@@ -222,7 +240,8 @@ module _ (P : ℕ → Anchor) where
 
   -- ---- the first statement of a section, behind the labels of the section
 
-  has_label : (cases : List ExpressionTree) (default : Bool) (at : ℕ) (ls : List s.Label) → HasLabel cases default → has_case (section_list at cases default ls) ≡ true
+  has_label : (cases : List ExpressionTree) (default : Bool) (at : ℕ) (ls : List s.Label) → HasLabel cases default →
+      has_case (section_list at cases default ls) ≡ true
   has_label [] false at ls (inl h) = absurd (omega (arith, h))
   has_label [] false at ls (inr h) = cc
   has_label [] true at ls h = refl
@@ -231,14 +250,17 @@ module _ (P : ℕ → Anchor) where
   -- the labels of names, in a statement that begins a section or not
   names_place : (all ls : List s.Label) (t : ℕ) → AreNames ls → section_place all ls t ≡ labels_place ls t
   names_place all [] t h = refl
-  names_place all (s.Named at after ∷ ls) t h = ap (λ o. elim (nat_lt t after) as (λ _. Option Anchor) [ true ↦ Some (Before at) | false ↦ o ]) (names_place all ls t h)
+  names_place all (s.Named at after ∷ ls) t h = ap (λ o. elim (nat_lt t after) as (λ _. Option Anchor) [ true ↦ Some (Before at) | false ↦ o ])
+      (names_place all ls t h)
   names_place all (s.Case at after e ∷ ls) t h = absurd h
   names_place all (s.Default at after ∷ ls) t h = absurd h
 
-  skipped : (all : List s.Label) (l : s.Label) (o : Option Anchor) (t : ℕ) → label_after l ≤ t → elim (nat_lt t (label_after l)) as (λ _. Option Anchor) [ true ↦ Some (section_label_place all l) | false ↦ o ] ≡ o
+  skipped : (all : List s.Label) (l : s.Label) (o : Option Anchor) (t : ℕ) → label_after l ≤ t →
+      elim (nat_lt t (label_after l)) as (λ _. Option Anchor) [ true ↦ Some (section_label_place all l) | false ↦ o ] ≡ o
   skipped all l o t h = ap (λ b. elim b as (λ _. Option Anchor) [ true ↦ Some (section_label_place all l) | false ↦ o ]) (le-ltb t (label_after l) h)
 
-  behind_label : (all : List s.Label) (cases : List ExpressionTree) (default : Bool) (at : ℕ) (ls : List s.Label) (t : ℕ) → section_labels_end at cases default ≤ t → section_place all (section_list at cases default ls) t ≡ section_place all ls t
+  behind_label : (all : List s.Label) (cases : List ExpressionTree) (default : Bool) (at : ℕ) (ls : List s.Label) (t : ℕ) →
+      section_labels_end at cases default ≤ t → section_place all (section_list at cases default ls) t ≡ section_place all ls t
   behind_label all [] false at ls t h = refl
   behind_label all [] true at ls t h = skipped all (s.Default at (at + 1 + 1)) (section_place all ls t) t h
   behind_label all (x ∷ xs) default at ls t h =
@@ -247,7 +269,8 @@ module _ (P : ℕ → Anchor) where
       let l = s.Case at y (At (at + 1) (conditional_form (at + 1) (conditional_of x))) in
       skipped all l (section_place all (section_list y xs default ls) t) t (omega (arith, h, m)) ∙ behind_label all xs default y ls t h
 
-  module _ (begun : Bool) (switch first at hi : ℕ) (cases : List ExpressionTree) (default : Bool) (ls : List s.Label) (p : s.Plain) (xs : s.Items) (named : AreNames ls) (label : HasLabel cases default)
+  module _ (begun : Bool) (switch first at hi : ℕ) (cases : List ExpressionTree) (default : Bool) (ls : List s.Label) (p : s.Plain) (xs : s.Items)
+      (named : AreNames ls) (label : HasLabel cases default)
       (h : Members begun switch first at hi (with_labels (section_list at cases default) (s.Then (s.States ls p) xs))) where
     abbrev y : ℕ
     y = section_labels_end at cases default
@@ -270,7 +293,8 @@ module _ (P : ℕ → Anchor) where
     begin_rest end e k t a b =
         let m = labels_more cases default at in
         let more : plain_after p ≤ t = omega (arith, a, e) in
-        h t (omega (arith, m, k, a)) b ∙ place_not_less t (plain_after p) _ _ more ∙ ap (λ z. members_place z switch first xs t) (ap (λ z. begun || z) (has_label cases default at ls label) ∙ or_true begun)
+        h t (omega (arith, m, k, a)) b ∙ place_not_less t (plain_after p) _ _ more ∙
+        ap (λ z. members_place z switch first xs t) (ap (λ z. begun || z) (has_label cases default at ls label) ∙ or_true begun)
       where
         or_true : (z : Bool) → (z || true) ≡ true
         or_true true = refl

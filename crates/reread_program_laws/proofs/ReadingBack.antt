@@ -18,7 +18,8 @@ counts_agree = record { same = λ xs. refl; none = refl }
 printed : OfPrinted (λ counts flat p. reading flat (text_of p) ≡ Ok p)
 printed counts flat e p r t =
     let parses = printed_text_parses p (resolved_laws.printable counts p r t) in
-    ap (of_tokens flat (text_of p)) (parses.scanned) ∙ ap (of_syntax flat (text_of p) (scanned_of (printed_pieces p))) (parses.parsed_so) ∙ back_laws.programs counts flat e p r t
+    ap (of_tokens flat (text_of p)) (parses.scanned) ∙ ap (of_syntax flat (text_of p) (scanned_of (printed_pieces p))) (parses.parsed_so) ∙
+    back_laws.programs counts flat e p r t
 
 pub reading_back_laws : ReadingBackLaws
 reading_back_laws = record { printed = printed; resolved = λ p r t. printed flat_counts counted counts_agree p r t }

@@ -69,7 +69,8 @@ ended_more true h z = omega arith
 ended_more false true z = omega arith
 ended_more false false z = omega arith
 
-end_written : (ends : Bool) (a : Forest) (last : Bool) (z : ℕ) (xs : g.Items) → written_items z (section_end ends a last xs) ≡ end_source ends (has_last a last) z (written_items (ended_at ends (has_last a last) z) xs)
+end_written : (ends : Bool) (a : Forest) (last : Bool) (z : ℕ) (xs : g.Items) →
+    written_items z (section_end ends a last xs) ≡ end_source ends (has_last a last) z (written_items (ended_at ends (has_last a last) z) xs)
 end_written true a last z xs = refl
 end_written false a last z xs = by (has_last a last)
   where
@@ -77,7 +78,8 @@ end_written false a last z xs = by (has_last a last)
     by true = refl
     by false = refl
 
-pub end_reaches : (ends : Bool) (a : Forest) (last : Bool) (z : ℕ) (xs : g.Items) → items_end z (section_end ends a last xs) ≡ items_end (section_ends_at z ends a last) xs
+pub end_reaches : (ends : Bool) (a : Forest) (last : Bool) (z : ℕ) (xs : g.Items) →
+    items_end z (section_end ends a last xs) ≡ items_end (section_ends_at z ends a last) xs
 end_reaches true a last z xs = refl
 end_reaches false a last z xs = by (has_last a last)
   where
@@ -86,7 +88,8 @@ end_reaches false a last z xs = by (has_last a last)
     by false = refl
 
 -- the list begins with a statement, if it isn't bare or a statement stands behind it
-list_stated : (slots : List Slot) (a : Forest) (xs : g.Items) → starts_with_local a ≡ false → (is_bare a ≡ true → BeginsStated xs) → BeginsStated (items_of slots a xs)
+list_stated : (slots : List Slot) (a : Forest) (xs : g.Items) → starts_with_local a ≡ false → (is_bare a ≡ true → BeginsStated xs) →
+    BeginsStated (items_of slots a xs)
 list_stated slots Nil xs l h = h refl
 list_stated slots (Then (t.Note bytes) a) xs l h = list_stated slots a xs l h
 list_stated slots (Then (t.Local k given) a) xs l h = cc
@@ -131,7 +134,8 @@ module _ (P : ℕ → Anchor) (slots : List Slot) (switch first : ℕ) where
   here_is : (z end : ℕ) (x : s.Statement) → z < end → On P z end (s.States [] (s.From z end x)) → P z ≡ Before z
   here_is z end x h o = o z (omega arith) h ∙ place_most z z _ _ (omega arith)
 
-  end_given : (hi : ℕ) (ends h : Bool) (z : ℕ) (rest : s.Items) → ended_at ends h z ≤ hi → Members P true switch first z hi (end_source ends h z rest) → End hi ends h z rest
+  end_given : (hi : ℕ) (ends h : Bool) (z : ℕ) (rest : s.Items) → ended_at ends h z ≤ hi →
+      Members P true switch first z hi (end_source ends h z rest) → End hi ends h z rest
   end_given hi true h z rest k m =
       let i = s.States [] (s.From z (z + 1 + 1) s.Break) in
       record {
@@ -155,11 +159,13 @@ module _ (P : ℕ → Anchor) (slots : List Slot) (switch first : ℕ) where
     abbrev Labelled : s.Items → Type 0
     Labelled xs = Members P begun switch first at hi (with_labels (section_list at cases default) xs)
 
-    end_begins : (ends h : Bool) (rest : s.Items) → is_closed ends h ≡ true → ended_at ends h y ≤ hi → Labelled (end_source ends h y rest) → End hi ends h y rest
+    end_begins : (ends h : Bool) (rest : s.Items) → is_closed ends h ≡ true → ended_at ends h y ≤ hi → Labelled (end_source ends h y rest) →
+        End hi ends h y rest
     end_begins true h rest c k m =
         let p = s.From y (y + 1 + 1) s.Break in
         record {
-          closes = λ e. here_is y (y + 1 + 1) s.Break (omega arith) (begin_first P begun switch first at hi cases default [] p rest tt label m (y + 1 + 1) refl k);
+          closes = λ e. here_is y (y + 1 + 1) s.Break (omega arith)
+              (begin_first P begun switch first at hi cases default [] p rest tt label m (y + 1 + 1) refl k);
           behind = begin_rest P begun switch first at hi cases default [] p rest tt label m (y + 1 + 1) refl (omega arith);
         }
     end_begins false true rest c k m =
@@ -170,10 +176,14 @@ module _ (P : ℕ → Anchor) (slots : List Slot) (switch first : ℕ) where
         }
     end_begins false false rest c k m = cc
 
-    begins_with : (x : Tree) (xs : Forest) (ends h : Bool) (rest : s.Items) → list_end slots (item_end slots y x) xs ≤ hi → ended_at ends h (list_end slots (item_end slots y x) xs) ≤ hi → (p : s.Plain) (ls : List s.Label)
+    begins_with : (x : Tree) (xs : Forest) (ends h : Bool) (rest : s.Items) → list_end slots (item_end slots y x) xs ≤ hi →
+        ended_at ends h (list_end slots (item_end slots y x) xs) ≤ hi → (p : s.Plain) (ls : List s.Label)
         → source_of slots y x ≡ s.States ls p → AreNames ls → item_after (source_of slots y x) ≡ item_end slots y x
-        → Members P begun switch first at hi (with_labels (section_list at cases default) (s.Then (source_of slots y x) (front slots (item_end slots y x) xs (end_source ends h (list_end slots (item_end slots y x) xs) rest))))
-        → (On P y (item_end slots y x) (source_of slots y x) × OnList P slots (item_end slots y x) xs) × End hi ends h (list_end slots (item_end slots y x) xs) rest
+        → Members P begun switch first at hi
+        (with_labels (section_list at cases default)
+        (s.Then (source_of slots y x) (front slots (item_end slots y x) xs (end_source ends h (list_end slots (item_end slots y x) xs) rest))))
+        → (On P y (item_end slots y x) (source_of slots y x) × OnList P slots (item_end slots y x) xs) ×
+        End hi ends h (list_end slots (item_end slots y x) xs) rest
     begins_with x xs ends h rest k e p ls q n a m =
         let z = item_end slots y x in
         let tail = end_source ends h (list_end slots z xs) rest in
@@ -186,14 +196,18 @@ module _ (P : ℕ → Anchor) (slots : List Slot) (switch first : ℕ) where
         let others = members_front P slots switch first hi tail xs z k (begin_rest P begun switch first at hi cases default ls p behind n label l z end more) in
         ((subst (On P y z) (sym q) one, others.0), end_given hi ends h (list_end slots z xs) rest e (others.1))
 
-    list_begins : (a : Forest) (ends h : Bool) (rest : s.Items) → starts_with_local a ≡ false → (is_bare a ≡ true → is_closed ends h ≡ true) → list_end slots y a ≤ hi → ended_at ends h (list_end slots y a) ≤ hi
+    list_begins : (a : Forest) (ends h : Bool) (rest : s.Items) → starts_with_local a ≡ false → (is_bare a ≡ true → is_closed ends h ≡ true) →
+        list_end slots y a ≤ hi → ended_at ends h (list_end slots y a) ≤ hi
         → Labelled (front slots y a (end_source ends h (list_end slots y a) rest)) → OnList P slots y a × End hi ends h (list_end slots y a) rest
     list_begins Nil ends h rest l c k e m = (tt, end_begins ends h rest (c refl) e m)
     list_begins (Then (t.Note bytes) xs) ends h rest l c k e m = let r = list_begins xs ends h rest l c k e m in ((no_token P slots y bytes, r.0), r.1)
     list_begins (Then (t.Local j given) xs) ends h rest l c k e m = cc
-    list_begins (Then (t.If d a Nil) xs) ends h rest l c k e m = begins_with (t.If d a Nil) xs ends h rest k e (s.From y _ _) [] refl tt (source_after slots y (t.If d a Nil) tt) m
-    list_begins (Then (t.If d a (Then b bs)) xs) ends h rest l c k e m = begins_with (t.If d a (Then b bs)) xs ends h rest k e (s.From y _ _) [] refl tt (source_after slots y (t.If d a (Then b bs)) tt) m
-    list_begins (Then (t.Mark j) xs) ends h rest l c k e m = begins_with (t.Mark j) xs ends h rest k e (s.From _ _ _) (s.Named _ _ ∷ []) refl tt (source_after slots y (t.Mark j) tt) m
+    list_begins (Then (t.If d a Nil) xs) ends h rest l c k e m = begins_with (t.If d a Nil) xs ends h rest k e (s.From y _ _) [] refl tt
+        (source_after slots y (t.If d a Nil) tt) m
+    list_begins (Then (t.If d a (Then b bs)) xs) ends h rest l c k e m =
+        begins_with (t.If d a (Then b bs)) xs ends h rest k e (s.From y _ _) [] refl tt (source_after slots y (t.If d a (Then b bs)) tt) m
+    list_begins (Then (t.Mark j) xs) ends h rest l c k e m = begins_with (t.Mark j) xs ends h rest k e (s.From _ _ _) (s.Named _ _ ∷ []) refl tt
+        (source_after slots y (t.Mark j) tt) m
     list_begins (Then x xs) ends h rest l c k e m = begins_with x xs ends h rest k e (s.From y _ _) [] refl tt (source_after slots y x tt) m
 
   -- ---- a section
@@ -236,17 +250,27 @@ module _ (P : ℕ → Anchor) (slots : List Slot) (switch first : ℕ) where
         let w = to true in
         let hi = items_end w rest in
         let tail = end_source ends has z (written_items (ended_at ends has z) rest) in
-        let same = labelled_end cases at default (optional_item true null_statement (items_of slots a closing)) tt ∙ end_front slots a (from + 1) closing ∙ end_reaches ends a (is_last c) z rest in
+        let same = labelled_end cases at default (optional_item true null_statement (items_of slots a closing)) tt ∙
+        end_front slots a (from + 1) closing ∙ end_reaches ends a (is_last c) z rest in
         let text = labelled_written cases at default (optional_item true null_statement (items_of slots a closing)) tt
-        ∙ ap (λ l. with_labels (section_list at cases default) (s.Then (s.States [] (s.From from (from + 1) s.Null)) l)) (written_front slots a (from + 1) closing ∙ ap (front slots (from + 1) a) (end_written ends a (is_last c) z rest)) in
-        let n = subst (λ k. Members P begun switch first at k (with_labels (section_list at cases default) (s.Then (s.States [] (s.From from (from + 1) s.Null)) (front slots (from + 1) a tail)))) same (subst (Members P begun switch first at (items_end at (whole true))) text m) in
+        ∙ ap (λ l. with_labels (section_list at cases default) (s.Then (s.States [] (s.From from (from + 1) s.Null)) l))
+        (written_front slots a (from + 1) closing ∙ ap (front slots (from + 1) a) (end_written ends a (is_last c) z rest)) in
+        let n = subst (λ k. Members P begun switch first at k
+        (with_labels (section_list at cases default) (s.Then (s.States [] (s.From from (from + 1) s.Null)) (front slots (from + 1) a tail))))
+        same (subst (Members P begun switch first at (items_end at (whole true))) text m) in
         let far = items_reach w rest [] in
         let near = ended_more ends has z in
         let here = ends_here ends a (is_last c) z in
         let l = members_front P slots switch first hi tail a (from + 1) (omega (arith, far, near, here))
-        (begin_rest P begun switch first at hi cases default [] (s.From from (from + 1) s.Null) (front slots (from + 1) a tail) tt label n (from + 1) refl (omega arith)) in
+        (begin_rest P begun switch first at hi cases default [] (s.From from (from + 1) s.Null) (front slots (from + 1) a tail) tt label n (from + 1)
+        refl (omega arith)) in
         let q = end_given hi ends has z (written_items (ended_at ends has z) rest) (omega (arith, far, here)) (l.1) in
-        record { list = l.0; closes = q.closes; behind = subst (λ k. Members P true switch first k hi (written_items k rest)) (sym here) q.behind; ends_so = same }
+        record {
+          list = l.0;
+          closes = q.closes;
+          behind = subst (λ k. Members P true switch first k hi (written_items k rest)) (sym here) q.behind;
+          ends_so = same;
+        }
     section_on label kept false e m =
         let z = list_to false in
         let w = to false in
@@ -255,14 +279,22 @@ module _ (P : ℕ → Anchor) (slots : List Slot) (switch first : ℕ) where
         let tail = end_source ends has z (written_items (ended_at ends has z) rest) in
         let same = labelled_end cases at default (items_of slots a closing) stated ∙ end_front slots a from closing ∙ end_reaches ends a (is_last c) z rest in
         let text = labelled_written cases at default (items_of slots a closing) stated
-        ∙ ap (λ l. with_labels (section_list at cases default) l) (written_front slots a from closing ∙ ap (front slots from a) (end_written ends a (is_last c) z rest)) in
-        let n = subst (λ k. Members P begun switch first at k (with_labels (section_list at cases default) (front slots from a tail))) same (subst (Members P begun switch first at (items_end at (whole false))) text m) in
+        ∙ ap (λ l. with_labels (section_list at cases default) l)
+        (written_front slots a from closing ∙ ap (front slots from a) (end_written ends a (is_last c) z rest)) in
+        let n = subst (λ k. Members P begun switch first at k (with_labels (section_list at cases default) (front slots from a tail))) same
+        (subst (Members P begun switch first at (items_end at (whole false))) text m) in
         let far = items_reach w rest [] in
         let near = ended_more ends has z in
         let here = ends_here ends a (is_last c) z in
-        let l = list_begins begun at hi cases default label a ends has (written_items (ended_at ends has z) rest) e (bare_closed a ends c kept) (omega (arith, far, near, here)) (omega (arith, far, here)) n in
+        let l = list_begins begun at hi cases default label a ends has (written_items (ended_at ends has z) rest) e (bare_closed a ends c kept)
+        (omega (arith, far, near, here)) (omega (arith, far, here)) n in
         let q = l.1 in
-        record { list = l.0; closes = q.closes; behind = subst (λ k. Members P true switch first k hi (written_items k rest)) (sym here) q.behind; ends_so = same }
+        record {
+          list = l.0;
+          closes = q.closes;
+          behind = subst (λ k. Members P true switch first k hi (written_items k rest)) (sym here) q.behind;
+          ends_so = same;
+        }
 
     pub section_places : HasLabel cases default → IsKept a ends c → Given (starts_with_local a) → SectionOn (starts_with_local a)
     section_places label kept m = section_on label kept (starts_with_local a) refl m

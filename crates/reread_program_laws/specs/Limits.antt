@@ -12,7 +12,8 @@ use Rattle.reread_parts_laws.specs.Laws.{measured}
 
 -- a function that begins at a token
 abbrev pub IsMeasured : File → ℕ → Function → Type 0
-IsMeasured file at f = (vs : Faults) → measured file.flat file.word (written_function file.word at (function_of f)) (written_function file.word at (function_of f)).body f.body vs ≡ vs
+IsMeasured file at f = (vs : Faults) → measured file.flat file.word (written_function file.word at (function_of f))
+    (written_function file.word at (function_of f)).body f.body vs ≡ vs
 
 abbrev pub AreMeasured : File → ℕ → List Top → Type 0
 AreMeasured file at [] = Unit {0}

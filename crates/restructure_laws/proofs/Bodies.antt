@@ -21,18 +21,22 @@ ends_same (Then Break (Then y a)) = ends_same (Then y a)
 ends_same (Then x Nil) = refl
 ends_same (Then x (Then y a)) = ends_same (Then y a)
 
-give_same : (cases : List ExpressionTree) (default : Bool) (a : Forest) (ends : Bool) (c : Sections) → IsKept a ends c → give cases default a ends c ≡ Section cases default a ends c
+give_same : (cases : List ExpressionTree) (default : Bool) (a : Forest) (ends : Bool) (c : Sections) → IsKept a ends c →
+    give cases default a ends c ≡ Section cases default a ends c
 give_same cases default Nil false NoSection k = refl
 give_same cases default Nil false (Section cases' default' b ends c) k = absurd k
 give_same cases default Nil true c k = refl
 give_same cases default (Then x a) ends c k = refl
 
-put_by : (cases : List ExpressionTree) (default : Bool) (a : Forest) (ends b : Bool) (c : Sections) → last_break a ≡ b → (b ≡ true → ends ≡ true) → IsKept a ends c → put_section cases default a ends c ≡ Section cases default a ends c
+put_by : (cases : List ExpressionTree) (default : Bool) (a : Forest) (ends b : Bool) (c : Sections) → last_break a ≡ b → (b ≡ true → ends ≡ true) →
+    IsKept a ends c → put_section cases default a ends c ≡ Section cases default a ends c
 put_by cases default a true b c e h k = give_same cases default a true c k
 put_by cases default a false true c e h k = absurd (true≢false (sym (h refl)))
-put_by cases default a false false c e h k = ap (λ l. cond l (give cases default (without_last a) true c) (give cases default a false c)) e ∙ give_same cases default a false c k
+put_by cases default a false false c e h k = ap (λ l. cond l (give cases default (without_last a) true c) (give cases default a false c)) e ∙
+    give_same cases default a false c k
 
-put_same : (cases : List ExpressionTree) (default : Bool) (a : Forest) (ends : Bool) (c : Sections) → (ends_with_break a ≡ true → ends ≡ true) → IsKept a ends c → put_section cases default a ends c ≡ Section cases default a ends c
+put_same : (cases : List ExpressionTree) (default : Bool) (a : Forest) (ends : Bool) (c : Sections) → (ends_with_break a ≡ true → ends ≡ true) →
+    IsKept a ends c → put_section cases default a ends c ≡ Section cases default a ends c
 put_same cases default a ends c h k = put_by cases default a ends (last_break a) c refl (λ e. h (ends_same a ∙ e)) k
 
 module _ (f : Function) where
@@ -55,7 +59,8 @@ module _ (f : Function) where
 
     tidy_same_in : (c : Sections) → AreSections c → EverywhereIn P c → tidy_sections c ≡ c
     tidy_same_in NoSection s h = refl
-    tidy_same_in (Section cases default a ends c) s h = (λ i. put_section cases default (tidy_same a h.0 i) ends (tidy_same_in c s.4 h.1 i)) ∙ put_same cases default a ends c s.1 s.2
+    tidy_same_in (Section cases default a ends c) s h = (λ i. put_section cases default (tidy_same a h.0 i) ends (tidy_same_in c s.4 h.1 i)) ∙
+        put_same cases default a ends c s.1 s.2
 
 -- ---- a body without jumps
 

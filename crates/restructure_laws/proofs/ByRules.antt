@@ -46,7 +46,13 @@ in_rule l p q h =
     }
 
 move_rule : (k : MoveKind) (l : ℕ) (p q : Point) → MovesBy k l p q → ByRule k l p
-move_rule Out l p q h = record { rule = Outward; place = p.at; applies = record { outer = h.outer; last = h.last; steps_are = h.steps; applies = h.moves.applies }; kind = refl }
+move_rule Out l p q h = record {
+  rule = Outward;
+  place = p.at;
+  applies =
+      record { outer = h.outer; last = h.last; steps_are = h.steps; applies = h.moves.applies };
+  kind = refl;
+}
 move_rule Lift l p q h = record { rule = LiftOf; place = p.at; applies = record { place = h.place; applies = h.moves.applies }; kind = refl }
 move_rule Inward l p q h = record { rule = InwardOf; place = p.at; applies = in_rule l p q h; kind = refl }
 move_rule _ l p q h = absurd h
@@ -78,7 +84,8 @@ alike Outward _ h = absurd h
 
 -- ---- the kind
 
-module _ (body : List Item) (w : IsWellMade (trees_of body)) (l : ℕ) (at land : Path) (leap : item_at body at.steps at.item ≡ Some (Leap l)) (there : item_at body land.steps land.item ≡ Some (Land l)) where
+module _ (body : List Item) (w : IsWellMade (trees_of body)) (l : ℕ) (at land : Path) (leap : item_at body at.steps at.item ≡ Some (Leap l))
+    (there : item_at body land.steps land.item ≡ Some (Land l)) where
   abbrev the_point : Point
   the_point = record { body = body; at = at }
 
@@ -110,14 +117,18 @@ module _ (body : List Item) (w : IsWellMade (trees_of body)) (l : ℕ) (at land 
 
 -- ---- moves of a report
 
-same_leap : (labels : List (List ℕ)) (m : Move) (body new : List Item) (l : ℕ) → item_at body m.path.steps m.path.item ≡ Some (Leap l) → (h : IsLeapMoved labels m body new) → MovesTo h.to m.kind l (record { body = body; at = m.path }) new
-same_leap labels m body new l e h = subst (λ z. MovesTo h.to m.kind z (record { body = body; at = m.path }) new) (same_label h.label l (item_at body m.path.steps m.path.item) (moved_leap labels m body new h) e) h.moves.moves
+same_leap : (labels : List (List ℕ)) (m : Move) (body new : List Item) (l : ℕ) → item_at body m.path.steps m.path.item ≡ Some (Leap l) →
+    (h : IsLeapMoved labels m body new) → MovesTo h.to m.kind l (record { body = body; at = m.path }) new
+same_leap labels m body new l e h = subst (λ z. MovesTo h.to m.kind z (record { body = body; at = m.path }) new)
+    (same_label h.label l (item_at body m.path.steps m.path.item) (moved_leap labels m body new h) e) h.moves.moves
 
-pub the_kind : (labels : List (List ℕ)) (m : Move) (body new : List Item) (l : ℕ) (land : Path) → IsWellMade (trees_of body) → item_at body m.path.steps m.path.item ≡ Some (Leap l) → item_at body land.steps land.item ≡ Some (Land l)
+pub the_kind : (labels : List (List ℕ)) (m : Move) (body new : List Item) (l : ℕ) (land : Path) → IsWellMade (trees_of body) →
+    item_at body m.path.steps m.path.item ≡ Some (Leap l) → item_at body land.steps land.item ≡ Some (Land l)
     → IsLeapMoved labels m body new → m.kind ≡ kind_of (relation m.path.steps m.path.item land.steps land.item)
 the_kind labels m body new l land w leap there h = kind_is body w l m.path land leap there h.to m.kind new (same_leap labels m body new l leap h)
 
-pub some_made : (labels : List (List ℕ)) (m : Move) (body : List Item) (l : ℕ) (land : Path) → IsWellMade (trees_of body) → item_at body m.path.steps m.path.item ≡ Some (Leap l) → item_at body land.steps land.item ≡ Some (Land l)
+pub some_made : (labels : List (List ℕ)) (m : Move) (body : List Item) (l : ℕ) (land : Path) → IsWellMade (trees_of body) →
+    item_at body m.path.steps m.path.item ≡ Some (Leap l) → item_at body land.steps land.item ≡ Some (Land l)
     → m.kind ≡ kind_of (relation m.path.steps m.path.item land.steps land.item) → slice_get labels l ≡ m.label → CanBeMade labels m body
 some_made labels m body l land w leap there e named =
     let a = made_of body w l m.path land leap there m.kind e in

@@ -39,15 +39,18 @@ module _ (P : ℕ → Type 0) where
   of_either false l o h k = k
 
   of_repeat : (ands ors : List ℕ) (t : TestTree) → TestLabels P t → OfRepeat (repeat ands ors t)
-  of_repeat ands ors (AndOff l t) h = of_either (has l ands || is_off_of l t) l (inside (repeat (ands ++ l ∷ []) ors t)) h.0 (of_inside (repeat (ands ++ l ∷ []) ors t) (of_repeat (ands ++ l ∷ []) ors t h.1))
-  of_repeat ands ors (OrOn l t) h = of_either (has l ors) l (inside (repeat ands (ors ++ l ∷ []) t)) h.0 (of_inside (repeat ands (ors ++ l ∷ []) t) (of_repeat ands (ors ++ l ∷ []) t h.1))
+  of_repeat ands ors (AndOff l t) h = of_either (has l ands || is_off_of l t) l (inside (repeat (ands ++ l ∷ []) ors t)) h.0
+      (of_inside (repeat (ands ++ l ∷ []) ors t) (of_repeat (ands ++ l ∷ []) ors t h.1))
+  of_repeat ands ors (OrOn l t) h = of_either (has l ors) l (inside (repeat ands (ors ++ l ∷ []) t)) h.0
+      (of_inside (repeat ands (ors ++ l ∷ []) t) (of_repeat ands (ors ++ l ∷ []) t h.1))
   of_repeat ands ors (Source e) h = tt
   of_repeat ands ors (On l) h = tt
   of_repeat ands ors (Off l) h = tt
 
   of_pick : (picks : List ℕ) (s : SelectorTree) → SelectorLabels P s → OfRepeat (repeat_pick picks s)
   of_pick picks (Selects e) h = tt
-  of_pick picks (Pick l n s) h = of_either (has l picks) l (inside (repeat_pick (picks ++ l ∷ []) s)) h.0 (of_inside (repeat_pick (picks ++ l ∷ []) s) (of_pick (picks ++ l ∷ []) s h.1))
+  of_pick picks (Pick l n s) h = of_either (has l picks) l (inside (repeat_pick (picks ++ l ∷ []) s)) h.0
+      (of_inside (repeat_pick (picks ++ l ∷ []) s) (of_pick (picks ++ l ∷ []) s h.1))
 
   of_item : (x : Tree) → ItemLabels P x → OfRepeat (repeat_of x)
   of_item (If t a b) h = of_repeat [] [] t h
@@ -154,7 +157,9 @@ module _ (P : ℕ → Type 0) where
         both (own bar i x a) _ (own_labelled bar i x a (self x h.0)) (both (choices_in bar i x) _ (item_labelled bar i x h.0) (list_labelled bar (i + 1) a h.1))
 
     item_labelled : (bar : ℕ → Bool) (i : ℕ) (x : Tree) → EverywhereOf (ItemLabels P) x → AllLabelled (choices_in bar i x)
-    item_labelled bar i (If t a b) h = both (under i B.Then (choices_from bar 0 a)) _ (under_labelled i B.Then (choices_from bar 0 a) (list_labelled bar 0 a h.1)) (under_labelled i B.Else (choices_from bar 0 b) (list_labelled bar 0 b h.2))
+    item_labelled bar i (If t a b) h = both (under i B.Then (choices_from bar 0 a))
+        _ (under_labelled i B.Then (choices_from bar 0 a) (list_labelled bar 0 a h.1))
+        (under_labelled i B.Else (choices_from bar 0 b) (list_labelled bar 0 b h.2))
     item_labelled bar i (While t a) h = under_labelled i B.Body (choices_from bar 0 a) (list_labelled bar 0 a h.1)
     item_labelled bar i (Do a t) h = under_labelled i B.Body (choices_from bar 0 a) (list_labelled bar 0 a h.1)
     item_labelled bar i (For first t u a) h = under_labelled i B.Body (choices_from bar 0 a) (list_labelled bar 0 a h.2)
@@ -176,7 +181,8 @@ module _ (P : ℕ → Type 0) where
     sections_labelled : (bar : ℕ → Bool) (i k : ℕ) (c : Sections) → EverywhereIn (ItemLabels P) c → AllLabelled (choices_of_sections bar i k c)
     sections_labelled bar i k NoSection h = tt
     sections_labelled bar i k (Section cases default a ends c) h =
-        both (under i (B.Section k) (choices_from bar 0 a)) _ (under_labelled i (B.Section k) (choices_from bar 0 a) (list_labelled bar 0 a h.0)) (sections_labelled bar i (k + 1) c h.1)
+        both (under i (B.Section k) (choices_from bar 0 a)) _ (under_labelled i (B.Section k) (choices_from bar 0 a) (list_labelled bar 0 a h.0))
+        (sections_labelled bar i (k + 1) c h.1)
 
   pub one_labelled : (c : Choice) (cs : List Choice) → AllLabelled cs → Among c cs → IsLabelled c
   one_labelled c [] h a = absurd a

@@ -42,7 +42,8 @@ flat_labels f g form w =
     let few = few_labels f.slots (length f.labels) (body_of f) form.labels in
     omega (arith, same, labels, few)
 
-moved_guards : (ns : List (List ℕ)) (f g k : Function) (ms : List Move) → HasForm f → has_jumps (body_of f) ≡ true → IsFlatForm f g → IsMoved g k ms → length ns ≡ length k.labels → HasGuards (most_guards f) k (plain_function ns k)
+moved_guards : (ns : List (List ℕ)) (f g k : Function) (ms : List Move) → HasForm f → has_jumps (body_of f) ≡ true → IsFlatForm f g → IsMoved g k ms →
+    length ns ≡ length k.labels → HasGuards (most_guards f) k (plain_function ns k)
 moved_guards ns f g k ms form jumps w m named =
     let plain = ap (plain_function ns) m.result ∙ plain_flat ns (with_body (converted g) m.new) m.new w.flat in
     let few = plain_laws.few m.new ns in
@@ -78,7 +79,8 @@ module _ (counts : FlatCounts) (tops : List Top) (names : Function → List (Lis
   few_in_top (is_declared f n e) named = no_guards (most_guards f) f (plain_function (names f) f) (ap (λ (j : Function). j.slots) (no_body (names f) f e))
   few_in_top (is_other t n) named = other_guards t (plain_top names t) n
 
-  few_in_tops : {ts us vs : List Top} {ms : List Move} → AllPlaced counts tops ts us vs ms → AllByRecursion (IsTopNamed names) vs → AtEachPlace HasFewGuards ts vs (map (plain_top names) vs)
+  few_in_tops : {ts us vs : List Top} {ms : List Move} → AllPlaced counts tops ts us vs ms → AllByRecursion (IsTopNamed names) vs →
+      AtEachPlace HasFewGuards ts vs (map (plain_top names) vs)
   few_in_tops none_placed named = tt
   few_in_tops (more_placed s r) named = (few_in_top s named.0, few_in_tops r named.1)
 

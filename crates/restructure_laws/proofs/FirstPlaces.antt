@@ -48,14 +48,16 @@ abbrev mutual
   places_in l i k (Section cases default a ends c) = P.under i (B.Section k) (places l 0 a) ++ places_in l i (k + 1) c
 
 -- an item by its layer
-rolled : (l : ℕ) (y : Item-F Item RealSection) (x : Item) → roll-Item y ≡ x → (i : ℕ) → places_of l x i ≡ places_step l (map-Item Item RealSection (ℕ → List Path) (List Path) (places_of l) (section_places l) y) i
+rolled : (l : ℕ) (y : Item-F Item RealSection) (x : Item) → roll-Item y ≡ x → (i : ℕ) →
+    places_of l x i ≡ places_step l (map-Item Item RealSection (ℕ → List Path) (List Path) (places_of l) (section_places l) y) i
 rolled l y x e i = ap (λ (f : ℕ → List Path). f i) (ap (places_of l) (sym e) ∙ fold-roll-Item (ℕ → List Path) (List Path) (places_step l) section_step y)
 
 mutual
   item_places : (l : ℕ) (x : Tree) (i : ℕ) → places_of l (tree_in x) i ≡ places_at l x i
   item_places l (t.Evaluate e) i = rolled l (I.Evaluate (expression_in e)) (tree_in (t.Evaluate e)) (V.rolls-Evaluate (expression_in e)) i
   item_places l (t.Return e) i = rolled l (I.Return (option_map expression_in e)) (tree_in (t.Return e)) (V.rolls-Return (option_map expression_in e)) i
-  item_places l (t.Local k given) i = rolled l (I.Local k (option_map (map expression_in) given)) (tree_in (t.Local k given)) (V.rolls-Local k (option_map (map expression_in) given)) i
+  item_places l (t.Local k given) i = rolled l (I.Local k (option_map (map expression_in) given)) (tree_in (t.Local k given))
+      (V.rolls-Local k (option_map (map expression_in) given)) i
   item_places l (t.Goto m) i = rolled l (I.Goto m) (tree_in (t.Goto m)) (V.rolls-Goto m) i
   item_places l (t.Mark m) i = rolled l (I.Mark m) (tree_in (t.Mark m)) (V.rolls-Mark m) i
   item_places l (t.Arm m e) i = rolled l (I.Arm m (option_map expression_in e)) (tree_in (t.Arm m e)) (V.rolls-Arm m (option_map expression_in e)) i
@@ -68,13 +70,18 @@ mutual
   item_places l (t.If x a b) i =
       rolled l (I.If (test_in x) (forest_in a) (forest_in b)) (tree_in (t.If x a b)) (V.rolls-If (test_in x) (forest_in a) (forest_in b)) i
       ∙ ap₂ (λ ps qs. P.under i B.Then ps ++ P.under i B.Else qs) (list_places l a 0) (list_places l b 0)
-  item_places l (t.While x a) i = rolled l (I.While (test_in x) (forest_in a)) (tree_in (t.While x a)) (V.rolls-While (test_in x) (forest_in a)) i ∙ ap (P.under i B.Body) (list_places l a 0)
-  item_places l (t.Do a x) i = rolled l (I.Do (forest_in a) (test_in x)) (tree_in (t.Do a x)) (V.rolls-Do (forest_in a) (test_in x)) i ∙ ap (P.under i B.Body) (list_places l a 0)
+  item_places l (t.While x a) i = rolled l (I.While (test_in x) (forest_in a)) (tree_in (t.While x a)) (V.rolls-While (test_in x) (forest_in a)) i ∙
+      ap (P.under i B.Body) (list_places l a 0)
+  item_places l (t.Do a x) i = rolled l (I.Do (forest_in a) (test_in x)) (tree_in (t.Do a x)) (V.rolls-Do (forest_in a) (test_in x)) i ∙
+      ap (P.under i B.Body) (list_places l a 0)
   item_places l (t.For a u v d) i =
-      rolled l (I.For (forest_in a) (option_map expression_in u) (option_map expression_in v) (forest_in d)) (tree_in (t.For a u v d)) (V.rolls-For (forest_in a) (option_map expression_in u) (option_map expression_in v) (forest_in d)) i
+      rolled l (I.For (forest_in a) (option_map expression_in u) (option_map expression_in v) (forest_in d)) (tree_in (t.For a u v d))
+      (V.rolls-For (forest_in a) (option_map expression_in u) (option_map expression_in v) (forest_in d)) i
       ∙ ap (P.under i B.Body) (list_places l d 0)
-  item_places l (t.Block a) i = rolled l (I.Block (forest_in a)) (tree_in (t.Block a)) (V.rolls-Block (forest_in a)) i ∙ ap (P.under i B.Body) (list_places l a 0)
-  item_places l (t.Switch s c) i = rolled l (I.Switch (selector_in s) (sections_in c)) (tree_in (t.Switch s c)) (V.rolls-Switch (selector_in s) (sections_in c)) i ∙ all_places l i c 0
+  item_places l (t.Block a) i = rolled l (I.Block (forest_in a)) (tree_in (t.Block a)) (V.rolls-Block (forest_in a)) i ∙
+      ap (P.under i B.Body) (list_places l a 0)
+  item_places l (t.Switch s c) i = rolled l (I.Switch (selector_in s) (sections_in c)) (tree_in (t.Switch s c))
+      (V.rolls-Switch (selector_in s) (sections_in c)) i ∙ all_places l i c 0
 
   list_places : (l : ℕ) (a : Forest) (n : ℕ) → places_from l n (forest_in a) ≡ places l n a
   list_places l Nil n = refl
@@ -84,7 +91,8 @@ mutual
   all_places l i NoSection k = refl
   all_places l i (Section cases default a ends c) k =
       ap₂ (λ ps qs. P.under i (B.Section k) ps ++ qs)
-      (fold-roll-Section (ℕ → List Path) (List Path) (places_step l) section_step (record { cases = map expression_in cases; default = default; list = forest_in a; ends = ends }) ∙ list_places l a 0)
+      (fold-roll-Section (ℕ → List Path) (List Path) (places_step l) section_step
+      (record { cases = map expression_in cases; default = default; list = forest_in a; ends = ends }) ∙ list_places l a 0)
       (all_places l i c (k + 1))
 
 -- ---- lists of choices and of paths
@@ -97,7 +105,8 @@ no_more : (xs ys : List Choice) → xs ++ ys ≡ [] → (xs ≡ []) × (ys ≡ [
 no_more [] ys h = (refl, h)
 no_more (x ∷ xs) ys h = cc
 
-first_under : (i : ℕ) (b : Branch) (cs : List Choice) (c : Choice) → C.first (C.under i b cs) ≡ Some c → (d : Choice) × (C.first cs ≡ Some d) × (c ≡ under_one i b d)
+first_under : (i : ℕ) (b : Branch) (cs : List Choice) (c : Choice) → C.first (C.under i b cs) ≡ Some c →
+    (d : Choice) × (C.first cs ≡ Some d) × (c ≡ under_one i b d)
 first_under i b [] c h = cc
 first_under i b (d ∷ cs) c h = (d, refl, sym (some_same h))
 
@@ -105,7 +114,8 @@ none_under : (i : ℕ) (b : Branch) (cs : List Choice) → C.under i b cs ≡ []
 none_under i b [] h = refl
 none_under i b (c ∷ cs) h = cc
 
-path_under : (i : ℕ) (b : Branch) (ps : List Path) (p : Path) → P.first ps ≡ Some p → P.first (P.under i b ps) ≡ Some (record { steps = record { item = i; branch = b } ∷ p.steps; item = p.item })
+path_under : (i : ℕ) (b : Branch) (ps : List Path) (p : Path) → P.first ps ≡ Some p →
+    P.first (P.under i b ps) ≡ Some (record { steps = record { item = i; branch = b } ∷ p.steps; item = p.item })
 path_under i b [] p h = cc
 path_under i b (q ∷ ps) p h = ap (λ o. option_map (λ (p : Path). record { steps = record { item = i; branch = b } ∷ p.steps; item = p.item }) o) h
 
@@ -141,7 +151,8 @@ module _ (bar : ℕ → Bool) (l : ℕ) (free : bar l ≡ false) where
     none_at n (t.If x a b) rest h k =
         let s = no_more (C.under n B.Then (choices_from bar 0 a)) (C.under n B.Else (choices_from bar 0 b)) k in
         both_none (P.under n B.Then (places l 0 a)) (P.under n B.Else (places l 0 b))
-        (ap (P.under n B.Then) (none 0 a (none_under n B.Then (choices_from bar 0 a) s.0))) (ap (P.under n B.Else) (none 0 b (none_under n B.Else (choices_from bar 0 b) s.1)))
+        (ap (P.under n B.Then) (none 0 a (none_under n B.Then (choices_from bar 0 a) s.0)))
+        (ap (P.under n B.Else) (none 0 b (none_under n B.Else (choices_from bar 0 b) s.1)))
     none_at n (t.While x a) rest h k = ap (P.under n B.Body) (none 0 a (none_under n B.Body (choices_from bar 0 a) k))
     none_at n (t.Do a x) rest h k = ap (P.under n B.Body) (none 0 a (none_under n B.Body (choices_from bar 0 a) k))
     none_at n (t.For a u v d) rest h k = ap (P.under n B.Body) (none 0 d (none_under n B.Body (choices_from bar 0 d) k))
@@ -161,7 +172,8 @@ module _ (bar : ℕ → Bool) (l : ℕ) (free : bar l ≡ false) where
   unread_first n (t.Land m) h = here_first m n (bar m) h
   unread_first n _ h = cc
 
-  own_first : (n : ℕ) (x : Tree) (rest : Forest) (c : Choice) → C.first (own bar n x rest) ≡ Some c → c.kind ≡ Z5 → c.label ≡ Some l → P.first (places_at l x n) ≡ Some c.path
+  own_first : (n : ℕ) (x : Tree) (rest : Forest) (c : Choice) → C.first (own bar n x rest) ≡ Some c → c.kind ≡ Z5 → c.label ≡ Some l →
+      P.first (places_at l x n) ≡ Some c.path
   own_first n x rest c h k e =
       let o = own_is bar n x rest c (in_first (own bar n x rest) c h) in
       elim o.shape [
@@ -178,7 +190,8 @@ module _ (bar : ℕ → Bool) (l : ℕ) (free : bar l ≡ false) where
         ]
       ]
 
-  first_in : (i : ℕ) (b : Branch) (a : Forest) (c : Choice) → ((d : Choice) → C.first (choices_from bar 0 a) ≡ Some d → d.kind ≡ Z5 → d.label ≡ Some l → P.first (places l 0 a) ≡ Some d.path)
+  first_in : (i : ℕ) (b : Branch) (a : Forest) (c : Choice) →
+      ((d : Choice) → C.first (choices_from bar 0 a) ≡ Some d → d.kind ≡ Z5 → d.label ≡ Some l → P.first (places l 0 a) ≡ Some d.path)
       → C.first (C.under i b (choices_from bar 0 a)) ≡ Some c → c.kind ≡ Z5 → c.label ≡ Some l → P.first (P.under i b (places l 0 a)) ≡ Some c.path
   first_in i b a c there h k e =
       let u = first_under i b (choices_from bar 0 a) c h in
@@ -187,7 +200,8 @@ module _ (bar : ℕ → Bool) (l : ℕ) (free : bar l ≡ false) where
       path_under i b (places l 0 a) u.0.path (there u.0 u.1 kind label) ∙ ap Some (sym (ap (λ (c : Choice). c.path) u.2))
 
   mutual
-    first_is : (n : ℕ) (a : Forest) (c : Choice) → C.first (choices_from bar n a) ≡ Some c → c.kind ≡ Z5 → c.label ≡ Some l → P.first (places l n a) ≡ Some c.path
+    first_is : (n : ℕ) (a : Forest) (c : Choice) → C.first (choices_from bar n a) ≡ Some c → c.kind ≡ Z5 → c.label ≡ Some l →
+        P.first (places l n a) ≡ Some c.path
     first_is n Nil c h k e = cc
     first_is n (Then x a) c h k e = elim (first_or (own bar n x a) (choices_in bar n x ++ choices_from bar (n + 1) a) c h) [
       | inl u ↦ first_some (places_at l x n) (places l (n + 1) a) c.path (own_first n x a c u k e)
@@ -197,11 +211,15 @@ module _ (bar : ℕ → Bool) (l : ℕ) (free : bar l ≡ false) where
       ]
     ]
 
-    first_at : (n : ℕ) (x : Tree) (c : Choice) → C.first (choices_in bar n x) ≡ Some c → c.kind ≡ Z5 → c.label ≡ Some l → P.first (places_at l x n) ≡ Some c.path
+    first_at : (n : ℕ) (x : Tree) (c : Choice) → C.first (choices_in bar n x) ≡ Some c → c.kind ≡ Z5 → c.label ≡ Some l →
+        P.first (places_at l x n) ≡ Some c.path
     first_at n (t.If x a b) c h k e = elim (first_or (C.under n B.Then (choices_from bar 0 a)) (C.under n B.Else (choices_from bar 0 b)) c h) [
-      | inl u ↦ first_some (P.under n B.Then (places l 0 a)) (P.under n B.Else (places l 0 b)) c.path (first_in n B.Then a c (λ d h k e. first_is 0 a d h k e) u k e)
+      | inl u ↦ first_some (P.under n B.Then (places l 0 a)) (P.under n B.Else (places l 0 b)) c.path
+          (first_in n B.Then a c (λ d h k e. first_is 0 a d h k e) u k e)
       | inr v ↦
-          first_none (P.under n B.Then (places l 0 a)) (P.under n B.Else (places l 0 b)) (ap (λ ps. P.first (P.under n B.Then ps)) (none 0 a (none_under n B.Then (choices_from bar 0 a) v.0))) ∙ first_in n B.Else b c (λ d h k e. first_is 0 b d h k e) v.1 k e
+          first_none (P.under n B.Then (places l 0 a)) (P.under n B.Else (places l 0 b))
+          (ap (λ ps. P.first (P.under n B.Then ps)) (none 0 a (none_under n B.Then (choices_from bar 0 a) v.0))) ∙
+          first_in n B.Else b c (λ d h k e. first_is 0 b d h k e) v.1 k e
     ]
     first_at n (t.While x a) c h k e = first_in n B.Body a c (λ d h k e. first_is 0 a d h k e) h k e
     first_at n (t.Do a x) c h k e = first_in n B.Body a c (λ d h k e. first_is 0 a d h k e) h k e
@@ -210,14 +228,18 @@ module _ (bar : ℕ → Bool) (l : ℕ) (free : bar l ≡ false) where
     first_at n (t.Switch s d) c h k e = first_among n 0 d c h k e
     first_at n _ c h k e = cc
 
-    first_among : (i j : ℕ) (d : Sections) (c : Choice) → C.first (choices_of_sections bar i j d) ≡ Some c → c.kind ≡ Z5 → c.label ≡ Some l → P.first (places_in l i j d) ≡ Some c.path
+    first_among : (i j : ℕ) (d : Sections) (c : Choice) → C.first (choices_of_sections bar i j d) ≡ Some c → c.kind ≡ Z5 → c.label ≡ Some l →
+        P.first (places_in l i j d) ≡ Some c.path
     first_among i j NoSection c h k e = cc
-    first_among i j (Section cases default a ends d) c h k e = elim (first_or (C.under i (B.Section j) (choices_from bar 0 a)) (choices_of_sections bar i (j + 1) d) c h) [
-      | inl u ↦ first_some (P.under i (B.Section j) (places l 0 a)) (places_in l i (j + 1) d) c.path (first_in i (B.Section j) a c (λ d h k e. first_is 0 a d h k e) u k e)
-      | inr v ↦
-          first_none (P.under i (B.Section j) (places l 0 a)) (places_in l i (j + 1) d) (ap (λ ps. P.first (P.under i (B.Section j) ps)) (none 0 a (none_under i (B.Section j) (choices_from bar 0 a) v.0)))
-          ∙ first_among i (j + 1) d c v.1 k e
-    ]
+    first_among i j (Section cases default a ends d) c h k e = elim
+        (first_or (C.under i (B.Section j) (choices_from bar 0 a)) (choices_of_sections bar i (j + 1) d) c h) [
+          | inl u ↦ first_some (P.under i (B.Section j) (places l 0 a)) (places_in l i (j + 1) d) c.path
+              (first_in i (B.Section j) a c (λ d h k e. first_is 0 a d h k e) u k e)
+          | inr v ↦
+              first_none (P.under i (B.Section j) (places l 0 a)) (places_in l i (j + 1) d)
+              (ap (λ ps. P.first (P.under i (B.Section j) ps)) (none 0 a (none_under i (B.Section j) (choices_from bar 0 a) v.0)))
+              ∙ first_among i (j + 1) d c v.1 k e
+        ]
 
 -- ---- a body
 
@@ -230,7 +252,8 @@ is_free bar l (t.Arm m e) h = guard_free bar m l (bar m) refl h
 is_free bar l (t.Land m) h = guard_free bar m l (bar m) refl h
 is_free bar l _ h = cc
 
-next_free : (body : List Item) (c : Choice) (l : ℕ) → C.first (choices (trees_of body)) ≡ Some c → c.kind ≡ Z5 → c.label ≡ Some l → barred l (trees_of body) ≡ false
+next_free : (body : List Item) (c : Choice) (l : ℕ) → C.first (choices (trees_of body)) ≡ Some c → c.kind ≡ Z5 → c.label ≡ Some l →
+    barred l (trees_of body) ≡ false
 next_free body c l h k e =
     let bar : ℕ → Bool = λ l. barred l (trees_of body) in
     let a = located bar c.path.steps body c refl (in_first (choices (trees_of body)) c h) in

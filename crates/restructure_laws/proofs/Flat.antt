@@ -24,7 +24,8 @@ module _ (used taken : List (List ℕ)) where
       let names = v.2 ∙ sym w.2 in
       λ i. Flat (record { body = body i; names = names i })
 
-  one_form : (f : Function) (o : Option (List Item)) (a b : Form) → IsFormBeside used taken (record f { body = o }) a → IsFormBeside used taken (record f { body = o }) b → a ≡ b
+  one_form : (f : Function) (o : Option (List Item)) (a b : Form) → IsFormBeside used taken (record f { body = o }) a →
+      IsFormBeside used taken (record f { body = o }) b → a ≡ b
   one_form f None a b v w = v ∙ sym w
   one_form f (Some xs) a b v w = one_body (record f { body = Some xs }) xs a b v w
 

@@ -19,5 +19,6 @@ module _ (names file : List (List ℕ)) (counts : FlatCounts) (all : List Top) w
   flat_all fd_none r = ft_none
   flat_all (fd_more w ws) r = ft_more (flat_top w r.0) (flat_all ws r.1)
 
-pub flat_tops : (names file : List (List ℕ)) (counts : FlatCounts) (p : Program) (us : List Top) → IsResolvedWith counts p → FlattenedTops names file p.tops us → FlatTops p.tops us
+pub flat_tops : (names file : List (List ℕ)) (counts : FlatCounts) (p : Program) (us : List Top) → IsResolvedWith counts p →
+    FlattenedTops names file p.tops us → FlatTops p.tops us
 flat_tops names file counts p us r w = flat_all names file counts p.tops w r.tops

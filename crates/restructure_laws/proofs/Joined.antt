@@ -73,8 +73,10 @@ simplified_leapless old new s h = elim s.either [
 ]
 
 -- a simplification leaves none
-pub still_leapless : (name : List ℕ) (labels : List (List ℕ)) (m : Move) (old new : List Item) → leaps (trees_of old) ≡ 0 → IsMadeIn name labels m old new → leaps (trees_of new) ≡ 0
-still_leapless name labels m old new z h = none_counted (trees_of new) (simplified_leapless old new (chosen_simplified h.choice old new h.named.among h.applied) (no_leap (trees_of old) z))
+pub still_leapless : (name : List ℕ) (labels : List (List ℕ)) (m : Move) (old new : List Item) → leaps (trees_of old) ≡ 0 →
+    IsMadeIn name labels m old new → leaps (trees_of new) ≡ 0
+still_leapless name labels m old new z h = none_counted (trees_of new)
+    (simplified_leapless old new (chosen_simplified h.choice old new h.named.among h.applied) (no_leap (trees_of old) z))
 
 -- ---- one move
 
@@ -87,7 +89,8 @@ moved_none Lift l p q h = refl
 moved_none Inward l p q h = refl
 moved_none _ l p q h = absurd h
 
-to_leaps : (to : Option Path) (k : MoveKind) (l : ℕ) (p : Point) (new : List Item) → MovesTo to k l p new → one k + leaps (trees_of new) ≡ leaps (trees_of p.body)
+to_leaps : (to : Option Path) (k : MoveKind) (l : ℕ) (p : Point) (new : List Item) → MovesTo to k l p new →
+    one k + leaps (trees_of new) ≡ leaps (trees_of p.body)
 to_leaps None k l p new h = let e : one k ≡ 1 = ap one h.0 in let f = one_fewer l p new h.1 in omega (arith, e, f)
 to_leaps (Some to) k l p new h =
     let q : Point = record { body = new; at = to } in
@@ -112,7 +115,8 @@ no_join c body h =
       ]
     ]
 
-pub body_leaps : (name : List ℕ) (labels : List (List ℕ)) (m : Move) (old new : List Item) → IsChanged name labels m old new → one m.kind + leaps (trees_of new) ≡ leaps (trees_of old)
+pub body_leaps : (name : List ℕ) (labels : List (List ℕ)) (m : Move) (old new : List Item) → IsChanged name labels m old new →
+    one m.kind + leaps (trees_of new) ≡ leaps (trees_of old)
 body_leaps name labels m old new h = elim h [
   | inl j ↦ to_leaps j.to m.kind j.label (record { body = old; at = m.path }) new j.moves.moves
   | inr z ↦

@@ -38,13 +38,15 @@ use Rattle.restructure_laws.proofs.Placed.{Placed, is_moved, is_left, is_declare
 
 -- ---- simplifications
 
-next_skeleton : (old new : List Item) → IsSimplified old new → Everywhere IsConverted (trees_of old) → Everywhere IsConverted (trees_of new) → skeleton (trees_of new) ≡ skeleton (trees_of old)
+next_skeleton : (old new : List Item) → IsSimplified old new → Everywhere IsConverted (trees_of old) → Everywhere IsConverted (trees_of new) →
+    skeleton (trees_of new) ≡ skeleton (trees_of old)
 next_skeleton old new s h k = elim s.either [
   | inl r ↦ skeleton_laws.simplified (trees_of old) (trees_of new) h k r
   | inr g ↦ ap skeleton g.1 ∙ skeleton_laws.dropped (eqb g.0) (trees_of old) h
 ]
 
-reached_skeleton : {old : List Item} {cs : List Choice} {new : List Item} → Reaches old cs new → IsWellMade (trees_of old) → skeleton (trees_of new) ≡ skeleton (trees_of old)
+reached_skeleton : {old : List Item} {cs : List Choice} {new : List Item} → Reaches old cs new → IsWellMade (trees_of old) →
+    skeleton (trees_of new) ≡ skeleton (trees_of old)
 reached_skeleton none w = refl
 reached_skeleton {old = old} (then {cs = cs} {body = body} {new = new} c r n) w =
     let among = in_first (choices (trees_of body)) c n.next in
@@ -58,7 +60,8 @@ reached_skeleton {old = old} (then {cs = cs} {body = body} {new = new} c r n) w 
 pub start_trees : (g k : Function) (ms : List Move) (m : IsMoved g k ms) → trees_of (converted_list m.body) ≡ convert (body_of g)
 start_trees g k ms m = converted_trees m.body ∙ ap convert (sym (body_is g m.body m.body_is))
 
-pub start_made : (f g k : Function) (ms : List Move) → IsSourceFunction f → IsFlatForm f g → (m : IsMoved g k ms) → IsWellMade (trees_of (converted_list m.body))
+pub start_made : (f g k : Function) (ms : List Move) → IsSourceFunction f → IsFlatForm f g → (m : IsMoved g k ms) →
+    IsWellMade (trees_of (converted_list m.body))
 start_made f g k ms s w m = subst IsWellMade (sym (start_trees g k ms m)) (flat_converted f g s w)
 
 moved_skeleton : (f g k : Function) (ms : List Move) → IsSourceFunction f → IsFlatForm f g → IsMoved g k ms → skeleton (body_of k) ≡ skeleton (flat_form f)

@@ -37,13 +37,15 @@ all_placed : (ms : List (Option ℤ)) → AreDifferent ms → Each (λ m. place_
 all_placed [] h = tt
 all_placed (m ∷ ms) h = (
   at_first (same_number m m) (suc (place_of m ms)) (length ms) h.0,
-  each_map (λ k. place_of k ms < length ms) (λ k. place_of k (m ∷ ms) < length (m ∷ ms)) (λ k i. below_more (same_number k m) (place_of k ms) (length ms) i) ms (all_placed ms h.2),
+  each_map (λ k. place_of k ms < length ms) (λ k. place_of k (m ∷ ms) < length (m ∷ ms))
+      (λ k i. below_more (same_number k m) (place_of k ms) (length ms) i) ms (all_placed ms h.2),
 )
 
 -- ---- the labels of a flat form
 
 -- P holds of each label that the plan makes, of N cases
-module _ (P : ℕ → Type 0) (p : Plan) (N : ℕ) (breaks_have : (k : ℕ) → P (p.break_label k)) (continues_have : (k : ℕ) → P (p.continue_label k)) (defaults_have : (k : ℕ) → P (p.default_label k))
+module _ (P : ℕ → Type 0) (p : Plan) (N : ℕ) (breaks_have : (k : ℕ) → P (p.break_label k)) (continues_have : (k : ℕ) → P (p.continue_label k))
+    (defaults_have : (k : ℕ) → P (p.default_label k))
     (cases_have : (j : ℕ) → j < N → P (p.case_label j)) where
   abbrev H : Tree → Type 0
   H x = Marked P x
@@ -107,7 +109,8 @@ module _ (P : ℕ → Type 0) (p : Plan) (N : ℕ) (breaks_have : (k : ℕ) → 
   end_has true Absent = tt
   end_has false b = tt
 
-  case_marks_have : (names : Names) (es : List ExpressionTree) (default : Bool) → HaveLabels names (section_labels es default) → AreH (case_marks names es default)
+  case_marks_have : (names : Names) (es : List ExpressionTree) (default : Bool) → HaveLabels names (section_labels es default) →
+      AreH (case_marks names es default)
   case_marks_have names [] true h = ((h.0, tt), tt)
   case_marks_have names [] false h = tt
   case_marks_have names (e ∷ es) default h = ((h.0, tt), case_marks_have names es default h.1)
@@ -145,8 +148,10 @@ module _ (P : ℕ → Type 0) (p : Plan) (N : ℕ) (breaks_have : (k : ℕ) → 
   assigned_has k x (Some n) es = cells_have k x 0 es (n - length es)
 
   for_has : (j : Bool) (t u : Option ExpressionTree) (a : Forest) (b e : Aim) → AreH a → Aims b → Aims e → AreH (flat_for j t u a b e)
-  for_has true t u a b e m i k =
-      ((tt, everywhere_join H a (join (mark_of e) (third_items u)) m (everywhere_join H (mark_of e) (third_items u) (marks_have e k) (third_has u))), marks_have b i)
+  for_has true t u a b e m i k = (
+    (tt, everywhere_join H a (join (mark_of e) (third_items u)) m (everywhere_join H (mark_of e) (third_items u) (marks_have e k) (third_has u))),
+    marks_have b i,
+  )
   for_has false t u a b e m i k = ((tt, tt, everywhere_join H a (mark_of e) m (marks_have e k)), marks_have b i)
 
   module _ (k : IntKind) (v : ℕ) (names : Names) where
@@ -185,23 +190,32 @@ module _ (P : ℕ → Type 0) (p : Plan) (N : ℕ) (breaks_have : (k : ℕ) → 
   dissolved_has : (h : Here) (s : SelectorTree) (d : Sections) (ys : Forest) → AreH ys → AreH (dissolved p h s d ys)
   dissolved_has h s d ys y =
       let k = switch_kind s in
-      let names = names_of p h k d in
-      (tt, everywhere_join H (tests_among p.number k h.variable names d) (Then (Goto (otherwise_label p h d)) ys) (tests_among_have k h.variable names d) (tt, y))
+      let names = names_of p h k d in (
+        tt,
+        everywhere_join H (tests_among p.number k h.variable names d) (Then (Goto (otherwise_label p h d)) ys)
+            (tests_among_have k h.variable names d) (tt, y),
+      )
 
   -- ---- the labels of the cases of a scattered switch
 
   labels_by : (h : Here) (k : IntKind) (d : Sections) (es : List (Option ExpressionTree))
-      → Each (λ m. h.case + place_of m (map (case_number k) (cases_among (switch_labels d))) < N) (map (case_number k) (cases_among es)) → HaveLabels (names_of p h k d) es
+      → Each (λ m. h.case + place_of m (map (case_number k) (cases_among (switch_labels d))) < N) (map (case_number k) (cases_among es)) →
+      HaveLabels (names_of p h k d) es
   labels_by h k d [] g = tt
-  labels_by h k d (Some e ∷ es) g = (cases_have (h.case + place_of (case_number k e) (map (case_number k) (cases_among (switch_labels d)))) g.0, labels_by h k d es g.1)
+  labels_by h k d (Some e ∷ es) g = (
+    cases_have (h.case + place_of (case_number k e) (map (case_number k) (cases_among (switch_labels d)))) g.0,
+    labels_by h k d es g.1,
+  )
   labels_by h k d (None ∷ es) g = (defaults_have h.construct, labels_by h k d es g)
 
-  labels_have : (h : Here) (k : IntKind) (d : Sections) → AreDifferent (map (case_number k) (cases_among (switch_labels d))) → h.case + length (cases_among (switch_labels d)) ≤ N
+  labels_have : (h : Here) (k : IntKind) (d : Sections) → AreDifferent (map (case_number k) (cases_among (switch_labels d))) →
+      h.case + length (cases_among (switch_labels d)) ≤ N
       → HaveLabels (names_of p h k d) (switch_labels d)
   labels_have h k d different few =
       let ms = map (case_number k) (cases_among (switch_labels d)) in
       let l = length-map (cases_among (switch_labels d)) (case_number k) in
-      labels_by h k d (switch_labels d) (each_map (λ m. place_of m ms < length ms) (λ m. h.case + place_of m ms < N) (λ m i. omega (arith, i, l, few)) ms (all_placed ms different))
+      labels_by h k d (switch_labels d) (each_map (λ m. place_of m ms < length ms) (λ m. h.case + place_of m ms < N) (λ m i. omega (arith, i, l, few))
+      ms (all_placed ms different))
 
   scattered : (b : Bool) (X : Type 0) → b ≡ true → IfTrue b X → X
   scattered true X e h = h
@@ -218,38 +232,55 @@ module _ (P : ℕ → Type 0) (p : Plan) (N : ℕ) (breaks_have : (k : ℕ) → 
   -- ---- along the flat form
 
   mutual
-    pub flat_has : (h : Here) (b c : Aim) (r : Arrivals) (a : Forest) → Arrive r (arrivals a) → Everywhere F a → h.case + total cases_of a ≤ N → AreH (flat p h b c r a)
+    pub flat_has : (h : Here) (b c : Aim) (r : Arrivals) (a : Forest) → Arrive r (arrivals a) → Everywhere F a → h.case + total cases_of a ≤ N →
+        AreH (flat p h b c r a)
     flat_has h b c r Nil g o n = tt
     flat_has h b c r (Then x xs) g o n =
-        everywhere_join H (flat_item p h b c r x) (flat p (past_item x h) b c r xs) (item_has h b c r x (arrive_left r (arrivals_in x) (arrivals xs) g) o.0 (omega (arith, n)))
+        everywhere_join H (flat_item p h b c r x) (flat p (past_item x h) b c r xs)
+        (item_has h b c r x (arrive_left r (arrivals_in x) (arrivals xs) g) o.0 (omega (arith, n)))
         (flat_has (past_item x h) b c r xs (arrive_right r (arrivals_in x) (arrivals xs) g) o.1 (omega (arith, n)))
 
-    item_has : (h : Here) (b c : Aim) (r : Arrivals) (x : Tree) → Arrive r (arrivals_in x) → EverywhereOf F x → h.case + total_of cases_of x ≤ N → AreH (flat_item p h b c r x)
+    item_has : (h : Here) (b c : Aim) (r : Arrivals) (x : Tree) → Arrive r (arrivals_in x) → EverywhereOf F x → h.case + total_of cases_of x ≤ N →
+        AreH (flat_item p h b c r x)
     item_has h b c r (If t x y) g o n = (
-      (tt, flat_has h b c r x (arrive_left r (arrivals x) (arrivals y) g) o.1 (omega (arith, n)), flat_has (past x h) b c r y (arrive_right r (arrivals x) (arrivals y) g) o.2 (omega (arith, n))),
+      (
+        tt,
+        flat_has h b c r x (arrive_left r (arrivals x) (arrivals y) g) o.1 (omega (arith, n)),
+        flat_has (past x h) b c r y (arrive_right r (arrivals x) (arrivals y) g) o.2 (omega (arith, n)),
+      ),
       tt,
     )
     item_has h b c r (While t a) g o n =
         let B = aim (holds_jump p.live a) (breaks a) (p.break_label h.construct) in
         let C = aim (holds_jump p.live a) (continues a) (p.continue_label h.construct) in
         let i = inside (While t a) h in (
-          (tt, everywhere_join H (flat p i B C r a) (mark_of C) (flat_has i B C r a g o.1 (omega (arith, n))) (marks_have C (aims (holds_jump p.live a) (continues a) (p.continue_label h.construct) (continues_have h.construct)))),
+          (
+            tt,
+            everywhere_join H (flat p i B C r a) (mark_of C) (flat_has i B C r a g o.1 (omega (arith, n)))
+                (marks_have C (aims (holds_jump p.live a) (continues a) (p.continue_label h.construct) (continues_have h.construct))),
+          ),
           marks_have B (aims (holds_jump p.live a) (breaks a) (p.break_label h.construct) (breaks_have h.construct)),
         )
     item_has h b c r (Do a t) g o n =
         let B = aim (holds_jump p.live a) (breaks a) (p.break_label h.construct) in
         let C = aim (holds_jump p.live a) (continues a) (p.continue_label h.construct) in
         let i = inside (Do a t) h in (
-          (tt, everywhere_join H (flat p i B C r a) (mark_of C) (flat_has i B C r a g o.1 (omega (arith, n))) (marks_have C (aims (holds_jump p.live a) (continues a) (p.continue_label h.construct) (continues_have h.construct)))),
+          (
+            tt,
+            everywhere_join H (flat p i B C r a) (mark_of C) (flat_has i B C r a g o.1 (omega (arith, n)))
+                (marks_have C (aims (holds_jump p.live a) (continues a) (p.continue_label h.construct) (continues_have h.construct))),
+          ),
           marks_have B (aims (holds_jump p.live a) (breaks a) (p.break_label h.construct) (breaks_have h.construct)),
         )
     item_has h b c r (For first t u a) g o n =
         let B = aim (holds_jump p.live a) (breaks a) (p.break_label h.construct) in
         let C = aim (holds_jump p.live a) (continues a) (p.continue_label h.construct) in
         let i = inside (For first t u a) h in
-        everywhere_join H (flat p i b c NoArrival first) (flat_for (holds_jump p.live a) t u (flat p (past first i) B C r a) B C) (flat_has i b c NoArrival first tt o.1 (omega (arith, n)))
+        everywhere_join H (flat p i b c NoArrival first) (flat_for (holds_jump p.live a) t u (flat p (past first i) B C r a) B C)
+        (flat_has i b c NoArrival first tt o.1 (omega (arith, n)))
         (for_has (holds_jump p.live a) t u (flat p (past first i) B C r a) B C (flat_has (past first i) B C r a g o.2 (omega (arith, n)))
-        (aims (holds_jump p.live a) (breaks a) (p.break_label h.construct) (breaks_have h.construct)) (aims (holds_jump p.live a) (continues a) (p.continue_label h.construct) (continues_have h.construct)))
+        (aims (holds_jump p.live a) (breaks a) (p.break_label h.construct) (breaks_have h.construct))
+        (aims (holds_jump p.live a) (continues a) (p.continue_label h.construct) (continues_have h.construct)))
     item_has h b c r (Block a) g o n = flat_has h b c r a g o.1 (omega (arith, n))
     item_has h b c r (Local x None) g o n = tt
     item_has h b c r (Local x (Some es)) g o n = assigned_has (entry_or no_slot p.slots x).kind x (entry_or no_slot p.slots x).cells es
@@ -264,11 +295,16 @@ module _ (P : ℕ → Type 0) (p : Plan) (N : ℕ) (breaks_have : (k : ℕ) → 
         let J = is_jumpy_switch p c d in
         let B = aim J (kept_breaks p.live d) (p.break_label h.construct) in
         choose (is_scattered d) (dissolved p h s d (spread p i (scatter_aim p h d) c names d)) (Then (Switch s (flat_sections p i J B c d)) (mark_of B))
-        (λ q. let w = scattered (is_scattered d) ((nones (switch_labels d) ≤ 1) × AreDifferent (map (case_number (switch_kind s)) (cases_among (switch_labels d)))) q o.0.0 in
+        (λ q. let w = scattered (is_scattered d) ((nones (switch_labels d) ≤ 1) ×
+        AreDifferent (map (case_number (switch_kind s)) (cases_among (switch_labels d)))) q o.0.0 in
         dissolved_has h s d (spread p i (scatter_aim p h d) c names d)
         (spread_has i (scatter_aim p h d) c names d (aims_behind (leaves d) (p.break_label h.construct) (breaks_have h.construct))
-        (labels_have h (switch_kind s) d w.1 (few_cases (is_scattered d) h.case (length (cases_among (switch_labels d))) (total_in cases_of d) q n)) o.1 (omega (arith, n))))
-        ((tt, sections_have i J B c d o.1 (omega (arith, n))), marks_have B (aims J (kept_breaks p.live d) (p.break_label h.construct) (breaks_have h.construct)))
+        (labels_have h (switch_kind s) d w.1 (few_cases (is_scattered d) h.case (length (cases_among (switch_labels d))) (total_in cases_of d) q n))
+        o.1 (omega (arith, n)))) (
+          (tt, sections_have i J B c d o.1 (omega (arith, n))),
+          marks_have B
+              (aims J (kept_breaks p.live d) (p.break_label h.construct) (breaks_have h.construct)),
+        )
     item_has h b c r (Evaluate e) g o n = (tt, tt)
     item_has h b c r (Return e) g o n = (tt, tt)
     item_has h b c r (Note bs) g o n = (tt, tt)
@@ -276,15 +312,18 @@ module _ (P : ℕ → Type 0) (p : Plan) (N : ℕ) (breaks_have : (k : ℕ) → 
     item_has h b c r (Leap l) g o n = (tt, tt)
     item_has h b c r (Land l) g o n = (tt, tt)
 
-    last_has : (h : Here) (b c : Aim) (r : Arrivals) (a : Forest) → Arrive r (arrivals a) → Everywhere F a → h.case + total cases_of a ≤ N → AreH (flat_last p h b c r a)
+    last_has : (h : Here) (b c : Aim) (r : Arrivals) (a : Forest) → Arrive r (arrivals a) → Everywhere F a → h.case + total cases_of a ≤ N →
+        AreH (flat_last p h b c r a)
     last_has h b c r Nil g o n = tt
     last_has h b c r (Then x xs) g o n =
         cond_has (is_gone (ending p.live xs)) (flat_last_item p h b c r x) (join (flat_item p h b c r x) (flat_last p (past_item x h) b c r xs))
         (last_item_has h b c r x (arrive_left r (arrivals_in x) (arrivals xs) g) o.0 (omega (arith, n)))
-        (everywhere_join H (flat_item p h b c r x) (flat_last p (past_item x h) b c r xs) (item_has h b c r x (arrive_left r (arrivals_in x) (arrivals xs) g) o.0 (omega (arith, n)))
+        (everywhere_join H (flat_item p h b c r x) (flat_last p (past_item x h) b c r xs)
+        (item_has h b c r x (arrive_left r (arrivals_in x) (arrivals xs) g) o.0 (omega (arith, n)))
         (last_has (past_item x h) b c r xs (arrive_right r (arrivals_in x) (arrivals xs) g) o.1 (omega (arith, n))))
 
-    last_item_has : (h : Here) (b c : Aim) (r : Arrivals) (x : Tree) → Arrive r (arrivals_in x) → EverywhereOf F x → h.case + total_of cases_of x ≤ N → AreH (flat_last_item p h b c r x)
+    last_item_has : (h : Here) (b c : Aim) (r : Arrivals) (x : Tree) → Arrive r (arrivals_in x) → EverywhereOf F x →
+        h.case + total_of cases_of x ≤ N → AreH (flat_last_item p h b c r x)
     last_item_has h b c r (Block a) g o n = last_has h b c r a g o.1 (omega (arith, n))
     last_item_has h b c r (If t x y) g o n = tt
     last_item_has h b c r (While t a) g o n = tt
@@ -304,14 +343,17 @@ module _ (P : ℕ → Type 0) (p : Plan) (N : ℕ) (breaks_have : (k : ℕ) → 
     last_item_has h b c r (Leap l) g o n = tt
     last_item_has h b c r (Land l) g o n = tt
 
-    sections_have : (h : Here) (j : Bool) (b c : Aim) (d : Sections) → EverywhereIn F d → h.case + total_in cases_of d ≤ N → EverywhereIn H (flat_sections p h j b c d)
+    sections_have : (h : Here) (j : Bool) (b c : Aim) (d : Sections) → EverywhereIn F d → h.case + total_in cases_of d ≤ N →
+        EverywhereIn H (flat_sections p h j b c d)
     sections_have h j b c NoSection o n = tt
     sections_have h j b c (Section cases default a ends d) o n = (
-      if_breaks_has (ending p.live a) (flat_last p h b c NoArrival a) (flat p h b c NoArrival a) (last_has h b c NoArrival a tt o.0 (omega (arith, n))) (flat_has h b c NoArrival a tt o.0 (omega (arith, n))),
+      if_breaks_has (ending p.live a) (flat_last p h b c NoArrival a) (flat p h b c NoArrival a)
+          (last_has h b c NoArrival a tt o.0 (omega (arith, n))) (flat_has h b c NoArrival a tt o.0 (omega (arith, n))),
       sections_have (past a h) j b c d o.1 (omega (arith, n)),
     )
 
-    spread_has : (h : Here) (b c : Aim) (names : Names) (d : Sections) → Aims b → HaveLabels names (switch_labels d) → EverywhereIn F d → h.case + total_in cases_of d ≤ N → AreH (spread p h b c names d)
+    spread_has : (h : Here) (b c : Aim) (names : Names) (d : Sections) → Aims b → HaveLabels names (switch_labels d) → EverywhereIn F d →
+        h.case + total_in cases_of d ≤ N → AreH (spread p h b c names d)
     spread_has h b c names NoSection w g o n = marks_have b w
     spread_has h b c names (Section cases default a ends d) w g o n =
         let rest = each_right (λ e. P (names e)) (section_labels cases default) (arrivals a ++ switch_labels d) g in
@@ -319,7 +361,8 @@ module _ (P : ℕ → Type 0) (p : Plan) (N : ℕ) (breaks_have : (k : ℕ) → 
         (case_marks_have names cases default (each_left (λ e. P (names e)) (section_labels cases default) (arrivals a ++ switch_labels d) g))
         (everywhere_join H (flat p h b c (Arrives names) a) (join (end_goto ends b) (spread p (past a h) b c names d))
         (flat_has h b c (Arrives names) a (each_left (λ e. P (names e)) (arrivals a) (switch_labels d) rest) o.0 (omega (arith, n)))
-        (everywhere_join H (end_goto ends b) (spread p (past a h) b c names d) (end_has ends b) (spread_has (past a h) b c names d w (each_right (λ e. P (names e)) (arrivals a) (switch_labels d) rest) o.1 (omega (arith, n)))))
+        (everywhere_join H (end_goto ends b) (spread p (past a h) b c names d) (end_has ends b)
+        (spread_has (past a h) b c names d w (each_right (λ e. P (names e)) (arrivals a) (switch_labels d) rest) o.1 (omega (arith, n)))))
 
 -- ---- the labels of a list
 

@@ -60,20 +60,27 @@ mutual
 mutual
   marks_gathered : (a : Forest) → length (gathered marked_label a) ≡ marks_in_all a
   marks_gathered Nil = refl
-  marks_gathered (Then x a) = let e = length-append (gathered_of marked_label x) (gathered marked_label a) in let i = marks_gathered_of x in let j = marks_gathered a in omega (arith, e, i, j)
+  marks_gathered (Then x a) = let e = length-append (gathered_of marked_label x) (gathered marked_label a) in let i = marks_gathered_of x in let j =
+      marks_gathered a in omega (arith, e, i, j)
 
   marks_gathered_of : (x : Tree) → length (gathered_of marked_label x) ≡ total_of (weight 0 1) x
-  marks_gathered_of (If t a b) = let e = length-append (gathered marked_label a) (gathered marked_label b) in let i = marks_gathered a in let j = marks_gathered b in omega (arith, e, i, j)
+  marks_gathered_of (If t a b) = let e = length-append (gathered marked_label a) (gathered marked_label b) in let i = marks_gathered a in let j =
+      marks_gathered
+      b in omega (arith, e, i, j)
   marks_gathered_of (While t a) = let i = marks_gathered a in omega (arith, i)
   marks_gathered_of (Do a t) = let i = marks_gathered a in omega (arith, i)
-  marks_gathered_of (For first t u a) = let e = length-append (gathered marked_label first) (gathered marked_label a) in let i = marks_gathered first in let j = marks_gathered a in omega (arith, e, i, j)
+  marks_gathered_of (For first t u a) = let e = length-append (gathered marked_label first) (gathered marked_label a) in let i =
+      marks_gathered first in
+      let j = marks_gathered a in omega (arith, e, i, j)
   marks_gathered_of (Switch s d) = let i = marks_gathered_in d in omega (arith, i)
   marks_gathered_of (Block a) = let i = marks_gathered a in omega (arith, i)
   marks_gathered_of _ = refl
 
   marks_gathered_in : (d : Sections) → length (gathered_in marked_label d) ≡ total_in (weight 0 1) d
   marks_gathered_in NoSection = refl
-  marks_gathered_in (Section cases default a ends d) = let e = length-append (gathered marked_label a) (gathered_in marked_label d) in let i = marks_gathered a in let j = marks_gathered_in d in omega (arith, e, i, j)
+  marks_gathered_in (Section cases default a ends d) = let e = length-append (gathered marked_label a) (gathered_in marked_label d) in let i =
+      marks_gathered a in
+      let j = marks_gathered_in d in omega (arith, e, i, j)
 
 numbers_length : (i n : ℕ) → length (numbers_from i n) ≡ n
 numbers_length i zero = refl
@@ -263,7 +270,8 @@ module _ (p : Plan) where
         let e = sections_few i (is_jumpy_switch p c d) B c d in
         let m = few_mark B in
         let q = arrived-none r in
-        let w = switch_few (is_scattered d) (dissolved p h s d y) (Then (Switch s (flat_sections p i (is_jumpy_switch p c d) B c d)) (mark_of B)) (most_in d) (length (switch_labels d)) (omega (arith, o, k, z)) (omega (arith, e, m)) in
+        let w = switch_few (is_scattered d) (dissolved p h s d y) (Then (Switch s (flat_sections p i (is_jumpy_switch p c d) B c d)) (mark_of B))
+        (most_in d) (length (switch_labels d)) (omega (arith, o, k, z)) (omega (arith, e, m)) in
         omega (arith, w, q)
     few_of h b c r (Mark l) = let i = few_flag (p.live l) (p.source l) in omega (arith, i)
     few_of h b c r (Arrival e) = let i = arrival_few r e in omega (arith, i)
@@ -287,7 +295,8 @@ module _ (p : Plan) where
         let k = total-join (weight 0 1) (flat_item p h b c r x) (flat_last p (past_item x h) b c r xs) in
         let l = arrived-append r (arrivals_in x) (arrivals xs) in
         let m = last_few_of h b c r x in
-        choose (is_gone (ending p.live xs)) (flat_last_item p h b c r x) (join (flat_item p h b c r x) (flat_last p (past_item x h) b c r xs)) _ (omega (arith, m, l)) (omega (arith, i, j, k, l))
+        choose (is_gone (ending p.live xs)) (flat_last_item p h b c r x) (join (flat_item p h b c r x) (flat_last p (past_item x h) b c r xs))
+        _ (omega (arith, m, l)) (omega (arith, i, j, k, l))
 
     last_few_of : (h : Here) (b c : Aim) (r : Arrivals) (x : Tree) → marks_in_all (flat_last_item p h b c r x) ≤ most_of x + arrived r (arrivals_in x)
     last_few_of h b c r (Block a) = let i = last_few h b c r a in omega (arith, i)
@@ -319,7 +328,8 @@ module _ (p : Plan) where
         omega (arith, i, j, k, l, m, e, z, u, v)
 
 -- the labels of the source, one for each switch, two for each loop, and those of the cases of scattered switches
-pub few_labels : (slots : List Slot) (n : ℕ) (a : Forest) → gathered marked_label a ≡ numbers_from 0 n → label_count slots n a ≤ n + total switch_of a + 2 * total loop_of a + total scattered_of a
+pub few_labels : (slots : List Slot) (n : ℕ) (a : Forest) → gathered marked_label a ≡ numbers_from 0 n →
+    label_count slots n a ≤ n + total switch_of a + 2 * total loop_of a + total scattered_of a
 few_labels slots n a e =
     let p = coded constant slots n a in
     let i = few p (first_here (length slots)) Stays Stays NoArrival a in

@@ -69,7 +69,8 @@ module _ (n cases : ℕ) where
   sources_stand l h = subst (Stands n cases) (sym (ap (λ z. cond z (OfSource l) (made_label ((l - n) % 4) ((l - n) / 4))) (lt-ltb l n h))) h
 
 -- each label that stands in the flat form is there
-pub codes_stand : (f : Function) (body : Forest) → Everywhere HasOwnCases body → gathered marked_label body ≡ numbers_from 0 (length f.labels) → Each (IsCode (length f.labels) (total cases_of body)) (label_codes f body)
+pub codes_stand : (f : Function) (body : Forest) → Everywhere HasOwnCases body → gathered marked_label body ≡ numbers_from 0 (length f.labels) →
+    Each (IsCode (length f.labels) (total cases_of body)) (label_codes f body)
 codes_stand f body o e =
     let n = length f.labels in
     let N = total cases_of body in
@@ -99,11 +100,16 @@ module _ (labels : List (List ℕ)) (m : Made) (own : (l : ℕ) → l < length l
 
   label_named : (x : Label) (used : List (List ℕ)) → Stands (length labels) (length m.cases) x → IsName (chosen (naming labels m x) used)
   label_named (OfSource l) used h = own l h
-  label_named (OfBreak k) used h = or_fresh (get_or m.breaks k None) (numbered (codes "break") (k + 1)) used (got_or IsNameOrNone m.breaks k None given.breaks tt) (numbered_name (codes "break") (k + 1) refl)
+  label_named (OfBreak k) used h = or_fresh (get_or m.breaks k None) (numbered (codes "break") (k + 1)) used
+      (got_or IsNameOrNone m.breaks k None given.breaks tt) (numbered_name (codes "break") (k + 1) refl)
   label_named (OfContinue k) used h = fresh_name used (numbered (codes "continue") (k + 1)) (numbered_name (codes "continue") (k + 1) refl)
-  label_named (OfDefault k) used h = or_fresh (get_or m.defaults k None) (numbered (codes "default") (k + 1)) used (got_or IsNameOrNone m.defaults k None given.defaults tt) (numbered_name (codes "default") (k + 1) refl)
+  label_named (OfDefault k) used h = or_fresh (get_or m.defaults k None) (numbered (codes "default") (k + 1)) used
+      (got_or IsNameOrNone m.defaults k None given.defaults tt) (numbered_name (codes "default") (k + 1) refl)
   label_named (OfCase j) used h = got IsName m.cases j [] given.cases h
 
   pub labels_have_names : (used : List (List ℕ)) (ks : List ℕ) → Each (IsCode (length labels) (length m.cases)) ks → Each IsName (label_names labels m used ks)
   labels_have_names used [] h = tt
-  labels_have_names used (k ∷ ks) h = (label_named (label_of (length labels) k) used h.0, labels_have_names (used_then (naming labels m (label_of (length labels) k)) used) ks h.1)
+  labels_have_names used (k ∷ ks) h = (
+    label_named (label_of (length labels) k) used h.0,
+    labels_have_names (used_then (naming labels m (label_of (length labels) k)) used) ks h.1,
+  )

@@ -25,21 +25,28 @@ pub record LandPlace (l : ℕ) (body : List Item) : Type 0 where
 module _ (l : ℕ) (body : List Item) (w : IsWellMade (trees_of body)) where
   -- in a list of the body, or deeper
   abbrev Deeper : List Item → Type 0
-  Deeper a = (ss : List Step) (c : List Item) → list_at body ss ≡ Some c → 0 < lands l (trees_of c) → levels l (trees_of c) < levels l (trees_of a) → LandPlace l body
+  Deeper a = (ss : List Step) (c : List Item) → list_at body ss ≡ Some c → 0 < lands l (trees_of c) → levels l (trees_of c) < levels l (trees_of a) →
+      LandPlace l body
 
   at_land : (ss : List Step) (a : List Item) → list_at body ss ≡ Some a → (x : ElementWith l a) → is_land l x.item ≡ true → LandPlace l body
-  at_land ss a e x t = record { path = record { steps = ss; item = x.place }; stands = ap (option_and_then (λ z. slice_get z x.place)) e ∙ x.item_is ∙ ap (λ z. Some z) (land-is l x.item t) }
+  at_land ss a e x t = record {
+    path = record { steps = ss; item = x.place };
+    stands = ap (option_and_then (λ z. slice_get z x.place)) e ∙ x.item_is ∙ ap (λ z. Some z) (land-is l x.item t);
+  }
 
-  in_element : (ss : List Step) (a : List Item) → list_at body ss ≡ Some a → (x : ElementWith l a) → 0 < lands_inside l (tree_of x.item) → Deeper a → LandPlace l body
+  in_element : (ss : List Step) (a : List Item) → list_at body ss ≡ Some a → (x : ElementWith l a) → 0 < lands_inside l (tree_of x.item) → Deeper a →
+      LandPlace l body
   in_element ss a e x h deeper =
       let each = λ (P : Tree → Type 0) (k : Everywhere P (trees_of body)). subst P (tree-out x.item) (holds_at P body ss a x.place x.item e x.item_is k) in
-      let y = layer_way l (out-Item x.item) (subst (λ z. 0 < lands_inside l z) (tree-out x.item) h) (each IsConverted w.converted) (each IsPlainFor w.loops) (each HasSelectorKind w.selectors) (each HasCases w.cases) in
+      let y = layer_way l (out-Item x.item) (subst (λ z. 0 < lands_inside l z) (tree-out x.item) h) (each IsConverted w.converted)
+      (each IsPlainFor w.loops) (each HasSelectorKind w.selectors) (each HasCases w.cases) in
       let step : Step = record { item = x.place; branch = y.branch } in
       let there = list-append body ss (step ∷ []) a e ∙ list_step a step [] x.item y.list x.item_is y.child_is in
       let less = element_total (lands_inside l) a x.place x.item y.branch y.list x.item_is y.child_is in
       deeper (ss ++ step ∷ []) y.list there y.held (omega (arith, less, h))
 
-  by_element : (b : Bool) (ss : List Step) (a : List Item) → list_at body ss ≡ Some a → (x : ElementWith l a) → is_land l x.item ≡ b → Deeper a → LandPlace l body
+  by_element : (b : Bool) (ss : List Step) (a : List Item) → list_at body ss ≡ Some a → (x : ElementWith l a) → is_land l x.item ≡ b → Deeper a →
+      LandPlace l body
   by_element true ss a e x t deeper = at_land ss a e x t
   by_element false ss a e x t deeper =
       let parts = lands-parts l x.item in

@@ -40,18 +40,24 @@ use Rattle.restructure_laws.proofs.ReplayedTops.{start_names, have_names}
 use Rattle.restructure_laws.proofs.MoveNames.{IsTopNamedInText, one_named, all_named}
 
 abbrev replayed : (p q : Program) (ms : List Move) → IsResolved p → IsReplayedWithNames p q ms → IsReplayed p q ms
-replayed p q ms r w = record { flat = w.flat; flattened = named_program_laws.flat (names p) (file_names p) flat_counts p w.flat.tops r w.flattened; moved = w.moved }
+replayed p q ms r w = record {
+  flat = w.flat;
+  flattened = named_program_laws.flat (names p) (file_names p) flat_counts p w.flat.tops r w.flattened;
+  moved = w.moved;
+}
 
 -- ---- the plain form
 
-reads_back : (p q : Program) (ms : List Move) → IsResolved p → IsReplayedWithNames p q ms → All IsTopLeapless q.tops → IsWithinLimits (plain_with (guard_names (names p)) q) → ReadsBack p (plain_with (guard_names (names p)) q)
+reads_back : (p q : Program) (ms : List Move) → IsResolved p → IsReplayedWithNames p q ms → All IsTopLeapless q.tops →
+    IsWithinLimits (plain_with (guard_names (names p)) q) → ReadsBack p (plain_with (guard_names (names p)) q)
 reads_back p q ms r w n within =
     let given = guard_names (names p) in
     let form = plain_with given q in
     let made = replayed p q ms r w in
     let named = All-from_recursion (IsTopNamed given) q.tops (tops_named p q.tops) in
     let is_ready = recursion_from_All (IsTopReady (code_of q) given) q.tops (ready given p q ms (resolved_source flat_counts p r) made n named) in
-    let own = All-from_recursion (IsTopOwn p.tops given) q.tops (tops_own p (code_of q) q.tops is_ready (recursion_from_All (TopHasNames p) q.tops (have_names p q ms r w))) in
+    let own = All-from_recursion (IsTopOwn p.tops given) q.tops
+    (tops_own p (code_of q) q.tops is_ready (recursion_from_All (TopHasNames p) q.tops (have_names p q ms r w))) in
     let right = replayed_laws.whole flat_counts given p q ms r made n named in
     let resolved = plain_resolved given p q ms r made n named own within in
     let printed = resolved_laws.text form right.plain in
@@ -106,7 +112,8 @@ all_both p (t ∷ ts) n h = (named_both p t n.0 h.0, all_both p ts n.1 h.1)
 abbrev program : List Top → Program
 program ts = record { tops = ts }
 
-named_moves : {ts us : List Top} {ms : List Move} → IsSteady (program ts) → All IsTopWellMade ts → AllByRecursion IsTopNamedInText ts → Moves ts ms us → AllByRecursion IsNamed ms
+named_moves : {ts us : List Top} {ms : List Move} → IsSteady (program ts) → All IsTopWellMade ts → AllByRecursion IsTopNamedInText ts →
+    Moves ts ms us → AllByRecursion IsNamed ms
 named_moves s w n none = tt
 named_moves {ts = ts} s w n (more {m = m} {us = us} h r) =
     let next = lawful_laws.steady (program ts) (program us) (m ∷ []) w (more h none) s in
@@ -117,7 +124,8 @@ moves_named p q ms r w =
     let made = replayed p q ms r w in
     let tops = converted_tops w.flat.tops in
     let start = replayed_laws.steady flat_counts p (program tops) [] r (record { flat = w.flat; flattened = made.flattened; moved = none }) in
-    named_moves start.0 (replayed_laws.well_made flat_counts p w.flat.tops r made.flattened) (all_both p tops (named_functions made.flattened r.spelled) (start_names p q ms r w)) w.moved
+    named_moves start.0 (replayed_laws.well_made flat_counts p w.flat.tops r made.flattened)
+    (all_both p tops (named_functions made.flattened r.spelled) (start_names p q ms r w)) w.moved
 
 pub replayed_program_laws : ReplayedProgramLaws
 replayed_program_laws = record { named = have_names; reads_back = reads_back; moves = moves_named }

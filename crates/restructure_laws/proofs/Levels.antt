@@ -39,7 +39,8 @@ within l p ms new w e =
 
 all_within : {body : List Item} {ms : List Kept} {new : List Item} → Derives body ms new → IsWellMade (trees_of body) → AreWithinLevels body ms new
 all_within (ends body e) w = no_leap body e
-all_within (chooses body at l ms ns mid new f e d) w = one_leap body at l ms ns mid new f e (within l (record { body = body; at = at }) ms mid w e) (all_within d (well_made_eliminated l e w))
+all_within (chooses body at l ms ns mid new f e d) w = one_leap body at l ms ns mid new f e (within l (record { body = body; at = at }) ms mid w e)
+    (all_within d (well_made_eliminated l e w))
 
 -- ---- functions
 

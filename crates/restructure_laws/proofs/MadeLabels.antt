@@ -28,7 +28,8 @@ pub record AreLabelNames (m : Made) : Type 0 where
   pub breaks : Each IsNameOrNone m.breaks
 
 case_name : (k i : ℕ) (used : List (List ℕ)) → IsName (fresh (numbered (numbered (codes "case") k) i) used)
-case_name k i used = fresh_name used (numbered (numbered (codes "case") k) i) (numbered_name (numbered (codes "case") k) i (numbered_name (codes "case") k refl).0)
+case_name k i used = fresh_name used (numbered (numbered (codes "case") k) i)
+    (numbered_name (numbered (codes "case") k) i (numbered_name (codes "case") k refl).0)
 
 cases_named : (k i n : ℕ) (g : Given) → AreLabelNames g.made → AreLabelNames (name_cases k i n g).made
 cases_named k i zero g h = h
@@ -42,13 +43,23 @@ default_named : (k : ℕ) (b : Bool) (g : Given) → AreLabelNames g.made → Ar
 default_named k false g h = record { cases = h.cases; defaults = each_append IsNameOrNone g.made.defaults (None ∷ []) h.defaults (tt, tt); breaks = h.breaks }
 default_named k true g h =
     let n = fresh (numbered (codes "default") k) g.used in
-    record { cases = h.cases; defaults = each_append IsNameOrNone g.made.defaults (Some n ∷ []) h.defaults (fresh_name g.used (numbered (codes "default") k) (numbered_name (codes "default") k refl), tt); breaks = h.breaks }
+    record {
+      cases = h.cases;
+      defaults = each_append IsNameOrNone g.made.defaults (Some n ∷ []) h.defaults
+          (fresh_name g.used (numbered (codes "default") k) (numbered_name (codes "default") k refl), tt);
+      breaks = h.breaks;
+    }
 
 break_named : (k : ℕ) (b : Bool) (g : Given) → AreLabelNames g.made → AreLabelNames (name_break k b g).made
 break_named k false g h = record { cases = h.cases; defaults = h.defaults; breaks = each_append IsNameOrNone g.made.breaks (None ∷ []) h.breaks (tt, tt) }
 break_named k true g h =
     let n = fresh (numbered (codes "break") k) g.used in
-    record { cases = h.cases; defaults = h.defaults; breaks = each_append IsNameOrNone g.made.breaks (Some n ∷ []) h.breaks (fresh_name g.used (numbered (codes "break") k) (numbered_name (codes "break") k refl), tt) }
+    record {
+      cases = h.cases;
+      defaults = h.defaults;
+      breaks = each_append IsNameOrNone g.made.breaks (Some n ∷ []) h.breaks
+          (fresh_name g.used (numbered (codes "break") k) (numbered_name (codes "break") k refl), tt);
+    }
 
 construct_named : (k : ℕ) (x : Construct) (g : Given) → AreLabelNames g.made → AreLabelNames (name_construct k x g).made
 construct_named k c.Stays g h = break_named k false (name_default k false g) (default_named k false g h)

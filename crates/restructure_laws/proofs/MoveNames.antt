@@ -52,25 +52,31 @@ leap_kind (Some to) _ l p new h = absurd h
 abbrev Below : ℕ → ℕ → Type 0
 Below n l = l < n
 
-leap_named : (labels : List (List ℕ)) (m : Move) (old new : List Item) → Each IsName labels → Everywhere (ItemLabels (Below (length labels))) (trees_of old) → IsLeapMoved labels m old new → HasLabel (names_label m.kind) m.label
+leap_named : (labels : List (List ℕ)) (m : Move) (old new : List Item) → Each IsName labels →
+    Everywhere (ItemLabels (Below (length labels))) (trees_of old) → IsLeapMoved labels m old new → HasLabel (names_label m.kind) m.label
 leap_named labels m old new names ranged h =
     let s = stands old m.path.steps m.path.item (RealLeap h.label) (moved_leap labels m old new h) in
     let there = holds_at (ItemLabels (Below (length labels))) old m.path.steps s.list m.path.item (RealLeap h.label) s.list_is s.item_is ranged in
     let below : h.label < length labels = subst (ItemLabels (Below (length labels))) (tree-Leap h.label) there in
-    subst (λ b. HasLabel b m.label) (sym (leap_kind h.to m.kind h.label (record { body = old; at = m.path }) new h.moves.moves)) (named_some labels h.label m.label names below h.named)
+    subst (λ b. HasLabel b m.label) (sym (leap_kind h.to m.kind h.label (record { body = old; at = m.path }) new h.moves.moves))
+    (named_some labels h.label m.label names below h.named)
 
 -- ---- a simplification
 
-choice_label : (labels : List (List ℕ)) (b : Bool) (c : Option ℕ) (o : Option (List ℕ)) → Each IsName labels → Labelled (Below (length labels)) b c → option_and_then (slice_get labels) c ≡ o → HasLabel b o
+choice_label : (labels : List (List ℕ)) (b : Bool) (c : Option ℕ) (o : Option (List ℕ)) → Each IsName labels → Labelled (Below (length labels)) b c →
+    option_and_then (slice_get labels) c ≡ o → HasLabel b o
 choice_label labels true (Some l) o names h e = named_some labels l o names h e
 choice_label labels true None o names h e = absurd h
 choice_label labels false c o names h e = sym e ∙ ap (option_and_then (slice_get labels)) h
 
-choice_named : (name : List ℕ) (labels : List (List ℕ)) (m : Move) (old new : List Item) → Each IsName labels → Everywhere (ItemLabels (Below (length labels))) (trees_of old) → IsMadeIn name labels m old new → HasLabel (names_label m.kind) m.label
+choice_named : (name : List ℕ) (labels : List (List ℕ)) (m : Move) (old new : List Item) → Each IsName labels →
+    Everywhere (ItemLabels (Below (length labels))) (trees_of old) → IsMadeIn name labels m old new → HasLabel (names_label m.kind) m.label
 choice_named name labels m old new names ranged h =
     let c = h.choice in
-    let one = one_labelled (Below (length labels)) c (choices (trees_of old)) (list_labelled (Below (length labels)) (λ l. barred l (trees_of old)) 0 (trees_of old) ranged) h.named.among in
-    choice_label labels (names_label m.kind) c.label m.label names (subst (λ k. Labelled (Below (length labels)) (names_label k) c.label) h.named.kind one) h.named.label
+    let one = one_labelled (Below (length labels)) c (choices (trees_of old))
+    (list_labelled (Below (length labels)) (λ l. barred l (trees_of old)) 0 (trees_of old) ranged) h.named.among in
+    choice_label labels (names_label m.kind) c.label m.label names
+    (subst (λ k. Labelled (Below (length labels)) (names_label k) c.label) h.named.kind one) h.named.label
 
 -- ---- a move of a program
 

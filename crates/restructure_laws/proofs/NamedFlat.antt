@@ -82,7 +82,10 @@ slot_among (c ∷ cs) all f = inr (f (c ∷ cs) (itself (c ∷ cs)))
 
 slots_among : (ss : List Slot) (all : List (List ℕ)) → AreAmong (slots_names ss) all → Each (IsNoneOrAmong all) ss
 slots_among [] all f = tt
-slots_among (s ∷ ss) all f = (slot_among s.name all (among_left (given_name s.name) (slots_names ss) all f), slots_among ss all (among_right (given_name s.name) (slots_names ss) all f))
+slots_among (s ∷ ss) all f = (
+  slot_among s.name all (among_left (given_name s.name) (slots_names ss) all f),
+  slots_among ss all (among_right (given_name s.name) (slots_names ss) all f),
+)
 
 own_among : (all : List (List ℕ)) (s : Slot) → IsName s.name × IsNoneOrAmong all s → IsName s.name × (has_name all s.name ≡ true)
 own_among all s (n, inl e) = absurd (true≢false (sym n.0 ∙ ap is_word e))
@@ -94,7 +97,8 @@ with_jumps false n P e h = cc
 
 -- ---- a function of a resolved program
 
-module _ (p : Program) (f : Function) (resolved : IsResolvedFunction flat_counts p.tops f) (spelled : FunctionIsSpelled f) (among : AreAmong (function_names f) (names p)) (few : length (names p) ≤ most_held) where
+module _ (p : Program) (f : Function) (resolved : IsResolvedFunction flat_counts p.tops f) (spelled : FunctionIsSpelled f)
+    (among : AreAmong (function_names f) (names p)) (few : length (names p) ≤ most_held) where
   params : f.params ≤ length f.slots
   params = resolved.form.parameters
 
@@ -102,10 +106,12 @@ module _ (p : Program) (f : Function) (resolved : IsResolvedFunction flat_counts
   slots_there =
       slots_among f.slots (names p)
       (among_left (slots_names f.slots) f.labels (names p)
-      (among_left (slots_names f.slots ++ f.labels) (body_names f.body) (names p) (among_rest f.name (slots_names f.slots ++ f.labels ++ body_names f.body) (names p) among)))
+      (among_left (slots_names f.slots ++ f.labels) (body_names f.body) (names p)
+      (among_rest f.name (slots_names f.slots ++ f.labels ++ body_names f.body) (names p) among)))
 
   -- a function with jumps
-  module _ (old new : List Item) (there : f.body ≡ Some old) (jumps : has_jumps (trees_of old) ≡ true) (trees : trees_of new ≡ flat_body constant f.slots (length f.labels) (trees_of old)) where
+  module _ (old new : List Item) (there : f.body ≡ Some old) (jumps : has_jumps (trees_of old) ≡ true)
+      (trees : trees_of new ≡ flat_body constant f.slots (length f.labels) (trees_of old)) where
     body_spelled : BodyIsSpelled f old
     body_spelled = subst (λ o. IfSome o (BodyIsSpelled f)) there spelled.body
 
@@ -147,7 +153,8 @@ module _ (p : Program) (f : Function) (resolved : IsResolvedFunction flat_counts
       all = rising-members (tops_names p.tops);
       scope = rising-members (tops_name p.tops);
       parameters = each_taken (IsNoneOrAmong (names p)) f.params f.slots slots_there;
-      variables = each_map (λ (s : Slot). IsName s.name × IsNoneOrAmong (names p) s) (λ (s : Slot). IsName s.name × (has_name (names p) s.name ≡ true)) (own_among (names p)) (drop f.params f.slots)
+      variables = each_map (λ (s : Slot). IsName s.name × IsNoneOrAmong (names p) s)
+          (λ (s : Slot). IsName s.name × (has_name (names p) s.name ≡ true)) (own_among (names p)) (drop f.params f.slots)
           (each_both (λ (s : Slot). IsName s.name) (IsNoneOrAmong (names p)) (drop f.params f.slots)
           (slots_named f (trees_of old) body_spelled.items params (ap (gathered declared_slot) (sym same) ∙ resolved.form.slots))
           (each_dropped (IsNoneOrAmong (names p)) f.params f.slots slots_there));
@@ -174,7 +181,9 @@ module _ (p : Program) (f : Function) (resolved : IsResolvedFunction flat_counts
         let form = forms (with_known (names p)) (with_known (file_names p)) f old new there params trees in
         let l = form.labels ∙ ap (label_count f.slots (length f.labels)) (sym (body_is f form.old form.old_body) ∙ same) in
         let m = same_labels f.slots (length f.labels) (trees_of old) in
-        let limits = with_jumps (has_jumps (trees_of old)) (counts_of (measured_form (trees_of old))) (IsWithinLimits f) jumps (subst (λ a. IfSome (cond (has_jumps a) (Some (counts_of (measured_form a))) None) (IsWithinLimits f)) same (subst (λ o. IfSome o (IsWithinLimits f)) (counted_plainly flat_counts p.tops f resolved) resolved.untangled)) in
+        let limits = with_jumps (has_jumps (trees_of old)) (counts_of (measured_form (trees_of old))) (IsWithinLimits f) jumps
+        (subst (λ a. IfSome (cond (has_jumps a) (Some (counts_of (measured_form a))) None) (IsWithinLimits f)) same
+        (subst (λ o. IfSome o (IsWithinLimits f)) (counted_plainly flat_counts p.tops f resolved) resolved.untangled)) in
         let c = limits.counted in
         omega (arith, l, m, c)
 
@@ -189,12 +198,15 @@ module _ (p : Program) (f : Function) (resolved : IsResolvedFunction flat_counts
 
   -- ---- what it is flattened to
 
-  by_body : (o : Option (List Item)) → f.body ≡ o → (form : Form) → IsFormOf (names p) (file_names p) (record f { body = o }) form → (h : Function) → h ≡ applied form f → length h.slots ≤ most_held → h.flat ≡ true → HasNames p h
-  by_body None e form i h w held is_flat = absurd (true≢false (sym is_flat ∙ ap (λ (k : Function). k.flat) (w ∙ ap (λ m. applied m f) i) ∙ resolved.form.unflat))
+  by_body : (o : Option (List Item)) → f.body ≡ o → (form : Form) → IsFormOf (names p) (file_names p) (record f { body = o }) form → (h : Function) →
+      h ≡ applied form f → length h.slots ≤ most_held → h.flat ≡ true → HasNames p h
+  by_body None e form i h w held is_flat = absurd
+      (true≢false (sym is_flat ∙ ap (λ (k : Function). k.flat) (w ∙ ap (λ m. applied m f) i) ∙ resolved.form.unflat))
   by_body (Some body) e Same i h w held is_flat = absurd i
   by_body (Some body) e (Calm new) i h w held is_flat = absurd (true≢false (sym is_flat ∙ ap (λ (k : Function). k.flat) w ∙ resolved.form.unflat))
   by_body (Some body) e (Flat m) i h w held flat =
-      let whole : h ≡ named_flat (names p) (file_names p) f body m.body = w ∙ ap (λ (n : FlatNames). record f { slots = n.slots; labels = n.labels; body = Some m.body; flat = true }) i.2 in
+      let whole : h ≡ named_flat (names p) (file_names p) f body m.body =
+      w ∙ ap (λ (n : FlatNames). record f { slots = n.slots; labels = n.labels; body = Some m.body; flat = true }) i.2 in
       subst (HasNames p) (sym whole) (flat_has_names body m.body e i.0 i.1 (subst (λ (k : Function). length k.slots ≤ most_held) whole held))
 
   pub flattened_has_names : (h : Function) → IsFlattened (names p) (file_names p) f h → length h.slots ≤ most_held → h.flat ≡ true → HasNames p h

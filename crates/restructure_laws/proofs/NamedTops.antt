@@ -44,23 +44,29 @@ module _ (p : Program) where
   other_has (T.Note bytes) n = tt
 
   module _ (few : length (names p) ≤ most_held) where
-    top_has : {t u v : Top} {ms : List Move} → FlattenedTop (names p) (file_names p) t u → MovedTop u v ms → IsResolvedTop flat_counts p.tops t → TopIsSpelled t → AreAmong (top_names t) (names p) → TopHasNames p v
-    top_has (fd_function {f = f} {g = g} w held) (mt_moved flat m) r s a = λ e. subst (HasNames p) (sym m.result) (moved_names g m.new (flattened_has_names p f r s a few g w held flat))
+    top_has : {t u v : Top} {ms : List Move} → FlattenedTop (names p) (file_names p) t u → MovedTop u v ms → IsResolvedTop flat_counts p.tops t →
+        TopIsSpelled t → AreAmong (top_names t) (names p) → TopHasNames p v
+    top_has (fd_function {f = f} {g = g} w held) (mt_moved flat m) r s a =
+        λ e. subst (HasNames p) (sym m.result) (moved_names g m.new (flattened_has_names p f r s a few g w held flat))
     top_has (fd_function w held) (mt_other t unflat) r s a = λ e. absurd (true≢false (sym e ∙ unflat))
     top_has (fd_other t n) (mt_moved flat m) r s a = absurd n
     top_has (fd_other t n) (mt_other u unflat) r s a = other_has t n
 
-    tops_have : {ts us vs : List Top} {ms : List Move} → FlattenedTops (names p) (file_names p) ts us → MovedTops us vs ms → Each (IsResolvedTop flat_counts p.tops) ts → Each TopIsSpelled ts → AreAmong (tops_names ts) (names p)
+    tops_have : {ts us vs : List Top} {ms : List Move} → FlattenedTops (names p) (file_names p) ts us → MovedTops us vs ms →
+        Each (IsResolvedTop flat_counts p.tops) ts → Each TopIsSpelled ts → AreAmong (tops_names ts) (names p)
         → Each (TopHasNames p) vs
     tops_have fd_none mt_none r s a = tt
-    tops_have (fd_more {t = t} {ts = ts} w ws) (mt_more m rest) r s a =
-        (top_has w m r.0 s.0 (among_left (top_names t) (tops_names ts) (names p) a), tops_have ws rest r.1 s.1 (among_right (top_names t) (tops_names ts) (names p) a))
+    tops_have (fd_more {t = t} {ts = ts} w ws) (mt_more m rest) r s a = (
+      top_has w m r.0 s.0 (among_left (top_names t) (tops_names ts) (names p) a),
+      tops_have ws rest r.1 s.1 (among_right (top_names t) (tops_names ts) (names p) a),
+    )
 
 rewritten : (counts : FlatCounts) (p q : Program) (ms : List Move) → IsResolvedWith counts p → IsRewrittenWithNames p q ms → IsRewritten p q ms
 rewritten counts p q ms r w = record { flat = w.flat; flattened = flat_tops (names p) (file_names p) counts p w.flat.tops r w.flattened; moved = w.moved }
 
 have_names : (p q : Program) (ms : List Move) → IsResolved p → IsRewrittenWithNames p q ms → All (TopHasNames p) q.tops
-have_names p q ms r w = All-from_recursion (TopHasNames p) q.tops (tops_have p w.held w.flattened w.moved r.tops r.spelled (λ n h. rising-members (tops_names p.tops) n ∙ h))
+have_names p q ms r w = All-from_recursion (TopHasNames p) q.tops
+    (tops_have p w.held w.flattened w.moved r.tops r.spelled (λ n h. rising-members (tops_names p.tops) n ∙ h))
 
 pub named_program_laws : NamedProgramLaws
 named_program_laws = record {

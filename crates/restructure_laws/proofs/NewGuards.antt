@@ -16,7 +16,8 @@ guards_new used (l ∷ ls) h =
     let g = guard_name l used in
     let e = no_more used (g ∷ []) in (
       fresh_unused used (codes "goto_" ++ l) (omega (arith, h)),
-      new_where_same (with_name used g) (g ∷ used) (named_guards (with_name used g) ls) (λ q. has_name-with_name used g q) (guards_new (with_name used g) ls (omega (arith, h, e))),
+      new_where_same (with_name used g) (g ∷ used) (named_guards (with_name used g) ls) (λ q. has_name-with_name used g q)
+          (guards_new (with_name used g) ls (omega (arith, h, e))),
     )
 
 name_few : (n : List ℕ) → length (given_name n) ≤ 1
@@ -30,7 +31,8 @@ slots_few (s ∷ ss) =
     let i = name_few s.name in
     let e = length-append (given_name s.name) (slots_names ss) in omega (arith, h, i, e)
 
-pub guard_names_new : (ns : List (List ℕ)) (f : Function) → 7 + length ns + length f.slots + length f.labels + length f.labels < 2 ^ 64 → AreNew (ns ++ known_functions ++ own_names f) (guard_names ns f)
+pub guard_names_new : (ns : List (List ℕ)) (f : Function) → 7 + length ns + length f.slots + length f.labels + length f.labels < 2 ^ 64 →
+    AreNew (ns ++ known_functions ++ own_names f) (guard_names ns f)
 guard_names_new ns f h =
     let file = names_used ns in
     let own = own_names f in
@@ -41,4 +43,5 @@ guard_names_new ns f h =
     let e = length-append (slots_names f.slots) f.labels in
     let s = slots_few f.slots in
     new_where_same (file ++ own) (all ++ own) (guard_names ns f) (same_in_file all own)
-    (new_where_same (with_names file own) (file ++ own) (guard_names ns f) (same_beside file own) (guards_new (with_names file own) f.labels (omega (arith, h, a, b, i, e, s))))
+    (new_where_same (with_names file own) (file ++ own) (guard_names ns f) (same_beside file own)
+    (guards_new (with_names file own) f.labels (omega (arith, h, a, b, i, e, s))))

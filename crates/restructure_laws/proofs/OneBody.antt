@@ -51,7 +51,8 @@ leap_at : (to : Option Path) (k : MoveKind) (l : ℕ) (p : Point) (new : List It
 leap_at None k l p new h = h.1.moves.applies.leap
 leap_at (Some to) k l p new h = leap_there k l p (record { body = new; at = to }) h
 
-pub moved_leap : (labels : List (List ℕ)) (m : Move) (old new : List Item) (h : IsLeapMoved labels m old new) → item_at old m.path.steps m.path.item ≡ Some (Leap h.label)
+pub moved_leap : (labels : List (List ℕ)) (m : Move) (old new : List Item) (h : IsLeapMoved labels m old new) →
+    item_at old m.path.steps m.path.item ≡ Some (Leap h.label)
 moved_leap labels m old new h = leap_at h.to m.kind h.label (record { body = old; at = m.path }) new h.moves.moves
 
 -- ---- one move of a Leap
@@ -64,7 +65,8 @@ same_label l m o e f =
 no_join : (l : ℕ) (p q : Point) (k : MoveKind) → k ≡ Join → MovesBy k l p q → ⊥
 no_join l p q k e h = subst (λ z. MovesBy z l p q) e h
 
-one_to : (l : ℕ) (k : MoveKind) (p : Point) (w : IsWellMade (trees_of p.body)) (to uo : Option Path) (new other : List Item) → MovesTo to k l p new → MovesTo uo k l p other → new ≡ other
+one_to : (l : ℕ) (k : MoveKind) (p : Point) (w : IsWellMade (trees_of p.body)) (to uo : Option Path) (new other : List Item) → MovesTo to k l p new →
+    MovesTo uo k l p other → new ≡ other
 one_to l k p w None None new other h g = one_join l p (one_land p.body w l p.at h.1.moves.applies.leap) new other h.1 g.1
 one_to l k p w None (Some uo) new other h g = absurd (no_join l p (record { body = other; at = uo }) k h.0 g)
 one_to l k p w (Some to) None new other h g = absurd (no_join l p (record { body = new; at = to }) k g.0 h)
@@ -74,7 +76,8 @@ one_to l k p w (Some to) (Some uo) new other h g =
     let s = one_move l p (one_land p.body w l p.at (leap_there k l p q h)) k k q r h g in
     ap (λ (z : Point). z.body) s.1
 
-one_leap : (labels : List (List ℕ)) (m : Move) (old new other : List Item) → IsWellMade (trees_of old) → IsLeapMoved labels m old new → IsLeapMoved labels m old other → new ≡ other
+one_leap : (labels : List (List ℕ)) (m : Move) (old new other : List Item) → IsWellMade (trees_of old) → IsLeapMoved labels m old new →
+    IsLeapMoved labels m old other → new ≡ other
 one_leap labels m old new other w h g =
     let p : Point = record { body = old; at = m.path } in
     let e = same_label h.label g.label (item_at old m.path.steps m.path.item) (moved_leap labels m old new h) (moved_leap labels m old other g) in
@@ -105,7 +108,8 @@ own_label bar i x rest c h = elim h [
 ]
 
 -- the list and the item at the place of a choice are known
-same_place : (xs : List Item) (c d : Choice) (bar : ℕ → Bool) (a : Located bar xs c) (b : Located bar xs d) → c.path ≡ d.path → (a.list ≡ b.list) × (a.item ≡ b.item)
+same_place : (xs : List Item) (c d : Choice) (bar : ℕ → Bool) (a : Located bar xs c) (b : Located bar xs d) → c.path ≡ d.path →
+    (a.list ≡ b.list) × (a.item ≡ b.item)
 same_place xs c d bar a b e =
     let l : Some a.list ≡ Some b.list = sym a.list_is ∙ ap (λ (p : Path). list_at xs p.steps) e ∙ b.list_is in
     let list = some_same l in
@@ -113,7 +117,8 @@ same_place xs c d bar a b e =
     (list, some_same i)
 
 -- a choice is known by its kind and its place
-pub one_choice : (body : List Item) (c d : Choice) → Among c (choices (trees_of body)) → Among d (choices (trees_of body)) → c.kind ≡ d.kind → c.path ≡ d.path → c ≡ d
+pub one_choice : (body : List Item) (c d : Choice) → Among c (choices (trees_of body)) → Among d (choices (trees_of body)) → c.kind ≡ d.kind →
+    c.path ≡ d.path → c ≡ d
 one_choice body c d h g k e =
     let bar : ℕ → Bool = λ l. barred l (trees_of body) in
     let a = located bar c.path.steps body c refl h in
@@ -142,20 +147,23 @@ one_applied : (f : Function) (k : MoveKind) (c : Choice) (old new other : List I
 one_applied f Z5 c old new other h g = one_drop f c old new other h g
 one_applied f _ c old new other h g = one_edit f c old new other h g
 
-one_simplification : (f : Function) (name : List ℕ) (labels : List (List ℕ)) (m : Move) (old new other : List Item) → IsMadeIn name labels m old new → IsMadeIn name labels m old other → new ≡ other
+one_simplification : (f : Function) (name : List ℕ) (labels : List (List ℕ)) (m : Move) (old new other : List Item) → IsMadeIn name labels m old new →
+    IsMadeIn name labels m old other → new ≡ other
 one_simplification f name labels m old new other h g =
     let e = one_choice old h.choice g.choice h.named.among g.named.among (h.named.kind ∙ sym g.named.kind) (h.named.path ∙ sym g.named.path) in
     one_applied f h.choice.kind h.choice old new other h.applied (subst (λ (c : Choice). IsApplied c old other) (sym e) g.applied)
 
 -- ---- either
 
-leap_or : (name : List ℕ) (labels : List (List ℕ)) (m : Move) (old new other : List Item) → IsLeapMoved labels m old new → IsSimplifiedBy name labels m old other → ⊥
+leap_or : (name : List ℕ) (labels : List (List ℕ)) (m : Move) (old new other : List Item) → IsLeapMoved labels m old new →
+    IsSimplifiedBy name labels m old other → ⊥
 leap_or name labels m old new other h g =
     let p = leap_some h.label old m.path (moved_leap labels m old new h) in
     let z = g.leapless in
     omega (arith, p, z)
 
-pub one_body : (f : Function) (name : List ℕ) (labels : List (List ℕ)) (m : Move) (old new other : List Item) → IsWellMade (trees_of old) → IsChanged name labels m old new → IsChanged name labels m old other → new ≡ other
+pub one_body : (f : Function) (name : List ℕ) (labels : List (List ℕ)) (m : Move) (old new other : List Item) → IsWellMade (trees_of old) →
+    IsChanged name labels m old new → IsChanged name labels m old other → new ≡ other
 one_body f name labels m old new other w h g = elim h [
   | inl j ↦ elim g [ inl i ↦ one_leap labels m old new other w j i | inr z ↦ absurd (leap_or name labels m old new other j z) ]
   | inr y ↦ elim g [ inl i ↦ absurd (leap_or name labels m old other new i y) | inr z ↦ one_simplification f name labels m old new other y.made z.made ]

@@ -21,14 +21,17 @@ pub record IsKnown (counts : FlatCounts) (tops : List Top) (f : Function) : Type
   pub source : IsSourceFunction f
 
 pub data Placed (counts : FlatCounts) (tops : List Top) : Top → Top → Top → List Move → Type 0 where
-  is_moved : {f g k : Function} {ms : List Move} → IsKnown counts tops f → has_jumps (body_of f) ≡ true → IsFlatForm f g → IsMoved g k ms → Placed counts tops (T.Function f) (T.Function g) (T.Function k) ms
-  is_left : {f g : Function} → IsKnown counts tops f → has_jumps (body_of f) ≡ false → IsUnlabelledForm f g → Placed counts tops (T.Function f) (T.Function g) (T.Function g) []
+  is_moved : {f g k : Function} {ms : List Move} → IsKnown counts tops f → has_jumps (body_of f) ≡ true → IsFlatForm f g → IsMoved g k ms →
+      Placed counts tops (T.Function f) (T.Function g) (T.Function k) ms
+  is_left : {f g : Function} → IsKnown counts tops f → has_jumps (body_of f) ≡ false → IsUnlabelledForm f g →
+      Placed counts tops (T.Function f) (T.Function g) (T.Function g) []
   is_declared : (f : Function) → IsKnown counts tops f → f.body ≡ None → Placed counts tops (T.Function f) (T.Function f) (T.Function f) []
   is_other : (t : Top) → IsNoFunction t → Placed counts tops t t t []
 
 pub data AllPlaced (counts : FlatCounts) (tops : List Top) : List Top → List Top → List Top → List Move → Type 0 where
   none_placed : AllPlaced counts tops [] [] [] []
-  more_placed : {t u v : Top} {ts us vs : List Top} {ms ns : List Move} → Placed counts tops t u v ms → AllPlaced counts tops ts us vs ns → AllPlaced counts tops (t ∷ ts) (u ∷ us) (v ∷ vs) (ms ++ ns)
+  more_placed : {t u v : Top} {ts us vs : List Top} {ms ns : List Move} → Placed counts tops t u v ms → AllPlaced counts tops ts us vs ns →
+      AllPlaced counts tops (t ∷ ts) (u ∷ us) (v ∷ vs) (ms ++ ns)
 
 none_is_some : {A : Type 0} (o : Option A) (a : A) → o ≡ None → o ≡ Some a → ⊥
 none_is_some o a e i = let q : None ≡ Some a = sym e ∙ i in cc
@@ -47,7 +50,8 @@ module _ (counts : FlatCounts) (p : Program) (r : IsResolvedWith counts p) where
   placed_top g (ft_other t n) (mt_moved flat m) = absurd n
   placed_top g (ft_other t n) (mt_other s unflat) = is_other t n
 
-  placed_tops : {ts us vs : List Top} {ms : List Move} → Each (IsResolvedTop counts p.tops) ts → FlatTops ts us → MovedTops us vs ms → AllPlaced counts p.tops ts us vs ms
+  placed_tops : {ts us vs : List Top} {ms : List Move} → Each (IsResolvedTop counts p.tops) ts → FlatTops ts us → MovedTops us vs ms →
+      AllPlaced counts p.tops ts us vs ms
   placed_tops g ft_none mt_none = none_placed
   placed_tops g (ft_more w s) (mt_more m t) = more_placed (placed_top g.0 w m) (placed_tops g.1 s t)
 

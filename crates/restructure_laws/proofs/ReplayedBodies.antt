@@ -59,7 +59,8 @@ simplified_kinds old new s p ss i = elim s.either [
   | inr d ↦ subst (Everywhere (KindedItem p ss)) (sym d.1) (kinds_dropped p ss (eqb d.0) (trees_of old) i)
 ]
 
-choice_kept : (name : List ℕ) (labels : List (List ℕ)) (m : Move) (old new : List Item) → IsWellMade (trees_of old) → IsMadeIn name labels m old new → IsKept old new
+choice_kept : (name : List ℕ) (labels : List (List ℕ)) (m : Move) (old new : List Item) → IsWellMade (trees_of old) → IsMadeIn name labels m old new →
+    IsKept old new
 choice_kept name labels m old new w h = record {
   behaviour = choice_laws.keeps h.choice old new h.named.among h.applied w;
   made = choice_laws.made h.choice old new h.named.among h.applied w;
@@ -71,7 +72,8 @@ choice_kept name labels m old new w h = record {
 abbrev pub IsChanged : List ℕ → List (List ℕ) → Move → List Item → List Item → Type 0
 IsChanged name labels m old new = IsLeapMoved labels m old new ⊎ IsSimplifiedBy name labels m old new
 
-pub kept : (name : List ℕ) (labels : List (List ℕ)) (m : Move) (old new : List Item) → IsWellMade (trees_of old) → IsChanged name labels m old new → IsKept old new
+pub kept : (name : List ℕ) (labels : List (List ℕ)) (m : Move) (old new : List Item) → IsWellMade (trees_of old) → IsChanged name labels m old new →
+    IsKept old new
 kept name labels m old new w h = elim h [
   | inl j ↦ leap_kept labels m old new w j
   | inr z ↦ choice_kept name labels m old new w z.made

@@ -28,7 +28,11 @@ module _ (p : Program) where
   body_changed : (g : Function) (body : Option (List Item)) → HasNames p g → HasNames p (record g { body = body })
   body_changed g body h =
       let v = h.variables in
-      record { variables = record { words = v.words; unknown = v.unknown; free = v.free; apart = v.apart; beside = v.beside }; labels = h.labels; guards = h.guards }
+      record {
+        variables = record { words = v.words; unknown = v.unknown; free = v.free; apart = v.apart; beside = v.beside };
+        labels = h.labels;
+        guards = h.guards;
+      }
 
   later_has : {t u : Top} → LaterTop t u → TopHasNames p t → TopHasNames p u
   later_has (same_top t) h = h
@@ -41,14 +45,18 @@ module _ (p : Program) where
     by false e = subst (TopHasNames p) (sym (unflat_converted g e)) h
 
   module _ (few : length (names p) ≤ most_held) where
-    start_has : {t u : Top} → FlattenedTop (names p) (file_names p) t u → IsResolvedTop flat_counts p.tops t → TopIsSpelled t → AreAmong (top_names t) (names p) → TopHasNames p (converted_top u)
+    start_has : {t u : Top} → FlattenedTop (names p) (file_names p) t u → IsResolvedTop flat_counts p.tops t → TopIsSpelled t →
+        AreAmong (top_names t) (names p) → TopHasNames p (converted_top u)
     start_has (fd_function {f = f} {g = g} w held) r s a = converted_has g (λ flat. flattened_has_names p f r s a few g w held flat)
     start_has (fd_other t n) r s a = subst (TopHasNames p) (sym (other_converted t n)) (other_has p t n)
 
-    pub starts_have : {ts us : List Top} → FlattenedTops (names p) (file_names p) ts us → Each (IsResolvedTop flat_counts p.tops) ts → Each TopIsSpelled ts → AreAmong (tops_names ts) (names p) → Each (TopHasNames p) (converted_tops us)
+    pub starts_have : {ts us : List Top} → FlattenedTops (names p) (file_names p) ts us → Each (IsResolvedTop flat_counts p.tops) ts →
+        Each TopIsSpelled ts → AreAmong (tops_names ts) (names p) → Each (TopHasNames p) (converted_tops us)
     starts_have fd_none r s a = tt
-    starts_have (fd_more {t = t} {ts = ts} w ws) r s a =
-        (start_has w r.0 s.0 (among_left (top_names t) (tops_names ts) (names p) a), starts_have ws r.1 s.1 (among_right (top_names t) (tops_names ts) (names p) a))
+    starts_have (fd_more {t = t} {ts = ts} w ws) r s a = (
+      start_has w r.0 s.0 (among_left (top_names t) (tops_names ts) (names p) a),
+      starts_have ws r.1 s.1 (among_right (top_names t) (tops_names ts) (names p) a),
+    )
 
   pub all_have : {ts us : List Top} → LaterTops ts us → Each (TopHasNames p) ts → Each (TopHasNames p) us
   all_have no_more h = tt

@@ -48,7 +48,8 @@ use Rattle.whole_laws.proofs.Whole.{free_tops, finished_tops, both_runs}
 
 -- ---- well made
 
-converted_made : (f : Function) (a : List Item) → f.flat ≡ true → f.body ≡ Some a → IsConvertible (T.Function f) → (b : Bool) → f.flat ≡ b → IsTopWellMade (T.Function (cond b (converted f) f))
+converted_made : (f : Function) (a : List Item) → f.flat ≡ true → f.body ≡ Some a → IsConvertible (T.Function f) → (b : Bool) → f.flat ≡ b →
+    IsTopWellMade (T.Function (cond b (converted f) f))
 converted_made f a e i w true k = λ flat. subst IsWellMade (sym (body_is (converted f) (converted_list a) (ap (λ o. option_map converted_list o) i))) (w e a i)
 converted_made f a e i w false k = absurd (true≢false (sym e ∙ k))
 
@@ -112,7 +113,8 @@ ended_by : (f : Function) (b : Bool) → f.flat ≡ b → IsTopWellMade (T.Funct
 ended_by f true e w n p =
     let made = w e in
     let leapless = no_leap (body_of f) (n e) in
-    let free = everywhere_map (λ x. IsConverted x × IsNoLeap x) IsFree free_item (body_of f) (everywhere_both IsConverted IsNoLeap (body_of f) made.converted leapless) in
+    let free = everywhere_map (λ x. IsConverted x × IsNoLeap x) IsFree free_item (body_of f)
+    (everywhere_both IsConverted IsNoLeap (body_of f) made.converted leapless) in
     record { made = w; leapless = λ e. leapless; free = flat_free f e (body_free f f.body refl free) }
 ended_by f false e w n p = record { made = w; leapless = λ k. absurd (true≢false (sym k ∙ e)); free = unflat_free f e (p e) }
 
@@ -165,7 +167,8 @@ jump_free p q ms s w n = free_tops q.tops (ended p q ms s w n)
 -- ---- the plain form
 
 -- what is reached is ready for its plain form
-pub ready : (names : Function → List (List ℕ)) (p q : Program) (ms : List Move) → IsSource p → IsReplayed p q ms → All IsTopLeapless q.tops → All (IsTopNamed names) q.tops → IsProgramReady names q
+pub ready : (names : Function → List (List ℕ)) (p q : Program) (ms : List Move) → IsSource p → IsReplayed p q ms → All IsTopLeapless q.tops →
+    All (IsTopNamed names) q.tops → IsProgramReady names q
 ready names p q ms s w n m =
     let k = kept p q ms s w in
     let c = code_of q in
@@ -173,7 +176,8 @@ ready names p q ms s w n m =
     (finished_tops c names q.tops (ended p q ms s w n) (recursion_from_All (IsKindedTop c) q.tops k.kinded) (recursion_from_All (IsTopNamed names) q.tops m)) in
     plain_laws.of_steady names q k.steady finished
 
-pub whole : (names : Function → List (List ℕ)) (p q : Program) (ms : List Move) → IsSource p → IsReplayed p q ms → All IsTopLeapless q.tops → All (IsTopNamed names) q.tops → IsRight names p q
+pub whole : (names : Function → List (List ℕ)) (p q : Program) (ms : List Move) → IsSource p → IsReplayed p q ms → All IsTopLeapless q.tops →
+    All (IsTopNamed names) q.tops → IsRight names p q
 whole names p q ms s w n m =
     let k = kept p q ms s w in
     let is_ready = ready names p q ms s w n m in

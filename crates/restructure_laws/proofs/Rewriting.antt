@@ -56,9 +56,25 @@ module _ (h : Function) (flat : h.flat ≡ true) (ts : List Top) where
 
   eliminated : (l : ℕ) {p : Point} {ks : List Kept} {new : List Item} → Eliminates l p ks new → Moves (with_ p.body) (all_named h.name h.labels ks) (with_ new)
   eliminated l (D.joins p new j) =
-      more (L.this_function ts (record { body = p.body; new = new; flat = flat; name = refl; body_is = refl; made = inl (record { label = l; named = refl; to = None; moves = record { moves = (refl, j) } }); result = refl })) none
+      more (L.this_function ts (record {
+        body = p.body;
+        new = new;
+        flat = flat;
+        name = refl;
+        body_is = refl;
+        made = inl (record { label = l; named = refl; to = None; moves = record { moves = (refl, j) } });
+        result = refl;
+      })) none
   eliminated l (D.moves k p q ms new m e) =
-      more (L.this_function ts (record { body = p.body; new = q.body; flat = flat; name = refl; body_is = refl; made = inl (record { label = l; named = refl; to = Some q.at; moves = record { moves = m } }); result = refl })) (eliminated l e)
+      more (L.this_function ts (record {
+        body = p.body;
+        new = q.body;
+        flat = flat;
+        name = refl;
+        body_is = refl;
+        made = inl (record { label = l; named = refl; to = Some q.at; moves = record { moves = m } });
+        result = refl;
+      })) (eliminated l e)
 
   derived : {body : List Item} {ks : List Kept} {new : List Item} → Derives body ks new → Moves (with_ body) (all_named h.name h.labels ks) (with_ new)
   derived (D.ends body n) = none
@@ -73,15 +89,26 @@ module _ (h : Function) (flat : h.flat ≡ true) (ts : List Top) where
     applied = n.applied;
   }
 
-  reached : {old : List Item} {cs : List Choice} {new : List Item} → Reaches old cs new → leaps (trees_of old) ≡ 0 → Moves (with_ old) (choices_named h.name h.labels cs) (with_ new) × (leaps (trees_of new) ≡ 0)
+  reached : {old : List Item} {cs : List Choice} {new : List Item} → Reaches old cs new → leaps (trees_of old) ≡ 0 →
+      Moves (with_ old) (choices_named h.name h.labels cs) (with_ new) × (leaps (trees_of new) ≡ 0)
   reached A.none z = (none, z)
   reached {old = old} (A.then {cs = cs} {body = body} {new = new} c r n) z =
       let i = reached r z in
       let m = choice_named h.name h.labels c in
       let made = made_in c body new n in
       let step : Moves (with_ body) (m ∷ []) (with_ new) =
-      more (L.this_function ts (record { body = body; new = new; flat = flat; name = refl; body_is = refl; made = inr (record { leapless = i.1; made = made }); result = refl })) none in
-      (subst (λ z. Moves (with_ old) z (with_ new)) (sym (map-append (choice_named h.name h.labels) cs (c ∷ []))) (moves_both i.0 step), still_leapless h.name h.labels m body new i.1 made)
+      more (L.this_function ts (record {
+        body = body;
+        new = new;
+        flat = flat;
+        name = refl;
+        body_is = refl;
+        made = inr (record { leapless = i.1; made = made });
+        result = refl;
+      })) none in (
+        subst (λ z. Moves (with_ old) z (with_ new)) (sym (map-append (choice_named h.name h.labels) cs (c ∷ []))) (moves_both i.0 step),
+        still_leapless h.name h.labels m body new i.1 made,
+      )
 
 record IsDone (f g : Function) (ms : List Move) (ts : List Top) : Type 0 where
   moves : Moves (T.Function (converted f) ∷ ts) ms (T.Function g ∷ ts)
@@ -156,7 +183,8 @@ apart_one f g n b {u = T.Enum es} s a w = tt
 apart_one f g n b {u = T.Global x} s a w = tt
 apart_one f g n b {u = T.Note x} s a w = tt
 
-apart_each : (f g : Function) → f.name ≡ g.name → is_some f.body ≡ true → {ts us : List Top} → AllByRecursion IsSourceTop ts → Each (AgreesWith f) ts → FlatTops ts us → AllByRecursion (ApartFrom (T.Function g)) us
+apart_each : (f g : Function) → f.name ≡ g.name → is_some f.body ≡ true → {ts us : List Top} → AllByRecursion IsSourceTop ts →
+    Each (AgreesWith f) ts → FlatTops ts us → AllByRecursion (ApartFrom (T.Function g)) us
 apart_each f g n b s a ft_none = tt
 apart_each f g n b s a (ft_more w r) = (apart_one f g n b s.0 a.0 w, apart_each f g n b s.1 a.1 r)
 
@@ -218,7 +246,8 @@ moves_named P h mt_none = tt
 moves_named P h (mt_more {ms = ms} {ns = ns} (mt_moved {f = f} flat m) r) =
     let n = h.0 flat in
     named_append P ms ns
-    (subst (AreNamed P) (sym m.made) (named_append P (all_named f.name f.labels m.moves) (choices_named f.name f.labels m.choices) (kept_named P f.name f.labels n m.moves) (chosen_named P f.name f.labels n m.choices)))
+    (subst (AreNamed P) (sym m.made) (named_append P (all_named f.name f.labels m.moves) (choices_named f.name f.labels m.choices)
+    (kept_named P f.name f.labels n m.moves) (chosen_named P f.name f.labels n m.choices)))
     (moves_named P h.1 r)
 moves_named P h (mt_more (mt_other t n) r) = moves_named P h.1 r
 
@@ -228,7 +257,8 @@ later_moves : (t : Top) {ts us : List Top} {ms : List Move} → AreNamed (λ n. 
 later_moves t h none = none
 later_moves t h (more r rs) = more (L.later_function t h.0 r) (later_moves t h.1 rs)
 
-others : (f g : Function) → g.name ≡ f.name → (ts : List Top) → AllByRecursion (ApartFrom (T.Function f)) ts → f.flat ≡ true → AllByRecursion (FlatNamed (λ n. IsOther n (T.Function g))) ts
+others : (f g : Function) → g.name ≡ f.name → (ts : List Top) → AllByRecursion (ApartFrom (T.Function f)) ts → f.flat ≡ true →
+    AllByRecursion (FlatNamed (λ n. IsOther n (T.Function g))) ts
 others f g e [] a flat = tt
 others f g e (T.Function h ∷ ts) a flat = ((λ i j m. a.0 flat i (sym e ∙ m)), others f g e ts a.1 flat)
 others f g e (T.Include x ∷ ts) a flat = (tt, others f g e ts a.1 flat)
@@ -265,7 +295,8 @@ still_unflat (T.Enum es) e = tt
 still_unflat (T.Global x) e = tt
 still_unflat (T.Note x) e = tt
 
-all_moves : {ts us : List Top} {ms : List Move} → AreConvertible ts → AreApart ts → MovedTops ts us ms → Moves (converted_tops ts) ms us × AllByRecursion IsTopLeapless us
+all_moves : {ts us : List Top} {ms : List Move} → AreConvertible ts → AreApart ts → MovedTops ts us ms →
+    Moves (converted_tops ts) ms us × AllByRecursion IsTopLeapless us
 all_moves w a mt_none = (none, tt)
 all_moves w a (mt_more {ts = ts} {us = us} {ms = ms} {ns = ns} (mt_moved {f = f} {g = g} flat m) r) =
     let d = moved_function f g ms (converted_tops ts) flat w.0 m in
@@ -278,7 +309,8 @@ all_moves w a (mt_more {ts = ts} {us = us} {ns = ns} (mt_other t n) r) =
     let i = all_moves w.1 a.1 r in
     (subst (λ u. Moves (u ∷ converted_tops ts) ns (t ∷ us)) (sym (unchanged t n)) (later_moves t (all_others t (never t n) ns) i.0), (still_unflat t n, i.1))
 
-pub moves : (p : Program) (us vs : List Top) (ms : List Move) → IsSource p → DeclarationsAgree p.tops → FlatTops p.tops us → MovedTops us vs ms → Moves (converted_tops us) ms vs × All IsTopLeapless vs
+pub moves : (p : Program) (us vs : List Top) (ms : List Move) → IsSource p → DeclarationsAgree p.tops → FlatTops p.tops us → MovedTops us vs ms →
+    Moves (converted_tops us) ms vs × All IsTopLeapless vs
 moves p us vs ms s d w m =
     let f = flat_program p (record { tops = us }) s w in
     let a = are_apart (recursion_from_All IsSourceTop p.tops s.tops) d w in

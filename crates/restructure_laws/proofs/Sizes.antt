@@ -51,13 +51,17 @@ abbrev Any : Function → Type 0
 Any h = Unit {0}
 
 module _ (tops : List Top) where
-  as_counted : (f : Function) (P : ℕ × ℕ → Type 0) → IsResolvedFunction flat_counts tops f → IfSome (cond (has_jumps (body_of f)) (Some (counts_of (measured_form (body_of f)))) None) P → IfSome (flat_counts (body_of f)) P
+  as_counted : (f : Function) (P : ℕ × ℕ → Type 0) → IsResolvedFunction flat_counts tops f →
+      IfSome (cond (has_jumps (body_of f)) (Some (counts_of (measured_form (body_of f)))) None) P → IfSome (flat_counts (body_of f)) P
   as_counted f P g h = subst (λ o. IfSome o P) (sym (counted_plainly flat_counts tops f g)) h
 
   top_within : {t u : Top} → PlainTop (Derived Any) t u → IsResolvedTop flat_counts tops t → IsWithinSizes t u
-  top_within (pt_moved {f = f} {h = h} m o) g = as_counted f (HasSizes f h) g (if_counted (has_jumps (body_of f)) (counts_of (measured_form (body_of f))) (HasSizes f h) m.jumps (has_sizes tops f h g o.1))
-  top_within (pt_unmoved {f = f} {h = h} m) g = as_counted f (HasSizes f h) g (if_free (has_jumps (body_of f)) (counts_of (measured_form (body_of f))) (HasSizes f h) m.free)
-  top_within (pt_declared f e) g = as_counted f (HasSizes f f) g (if_free (has_jumps (body_of f)) (counts_of (measured_form (body_of f))) (HasSizes f f) (declared_free f e))
+  top_within (pt_moved {f = f} {h = h} m o) g = as_counted f (HasSizes f h) g
+      (if_counted (has_jumps (body_of f)) (counts_of (measured_form (body_of f))) (HasSizes f h) m.jumps (has_sizes tops f h g o.1))
+  top_within (pt_unmoved {f = f} {h = h} m) g = as_counted f (HasSizes f h) g
+      (if_free (has_jumps (body_of f)) (counts_of (measured_form (body_of f))) (HasSizes f h) m.free)
+  top_within (pt_declared f e) g = as_counted f (HasSizes f f) g
+      (if_free (has_jumps (body_of f)) (counts_of (measured_form (body_of f))) (HasSizes f f) (declared_free f e))
   top_within (pt_other t n) g = other_within t n
 
   tops_within : {ts us : List Top} → PlainTops (Derived Any) ts us → Each (IsResolvedTop flat_counts tops) ts → AtEachPair IsWithinSizes ts us

@@ -25,7 +25,8 @@ count_append [] ys = omega arith
 count_append (c.Stays ∷ xs) ys = count_append xs ys
 count_append (c.Scattered k n d l ∷ xs) ys = let h = count_append xs ys in omega (arith, h)
 
-count_switch : (b : Bool) (k : IntKind) (n : ℕ) (d l : Bool) (xs : List Construct) → case_count (cond b (c.Scattered k n d l) c.Stays ∷ xs) ≡ cond b n 0 + case_count xs
+count_switch : (b : Bool) (k : IntKind) (n : ℕ) (d l : Bool) (xs : List Construct) →
+    case_count (cond b (c.Scattered k n d l) c.Stays ∷ xs) ≡ cond b n 0 + case_count xs
 count_switch true k n d l xs = omega arith
 count_switch false k n d l xs = omega arith
 
@@ -38,10 +39,12 @@ mutual
   counted_in (If t a b) = let e = count_append (constructs a) (constructs b) in let i = cases_counted a in let j = cases_counted b in omega (arith, e, i, j)
   counted_in (While t a) = let i = cases_counted a in omega (arith, i)
   counted_in (Do a t) = let i = cases_counted a in omega (arith, i)
-  counted_in (For first t u a) = let e = count_append (constructs first) (constructs a) in let i = cases_counted first in let j = cases_counted a in omega (arith, e, i, j)
+  counted_in (For first t u a) = let e = count_append (constructs first) (constructs a) in let i = cases_counted first in let j = cases_counted a in
+      omega (arith, e, i, j)
   counted_in (Block a) = let i = cases_counted a in omega (arith, i)
   counted_in (Switch s d) =
-      let e = count_switch (is_scattered d) (switch_kind s) (length (cases_among (switch_labels d))) (has_default (switch_labels d)) (leaves d) (constructs_among d) in
+      let e = count_switch (is_scattered d) (switch_kind s) (length (cases_among (switch_labels d))) (has_default (switch_labels d)) (leaves d)
+      (constructs_among d) in
       let i = counted_among d in omega (arith, e, i)
   counted_in (Evaluate e) = refl
   counted_in (Return e) = refl
@@ -58,7 +61,9 @@ mutual
 
   counted_among : (d : Sections) → case_count (constructs_among d) ≡ total_in cases_of d
   counted_among NoSection = refl
-  counted_among (Section cases default a ends d) = let e = count_append (constructs a) (constructs_among d) in let i = cases_counted a in let j = counted_among d in omega (arith, e, i, j)
+  counted_among (Section cases default a ends d) = let e = count_append (constructs a) (constructs_among d) in let i = cases_counted a in let j =
+      counted_among
+      d in omega (arith, e, i, j)
 
 -- ---- few
 
@@ -83,8 +88,11 @@ mutual
   few_in (Do a t) h = (tt, few_cases a h.1)
   few_in (For first t u a) h = (tt, each_append HasFewCases (constructs first) (constructs a) (few_cases first h.1) (few_cases a h.2))
   few_in (Block a) h = few_cases a h.1
-  few_in (Switch s d) h =
-      (few_switch (is_scattered d) (switch_kind s) (length (cases_among (switch_labels d))) (has_default (switch_labels d)) (leaves d) (few_labels s d h.0), few_among d h.1)
+  few_in (Switch s d) h = (
+    few_switch (is_scattered d) (switch_kind s) (length (cases_among (switch_labels d))) (has_default (switch_labels d)) (leaves d)
+        (few_labels s d h.0),
+    few_among d h.1,
+  )
   few_in (Evaluate e) h = tt
   few_in (Return e) h = tt
   few_in (Local x es) h = tt

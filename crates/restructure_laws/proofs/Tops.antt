@@ -47,11 +47,13 @@ same_function : (m : Move) (f g h : Function) → IsTopWellMade (T.Function f) �
 same_function m f g h w a b =
     let e = some_same (sym a.body_is ∙ b.body_is) in
     let made = made_body f a.body a.body_is a.flat w in
-    let new = one_body f f.name f.labels m a.body a.new b.new made a.made (subst (λ z. L.IsLeapMoved f.labels m z b.new ⊎ L.IsSimplifiedBy f.name f.labels m z b.new) (sym e) b.made) in
+    let new = one_body f f.name f.labels m a.body a.new b.new made a.made
+    (subst (λ z. L.IsLeapMoved f.labels m z b.new ⊎ L.IsSimplifiedBy f.name f.labels m z b.new) (sym e) b.made) in
     a.result ∙ ap (with_body f) new ∙ sym b.result
 
 pub one_moved : {m : Move} {ts us vs : List Top} → AreWellMade ts → OneMoved m ts us → OneMoved m ts vs → us ≡ vs
-one_moved {m = m} w (L.this_function {f = f} {g = g} ts a) (L.this_function {g = h} xs b) = ap (λ (z : Function). T.Function z ∷ ts) (same_function m f g h w.0 a b)
+one_moved {m = m} w (L.this_function {f = f} {g = g} ts a) (L.this_function {g = h} xs b) =
+    ap (λ (z : Function). T.Function z ∷ ts) (same_function m f g h w.0 a b)
 one_moved w (L.this_function ts a) (L.later_function t o h) = absurd (o a.flat a.name)
 one_moved w (L.later_function t o h) (L.this_function ts a) = absurd (o a.flat a.name)
 one_moved w (L.later_function t o h) (L.later_function u p k) = ap (λ z. t ∷ z) (one_moved w.1 h k)
@@ -79,7 +81,8 @@ chain_both (next s c) d = next s (chain_both c d)
 one_step : {m : Move} {ts us : List Top} → AreWellMade ts → OneMoved m ts us → Step ts us
 one_step {m = m} w (L.this_function {f = f} {g = g} ts h) =
     let k = kept f.name f.labels m h.body h.new (made_body f h.body h.body_is h.flat w.0) h.made in
-    subst (λ (z : Function). Step (T.Function f ∷ ts) (T.Function z ∷ ts)) (sym h.result) (changes h.body h.new (this_function f h.body h.new ts h.body_is (refl, refl)) k.behaviour k.kinds)
+    subst (λ (z : Function). Step (T.Function f ∷ ts) (T.Function z ∷ ts)) (sym h.result)
+    (changes h.body h.new (this_function f h.body h.new ts h.body_is (refl, refl)) k.behaviour k.kinds)
 one_step w (L.later_function t o h) = later_step t (one_step w.1 h)
 
 pub moves_chain : {ts us : List Top} {ms : List Move} → AreWellMade ts → Moves ts ms us → Chain ts us
@@ -88,10 +91,12 @@ moves_chain w (more h r) = next (one_step w h) (moves_chain (one_made w h) r)
 
 -- ---- all conversions first
 
-convert_by : (f : Function) (ts : List Top) (b : _) → f.flat ≡ b → (o : Option (List Item)) → f.body ≡ o → IsConvertible (T.Function f) → Chain (T.Function f ∷ ts) (T.Function (cond b (converted f) f) ∷ ts)
+convert_by : (f : Function) (ts : List Top) (b : _) → f.flat ≡ b → (o : Option (List Item)) → f.body ≡ o → IsConvertible (T.Function f) →
+    Chain (T.Function f ∷ ts) (T.Function (cond b (converted f) f) ∷ ts)
 convert_by f ts false e o i w = done
 convert_by f ts true e None i w =
-    let same : f ≡ converted f = ap (λ (o : Option (List Item)). record f { body = o }) i ∙ sym (ap (λ (o : Option (List Item)). record f { body = option_map converted_list o }) i) in
+    let same : f ≡ converted f = ap (λ (o : Option (List Item)). record f { body = o }) i ∙
+    sym (ap (λ (o : Option (List Item)). record f { body = option_map converted_list o }) i) in
     subst (λ (z : Function). Chain (T.Function f ∷ ts) (T.Function z ∷ ts)) same done
 convert_by f ts true e (Some a) i w = next (converts (C.this_function f a ts e i (w e a i))) done
 

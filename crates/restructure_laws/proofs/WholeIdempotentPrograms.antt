@@ -54,13 +54,15 @@ module _ (names file : List (List ℕ)) (all : List Top) where
   top_moved (mt_moved flat m) r = absurd (true≢false (sym flat ∙ r.form.unflat))
   top_moved (mt_other t unflat) r = (refl, refl)
 
-  top_stays : {t u v : Top} {ms : List Move} → FlattenedTop names file t u → MovedTop u v ms → IsResolvedTop flat_counts all t → IsTopStructured t → Stays t v ms
+  top_stays : {t u v : Top} {ms : List Move} → FlattenedTop names file t u → MovedTop u v ms → IsResolvedTop flat_counts all t → IsTopStructured t →
+      Stays t v ms
   top_stays {t} {u} {v} {ms} w m r s =
       let e = top_flat w r s in
       let k = top_moved m (subst (IsResolvedTop flat_counts all) (sym e) r) in
       (k.0 ∙ e, k.1)
 
-  tops_stay : {ts us vs : List Top} {ms : List Move} → FlattenedTops names file ts us → MovedTops us vs ms → Each (IsResolvedTop flat_counts all) ts → AllByRecursion IsTopStructured ts → (vs ≡ ts) × (ms ≡ [])
+  tops_stay : {ts us vs : List Top} {ms : List Move} → FlattenedTops names file ts us → MovedTops us vs ms → Each (IsResolvedTop flat_counts all) ts →
+      AllByRecursion IsTopStructured ts → (vs ≡ ts) × (ms ≡ [])
   tops_stay fd_none mt_none r s = (refl, refl)
   tops_stay (fd_more w ws) (mt_more m rest) r s =
       let h = top_stays w m r.0 s.0 in

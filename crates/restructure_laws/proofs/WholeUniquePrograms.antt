@@ -31,12 +31,17 @@ one_function : (f g h : Function) (ms ns : List Move) → IsConvertible (T.Funct
 one_function f g h ms ns c flat v w =
     let there : Some v.body ≡ Some w.body = sym v.body_is ∙ w.body_is in
     let body : v.body ≡ w.body = cc in
-    let d = unique (converted_list v.body) v.moves w.moves v.middle w.middle (c flat v.body v.body_is) v.derives (subst (λ b. Derives (converted_list b) w.moves w.middle) (sym body) w.derives) in
-    let s = one_simple v.middle v.new w.new v.choices w.choices v.reaches (subst (λ b. Reaches b w.choices w.new) (sym d.1) w.reaches) v.simple w.simple in
-    (v.result ∙ ap (with_body (converted f)) s.1 ∙ sym w.result, v.made ∙ (λ i. all_named f.name f.labels (d.0 i) ++ choices_named f.name f.labels (s.0 i)) ∙ sym w.made)
+    let d = unique (converted_list v.body) v.moves w.moves v.middle w.middle (c flat v.body v.body_is) v.derives
+    (subst (λ b. Derives (converted_list b) w.moves w.middle) (sym body) w.derives) in
+    let s = one_simple v.middle v.new w.new v.choices w.choices v.reaches (subst (λ b. Reaches b w.choices w.new) (sym d.1) w.reaches) v.simple w.simple in (
+      v.result ∙ ap (with_body (converted f)) s.1 ∙ sym w.result,
+      v.made ∙
+          (λ i. all_named f.name f.labels (d.0 i) ++ choices_named f.name f.labels (s.0 i)) ∙ sym w.made,
+    )
 
 one_top : {t u v : Top} {ms ns : List Move} → IsConvertible t → MovedTop t u ms → MovedTop t v ns → (u ≡ v) × (ms ≡ ns)
-one_top c (mt_moved {f = f} {g = g} {ms = ms} flat m) (mt_moved {g = h} {ms = ns} also n) = let k = one_function f g h ms ns c flat m n in (ap T.Function k.0, k.1)
+one_top c (mt_moved {f = f} {g = g} {ms = ms} flat m) (mt_moved {g = h} {ms = ns} also n) = let k = one_function f g h ms ns c flat m n in
+    (ap T.Function k.0, k.1)
 one_top c (mt_moved flat m) (mt_other t unflat) = absurd (true≢false (sym flat ∙ unflat))
 one_top c (mt_other t unflat) (mt_moved flat m) = absurd (true≢false (sym flat ∙ unflat))
 one_top c (mt_other t unflat) (mt_other u also) = (refl, refl)
@@ -53,7 +58,8 @@ one_moved c (mt_more v vs) (mt_more w ws) =
 one_program : (p q r : Program) (ms ns : List Move) → IsResolved p → IsRewrittenWithNames p q ms → IsRewrittenWithNames p r ns → (q ≡ r) × (ms ≡ ns)
 one_program p q r ms ns s v w =
     let flat = one_flat (names p) (file_names p) v.flattened w.flattened in
-    let f = flat_program p v.flat (resolved_source flat_counts p s) (named_program_laws.flat (names p) (file_names p) flat_counts p v.flat.tops s v.flattened) in
+    let f = flat_program p v.flat (resolved_source flat_counts p s)
+    (named_program_laws.flat (names p) (file_names p) flat_counts p v.flat.tops s v.flattened) in
     let k = one_moved f.convertible v.moved (subst (λ ts. MovedTops ts r.tops ns) (sym flat) w.moved) in
     ((λ i. record { tops = k.0 i }), k.1)
 

@@ -32,7 +32,8 @@ pub record IsWithinLevels (l : ℕ) (p : Point) (ms : List Kept) (new : List Ite
 -- all moves of a body, those of one Leap after those of another
 pub data AreWithinLevels : List Item → List Kept → List Item → Type 0 where
   no_leap : (body : List Item) → first (leaps_from 0 body) ≡ None → AreWithinLevels body [] body
-  one_leap : (body : List Item) (at : Path) (l : ℕ) (ms ns : List Kept) (mid new : List Item) → first (leaps_from 0 body) ≡ Some at → Eliminates l (record { body = body; at = at }) ms mid
+  one_leap : (body : List Item) (at : Path) (l : ℕ) (ms ns : List Kept) (mid new : List Item) → first (leaps_from 0 body) ≡ Some at →
+      Eliminates l (record { body = body; at = at }) ms mid
       → IsWithinLevels l (record { body = body; at = at }) ms mid → AreWithinLevels mid ns new → AreWithinLevels body (ms ++ ns) new
 
 -- g is f, a flat function, after all its moves and simplifications, which are these

@@ -30,10 +30,12 @@ pub record CanBeMade (labels : List (List ℕ)) (m : Move) (body : List Item) : 
 -- moves of any lawful order
 pub record LawfulMoveLaws : Type 0 where
   -- a move of a Leap is of the kind of the rule by which the Leap stands to its Land
-  pub kind : (labels : List (List ℕ)) (m : Move) (body new : List Item) (l : ℕ) (land : Path) → IsWellMade (trees_of body) → item_at body m.path.steps m.path.item ≡ Some (Leap l) → item_at body land.steps land.item ≡ Some (Land l)
+  pub kind : (labels : List (List ℕ)) (m : Move) (body new : List Item) (l : ℕ) (land : Path) → IsWellMade (trees_of body) →
+      item_at body m.path.steps m.path.item ≡ Some (Leap l) → item_at body land.steps land.item ≡ Some (Land l)
       → IsLeapMoved labels m body new → m.kind ≡ kind_of (relation m.path.steps m.path.item land.steps land.item)
   -- and each such move can be made
-  pub some : (labels : List (List ℕ)) (m : Move) (body : List Item) (l : ℕ) (land : Path) → IsWellMade (trees_of body) → item_at body m.path.steps m.path.item ≡ Some (Leap l) → item_at body land.steps land.item ≡ Some (Land l)
+  pub some : (labels : List (List ℕ)) (m : Move) (body : List Item) (l : ℕ) (land : Path) → IsWellMade (trees_of body) →
+      item_at body m.path.steps m.path.item ≡ Some (Leap l) → item_at body land.steps land.item ≡ Some (Land l)
       → m.kind ≡ kind_of (relation m.path.steps m.path.item land.steps land.item) → slice_get labels l ≡ m.label → CanBeMade labels m body
   -- flat functions that are well made stay so
   pub well_made : (ts us : List Top) (ms : List Move) → All IsTopWellMade ts → Moves ts ms us → All IsTopWellMade us
@@ -52,12 +54,17 @@ pub record ReplayLaws : Type 0 where
   -- what it becomes is steady, and behaves the same
   pub steady : (counts : FlatCounts) (p q : Program) (ms : List Move) → IsResolvedWith counts p → IsReplayed p q ms → IsSteady q × BehaveTheSame p q
   -- where no Leap is left, it has no jumps
-  pub jump_free : (counts : FlatCounts) (p q : Program) (ms : List Move) → IsResolvedWith counts p → IsReplayed p q ms → All IsTopLeapless q.tops → is_jump_free_program q ≡ true
+  pub jump_free : (counts : FlatCounts) (p q : Program) (ms : List Move) → IsResolvedWith counts p → IsReplayed p q ms → All IsTopLeapless q.tops →
+      is_jump_free_program q ≡ true
   -- and its plain form is plain, in range, and its structural runs are the runs of the program
-  pub whole : (counts : FlatCounts) (names : Function → List (List ℕ)) (p q : Program) (ms : List Move) → IsResolvedWith counts p → IsReplayed p q ms → All IsTopLeapless q.tops → All (IsTopNamed names) q.tops → IsRight names p q
+  pub whole : (counts : FlatCounts) (names : Function → List (List ℕ)) (p q : Program) (ms : List Move) → IsResolvedWith counts p →
+      IsReplayed p q ms → All IsTopLeapless q.tops → All (IsTopNamed names) q.tops → IsRight names p q
   -- each jump of the flat forms was joined once then
-  pub joins : (counts : FlatCounts) (p q : Program) (ms : List Move) (r : IsReplayed p q ms) → IsResolvedWith counts p → All IsTopLeapless q.tops → joined ms ≡ jumps r.flat.tops
+  pub joins : (counts : FlatCounts) (p q : Program) (ms : List Move) (r : IsReplayed p q ms) → IsResolvedWith counts p → All IsTopLeapless q.tops →
+      joined ms ≡ jumps r.flat.tops
   -- the moves of the rewriting are lawful, and leave no Leap
-  pub moves : (counts : FlatCounts) (p : Program) (us vs : List Top) (ms : List Move) → IsResolvedWith counts p → FlatTops p.tops us → MovedTops us vs ms → Moves (converted_tops us) ms vs × All IsTopLeapless vs
+  pub moves : (counts : FlatCounts) (p : Program) (us vs : List Top) (ms : List Move) → IsResolvedWith counts p → FlatTops p.tops us →
+      MovedTops us vs ms → Moves (converted_tops us) ms vs × All IsTopLeapless vs
   -- so a program that is rewritten is what those moves make of it
-  pub rewritten : (counts : FlatCounts) (p q : Program) (ms : List Move) → IsResolvedWith counts p → IsRewritten p q ms → IsReplayed p q ms × All IsTopLeapless q.tops
+  pub rewritten : (counts : FlatCounts) (p q : Program) (ms : List Move) → IsResolvedWith counts p → IsRewritten p q ms →
+      IsReplayed p q ms × All IsTopLeapless q.tops

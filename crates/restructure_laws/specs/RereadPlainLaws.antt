@@ -28,4 +28,5 @@ pub record ReadsBack (p r : Program) : Type 0 where
   pub runs : BehavesAsStructured p r
 
 abbrev pub PlainFormReadsBack : Type 0
-PlainFormReadsBack = (p q : Program) (ms : List Move) → IsResolved p → IsRewritten p q ms → All (TopHasNames p) q.tops → ReadsBack p (plain_with (guard_names (names p)) q)
+PlainFormReadsBack = (p q : Program) (ms : List Move) → IsResolved p → IsRewritten p q ms → All (TopHasNames p) q.tops →
+    ReadsBack p (plain_with (guard_names (names p)) q)

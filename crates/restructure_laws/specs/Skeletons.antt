@@ -29,7 +29,8 @@ pub record IsWithoutLabels (f r : Function) : Type 0 where
 pub data IsKept : Top → Top → Top → Type 0 where
   -- a function with jumps has the skeleton of its flat form: each statement and each test of it stands once, in its order and
   -- in its own constructs
-  keeps_skeleton : {f m r : Function} → has_jumps (body_of f) ≡ true → skeleton (body_of m) ≡ skeleton (flat_form f) → IsKept (T.Function f) (T.Function m) (T.Function r)
+  keeps_skeleton : {f m r : Function} → has_jumps (body_of f) ≡ true → skeleton (body_of m) ≡ skeleton (flat_form f) →
+      IsKept (T.Function f) (T.Function m) (T.Function r)
   -- one without jumps loses its labels
   loses_labels : {f m r : Function} → has_jumps (body_of f) ≡ false → IsWithoutLabels f r → IsKept (T.Function f) (T.Function m) (T.Function r)
   -- a prototype stays, and so does what is no function

@@ -24,7 +24,8 @@ pub record IsRewrittenWithNames (p q : Program) (ms : List Move) : Type 0 where
 
 pub record NamedProgramLaws : Type 0 where
   -- what the tops of a resolved program are flattened to, with whatever names, are flat forms
-  pub flat : (names file : List (List ℕ)) (counts : FlatCounts) (p : Program) (us : List Top) → IsResolvedWith counts p → FlattenedTops names file p.tops us → FlatTops p.tops us
+  pub flat : (names file : List (List ℕ)) (counts : FlatCounts) (p : Program) (us : List Top) → IsResolvedWith counts p →
+      FlattenedTops names file p.tops us → FlatTops p.tops us
   -- so the program is rewritten
   pub rewritten : (counts : FlatCounts) (p q : Program) (ms : List Move) → IsResolvedWith counts p → IsRewrittenWithNames p q ms → IsRewritten p q ms
   -- the variables, labels and guards of its flat functions have names of their own

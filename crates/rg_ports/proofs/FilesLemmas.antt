@@ -45,13 +45,15 @@ head_apart true v o h = cc
 head_apart false v o h = (refl, h)
 
 -- two names in either order
-either_first : (b c : Bool) (v w : List ℕ) (o : Option (List ℕ)) → (b ≡ true → c ≡ true → ⊥) → cond b (Some v) (cond c (Some w) o) ≡ cond c (Some w) (cond b (Some v) o)
+either_first : (b c : Bool) (v w : List ℕ) (o : Option (List ℕ)) → (b ≡ true → c ≡ true → ⊥) →
+    cond b (Some v) (cond c (Some w) o) ≡ cond c (Some w) (cond b (Some v) o)
 either_first true true v w o apart = absurd (apart refl refl)
 either_first true false v w o apart = refl
 either_first false c v w o apart = refl
 
 -- other bytes in the place of those of the first file with a name
-changed : (es fs : List File) (k v w q : List ℕ) → bytes_of k es ≡ None → bytes_of q (es ++ (k, w) ∷ fs) ≡ cond (eq_by_cmp name_cmp q k) (Some w) (bytes_of q (es ++ (k, v) ∷ fs))
+changed : (es fs : List File) (k v w q : List ℕ) → bytes_of k es ≡ None →
+    bytes_of q (es ++ (k, w) ∷ fs) ≡ cond (eq_by_cmp name_cmp q k) (Some w) (bytes_of q (es ++ (k, v) ∷ fs))
 changed [] fs k v w q h =
     elim (eq_by_cmp name_cmp q k) as (λ b. cond b (Some w) (bytes_of q fs) ≡ cond b (Some w) (cond b (Some v) (bytes_of q fs))) [ true ↦ refl | false ↦ refl ]
 changed (e ∷ es) fs k v w q h =
@@ -70,7 +72,8 @@ module _ (files : List File) (name : List ℕ) (place : ℕ) (at : FirstAt files
 
   -- the list, cut around the file
   split : files ≡ take place files ++ (name, at.bytes) ∷ drop (suc place) files
-  split = subst (λ (e : File). files ≡ take place files ++ e ∷ drop (suc place) files) (get_or_from_slice_get files place (name, at.bytes) (name, at.bytes) at.there) (split_at files place (name, at.bytes) within)
+  split = subst (λ (e : File). files ≡ take place files ++ e ∷ drop (suc place) files)
+      (get_or_from_slice_get files place (name, at.bytes) (name, at.bytes) at.there) (split_at files place (name, at.bytes) within)
 
   -- the bytes that are found
   pub bytes_of_first : bytes_of name files ≡ Some at.bytes
@@ -81,7 +84,8 @@ module _ (files : List File) (name : List ℕ) (place : ℕ) (at : FirstAt files
   split_set w =
       let front : length (take place files) ≡ place = length-take-le place files (omega (arith, within)) in
       ap (λ fs. set fs place (name, w)) split
-      ∙ subst (λ n. set (take place files ++ (name, at.bytes) ∷ drop (suc place) files) n (name, w) ≡ take place files ++ (name, w) ∷ drop (suc place) files) front (set-append_seam (take place files) (name, at.bytes) (drop (suc place) files) (name, w))
+      ∙ subst (λ n. set (take place files ++ (name, at.bytes) ∷ drop (suc place) files) n (name, w) ≡ take place files ++
+      (name, w) ∷ drop (suc place) files) front (set-append_seam (take place files) (name, at.bytes) (drop (suc place) files) (name, w))
 
   -- the map once the bytes are others
   pub from_entries-set : (w : List ℕ) → from_entries {R = name_cmp} (set files place (name, w)) ≡ insert (from_entries files) name w
@@ -90,14 +94,16 @@ module _ (files : List File) (name : List ℕ) (place : ℕ) (at : FirstAt files
       ∙ ap (bytes_of q) (split_set w)
       ∙ changed (take place files) (drop (suc place) files) name at.bytes w q at.before
       ∙ ap (λ fs. cond (eq_by_cmp name_cmp q name) (Some w) (bytes_of q fs)) (sym split)
-      ∙ sym (get-insert nat_list_cmp_total (from_entries files) name w q ∙ ap (cond (eq_by_cmp name_cmp q name) (Some w)) (get-from_entries nat_list_cmp_total files q)))
+      ∙ sym (get-insert nat_list_cmp_total (from_entries files) name w q ∙
+      ap (cond (eq_by_cmp name_cmp q name) (Some w)) (get-from_entries nat_list_cmp_total files q)))
 
 -- the map that the files make
 pub get-files : (files : List File) (name : List ℕ) → get (from_entries {R = name_cmp} files) name ≡ bytes_of name files
 get-files files name = get-from_entries nat_list_cmp_total files name
 
 -- one more file, with a new name
-pub from_entries-push : (files : List File) (name bytes : List ℕ) → bytes_of name files ≡ None → from_entries {R = name_cmp} (files ++ (name, bytes) ∷ []) ≡ insert (from_entries files) name bytes
+pub from_entries-push : (files : List File) (name bytes : List ℕ) → bytes_of name files ≡ None →
+    from_entries {R = name_cmp} (files ++ (name, bytes) ∷ []) ≡ insert (from_entries files) name bytes
 from_entries-push files name bytes none = from_entries_push nat_list_cmp_total names_exact files name bytes none
 
 -- what the comparison of two names says

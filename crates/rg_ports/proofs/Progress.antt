@@ -8,7 +8,8 @@ use Rattle.rg_ports.proofs.WrittenLemmas.{more-more, more-[]}
 use Rattle.rg_ports.specs.Writing.{Start, progress_of, Stands, Gives}
 
 -- the held bytes were written
-pub flushed : (p : ℕ) (w v : Written) (n m : ℕ) (held none : List ℕ) (failed : Bool) → failed ≡ false → v ≡ more w held → n ≤ m → none ≡ [] → Gives (progress_of p w n held failed) (progress_of p v m none failed) []
+pub flushed : (p : ℕ) (w v : Written) (n m : ℕ) (held none : List ℕ) (failed : Bool) → failed ≡ false → v ≡ more w held → n ≤ m → none ≡ [] →
+    Gives (progress_of p w n held failed) (progress_of p v m none failed) []
 flushed p w v n m held none true is e le z start whole rest h = cc
 flushed p w v n m held none false is e le z start whole rest h = record {
   same = h.same;
@@ -25,7 +26,8 @@ rises : (a b c : ℕ) → a ≤ b → Rose b c → Rose a c
 rises a b c le r = elim r [ inl h ↦ inl (omega arith) | inr h ↦ inr h ]
 
 -- a front of the held bytes was written, and then a write failed
-pub broken : (p : ℕ) (w v : Written) (n m : ℕ) (held none : List ℕ) (failed : Bool) → failed ≡ false → FrontWritten w v held → Rose n m → n ≤ m → Gives (progress_of p w n held failed) (progress_of p v m none true) []
+pub broken : (p : ℕ) (w v : Written) (n m : ℕ) (held none : List ℕ) (failed : Bool) → failed ≡ false → FrontWritten w v held → Rose n m → n ≤ m →
+    Gives (progress_of p w n held failed) (progress_of p v m none true) []
 broken p w v n m held none true is e rose le start whole rest h = cc
 broken p w v n m held none false is e rose le start whole rest h = record {
   same = h.same;
@@ -45,7 +47,8 @@ abbrev pub start_of : ℕ → Written → ℕ → Start
 start_of reference written faults = record { reference = reference; written = written; faults = faults }
 
 -- nothing was written
-pub begun : (p : ℕ) (w : Written) (n : ℕ) (held : List ℕ) (failed : Bool) (whole : List ℕ) → held ≡ [] → failed ≡ false → IsCount w → Stands (start_of p w n) whole (progress_of p w n held failed) whole
+pub begun : (p : ℕ) (w : Written) (n : ℕ) (held : List ℕ) (failed : Bool) (whole : List ℕ) → held ≡ [] → failed ≡ false → IsCount w →
+    Stands (start_of p w n) whole (progress_of p w n held failed) whole
 begun p w n held true whole h f counts = cc
 begun p w n held false whole h f counts = record {
   same = refl;

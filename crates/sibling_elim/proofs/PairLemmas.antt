@@ -51,7 +51,8 @@ present p xs k d h t e = elim (cases_lt k (position_or_len p xs)) [
   | inl before ↦ false≢true (sym (fails_before_first p xs k d before) ∙ t)
   | inr after ↦
       let within : position_or_len p xs < length xs = omega arith in
-      let some : Some (position_or_len p xs) ≡ None = sym (ap (λ b. cond b (Some (position_or_len p xs)) None) (lt-ltb (position_or_len p xs) (length xs) within)) ∙ e in
+      let some : Some (position_or_len p xs) ≡ None = sym (ap (λ b. cond b (Some (position_or_len p xs)) None)
+      (lt-ltb (position_or_len p xs) (length xs) within)) ∙ e in
       cc
 ]
 
@@ -112,14 +113,16 @@ same_label body at h l e =
     let p = pair body at h in
     let f : Some h.label ≡ Some l = sym p.label_is ∙ sym e in cc
 
-pub no_place : (body : List Item) (at : Path) → HasSibling body at → (l : ℕ) (a : List Item) → Some l ≡ label_at body at → Some a ≡ list_at body at.steps → land_beside l at.item a ≡ None → ⊥
+pub no_place : (body : List Item) (at : Path) → HasSibling body at → (l : ℕ) (a : List Item) → Some l ≡ label_at body at →
+    Some a ≡ list_at body at.steps → land_beside l at.item a ≡ None → ⊥
 no_place body at h l a e t f =
     let m = same_label body at h l e in
     let r = taken h.label at.item h.place at.steps body a h.applies (sym t) in
     let land : slice_get a h.place ≡ Some (Land h.label) = sym (ap (option_and_then (λ a. slice_get a h.place)) (sym t)) ∙ h.applies.land in
     land_found l at.item h.place a (land ∙ ap (λ (m : ℕ). Some (Land m)) m) f
 
-pub place_is : (body : List Item) (at : Path) → HasSibling body at → (l : ℕ) (a : List Item) (k : ℕ) → Some l ≡ label_at body at → Some a ≡ list_at body at.steps → land_beside l at.item a ≡ Some k
+pub place_is : (body : List Item) (at : Path) → HasSibling body at → (l : ℕ) (a : List Item) (k : ℕ) → Some l ≡ label_at body at →
+    Some a ≡ list_at body at.steps → land_beside l at.item a ≡ Some k
     → CanJoin l at.item k at.steps body
 place_is body at h l a k e t f =
     let m = same_label body at h l e in

@@ -30,18 +30,21 @@ pub at_node : (e : Expression) (n : Node) (t : NodeTree) → (out-Expression e).
 at_node e n t h k = expression-parts e ∙ ap (λ m. Typed (out-Expression e).kind (node_tree m)) h ∙ ap (Typed (out-Expression e).kind) k
 
 -- the number that is left, after so many steps
-left_after : (s : Store) (e t : ExpressionTree) (m : ℕ) (r : Computed) → e ≡ t → r.steps ≡ m → Leaves s (Computes t) (Meant.Integer r.number) m → IsComputed s e r
+left_after : (s : Store) (e t : ExpressionTree) (m : ℕ) (r : Computed) → e ≡ t → r.steps ≡ m → Leaves s (Computes t) (Meant.Integer r.number) m →
+    IsComputed s e r
 left_after s e t m r h k l = subst (λ y. IsComputed s y r) (sym h) (leaves_as s (Computes t) (Meant.Integer r.number) r.steps m k l)
 
 same_number : (y z : ℤ) → ◌≡◌ {A = Result ℤ Trap} (Ok y) (Ok z) → y ≡ z
 same_number y z e = cc
 
 pub is_constant : (s : Store) (e : Expression) (n : Node) (t : NodeTree) (z : ℤ) (r : Computed) → (out-Expression e).node ≡ n → node_tree n ≡ t
-    → ((k : Option IntKind) (v : List Meant.Value) (w : World) → node_effect k t v w ≡ Does [] (Meant.Integer z ∷ v) w) → IsAfter (Ok z) 1 r → IsComputed s (expression_tree e) r
+    → ((k : Option IntKind) (v : List Meant.Value) (w : World) → node_effect k t v w ≡ Does [] (Meant.Integer z ∷ v) w) → IsAfter (Ok z) 1 r →
+    IsComputed s (expression_tree e) r
 is_constant s e n t z r h k d i =
     let kind = (out-Expression e).kind in
     left_after s (expression_tree e) (Typed kind t) 1 r (at_node e n t h k) i.1
-    (at_once s (Computes (Typed kind t)) (Meant.Integer r.number) (λ v w q. d kind v w ∙ ap (λ y. Does [] (Meant.Integer y ∷ v) w) (same_number z r.number i.0)))
+    (at_once s (Computes (Typed kind t)) (Meant.Integer r.number)
+    (λ v w q. d kind v w ∙ ap (λ y. Does [] (Meant.Integer y ∷ v) w) (same_number z r.number i.0)))
 
 steps_of_two : (r n : ℕ) → r ≡ n + 2 → r ≡ suc (n + 1)
 steps_of_two r n e = omega (arith, e)
@@ -52,11 +55,13 @@ is_unary s e a op x r h l i =
     let kind = (out-Expression e).kind in
     let b = expression_tree a in
     let is : unary_result op (operand_kind (kind_of b)) x.number ≡ Ok r.number = ap (λ k. unary_result op (operand_kind k) x.number) (kind_is a) ∙ i.0 in
-    left_after s (expression_tree e) (Typed kind (Unary op b)) (suc (x.steps + 1)) r (at_node e (N.Unary op a) (Unary op b) h (node-Unary op a)) (steps_of_two r.steps x.steps i.1)
+    left_after s (expression_tree e) (Typed kind (Unary op b)) (suc (x.steps + 1)) r (at_node e (N.Unary op a) (Unary op b) h (node-Unary op a))
+    (steps_of_two r.steps x.steps i.1)
     (two_parts s (Computes (Typed kind (Unary op b))) (Computes b) (AppliesUnary op (kind_of b)) (Meant.Integer x.number) (Meant.Integer r.number) x.steps
     (λ v w q. refl) l (λ v w q. ap (λ y. left (outcome y w) v) is))
 
-cast_to : (s : Store) (e a : Expression) (k : IntKind) (x r : Computed) → (out-Expression e).node ≡ N.Cast a → (out-Expression e).kind ≡ Some k → IsComputed s (expression_tree a) x
+cast_to : (s : Store) (e a : Expression) (k : IntKind) (x r : Computed) → (out-Expression e).node ≡ N.Cast a → (out-Expression e).kind ≡ Some k →
+    IsComputed s (expression_tree a) x
     → IsAfter (Ok (converted k x.number)) (x.steps + 2) r → IsComputed s (expression_tree e) r
 cast_to s e a k x r h o l i =
     let b = expression_tree a in
@@ -65,33 +70,38 @@ cast_to s e a k x r h o l i =
     (two_parts s (Computes (Typed (Some k) (Cast b))) (Computes b) (Converts k) (Meant.Integer x.number) (Meant.Integer r.number) x.steps
     (λ v w q. refl) l (λ v w q. ap (λ y. Does [] (Meant.Integer y ∷ v) w) (same_number (converted k x.number) r.number i.0)))
 
-pub is_cast : (s : Store) (e a : Expression) (o : Option IntKind) (x r : Computed) → (out-Expression e).kind ≡ o → (out-Expression e).node ≡ N.Cast a → IsComputed s (expression_tree a) x
+pub is_cast : (s : Store) (e a : Expression) (o : Option IntKind) (x r : Computed) → (out-Expression e).kind ≡ o →
+    (out-Expression e).node ≡ N.Cast a → IsComputed s (expression_tree a) x
     → IsCast o x r → IsComputed s (expression_tree e) r
 is_cast s e a None x r o h l i = absurd i
 is_cast s e a (Some k) x r o h l i = cast_to s e a k x r h o l i
 
 -- ---- binary marks
 
-binary_tree : (e a b : Expression) (op : BinaryOp) → (out-Expression e).node ≡ N.Binary op a b → expression_tree e ≡ Typed (out-Expression e).kind (Binary op (expression_tree a) (expression_tree b))
+binary_tree : (e a b : Expression) (op : BinaryOp) → (out-Expression e).node ≡ N.Binary op a b →
+    expression_tree e ≡ Typed (out-Expression e).kind (Binary op (expression_tree a) (expression_tree b))
 binary_tree e a b op h = at_node e (N.Binary op a b) (Binary op (expression_tree a) (expression_tree b)) h (node-Binary op a b)
 
 opposite : (b : Bool) → b ≡ true → not b ≡ false
 opposite b e = ap not e
 
-pub is_decided : (s : Store) (e a b : Expression) (op : BinaryOp) (x r : Computed) → (out-Expression e).node ≡ N.Binary op a b → IsComputed s (expression_tree a) x
+pub is_decided : (s : Store) (e a b : Expression) (op : BinaryOp) (x r : Computed) → (out-Expression e).node ≡ N.Binary op a b →
+    IsComputed s (expression_tree a) x
     → decides op x.number ≡ true → IsAfter (Ok (decided op)) (x.steps + 2) r → IsComputed s (expression_tree e) r
 is_decided s e a b AndThen x r h l d i =
     let kind = (out-Expression e).kind in
     let t = Typed kind (Binary AndThen (expression_tree a) (expression_tree b)) in
     left_after s (expression_tree e) t (suc (x.steps + 1)) r (binary_tree e a b AndThen h) (steps_of_two r.steps x.steps i.1)
-    (two_parts s (Computes t) (Computes (expression_tree a)) (Ands (expression_tree b)) (Meant.Integer x.number) (Meant.Integer r.number) x.steps (λ v w q. refl) l
+    (two_parts s (Computes t) (Computes (expression_tree a)) (Ands (expression_tree b)) (Meant.Integer x.number) (Meant.Integer r.number) x.steps
+    (λ v w q. refl) l
     (λ v w q. ap (λ c. cond (not c) (Does (Computes (expression_tree b) ∷ Judges ∷ []) v w) (Does [] (Meant.Integer (pos 0) ∷ v) w)) d
     ∙ ap (λ y. Does [] (Meant.Integer y ∷ v) w) (same_number (pos 0) r.number i.0)))
 is_decided s e a b OrElse x r h l d i =
     let kind = (out-Expression e).kind in
     let t = Typed kind (Binary OrElse (expression_tree a) (expression_tree b)) in
     left_after s (expression_tree e) t (suc (x.steps + 1)) r (binary_tree e a b OrElse h) (steps_of_two r.steps x.steps i.1)
-    (two_parts s (Computes t) (Computes (expression_tree a)) (Ors (expression_tree b)) (Meant.Integer x.number) (Meant.Integer r.number) x.steps (λ v w q. refl) l
+    (two_parts s (Computes t) (Computes (expression_tree a)) (Ors (expression_tree b)) (Meant.Integer x.number) (Meant.Integer r.number) x.steps
+    (λ v w q. refl) l
     (λ v w q. ap (λ c. cond c (Does [] (Meant.Integer (pos 1) ∷ v) w) (Does (Computes (expression_tree b) ∷ Judges ∷ []) v w)) d
     ∙ ap (λ y. Does [] (Meant.Integer y ∷ v) w) (same_number (pos 1) r.number i.0)))
 is_decided s e a b (Arith op) x r h l d i = absurd (cc)
@@ -109,10 +119,13 @@ steps_of_more : (r m n : ℕ) → r ≡ m + n + 3 → r ≡ suc (m + suc (n + 1)
 steps_of_more r m n e = omega (arith, e)
 
 -- a mark that takes both operands
-plain : (s : Store) (e a b : Expression) (op : BinaryOp) (x y r : Computed) → (out-Expression e).node ≡ N.Binary op a b → IsComputed s (expression_tree a) x → IsComputed s (expression_tree b) y
+plain : (s : Store) (e a b : Expression) (op : BinaryOp) (x y r : Computed) → (out-Expression e).node ≡ N.Binary op a b →
+    IsComputed s (expression_tree a) x → IsComputed s (expression_tree b) y
     → ((k : Option IntKind) (v : List Meant.Value) (w : World) → effect (Computes (Typed k (Binary op (expression_tree a) (expression_tree b)))) v w
-    ≡ Does (Computes (expression_tree a) ∷ Computes (expression_tree b) ∷ AppliesBinary op (kind_of (expression_tree a)) (kind_of (expression_tree b)) ∷ []) v w)
-    → IsAfter (binary_result op (operand_kind (out-Expression a).kind) (operand_kind (out-Expression b).kind) x.number y.number) (x.steps + y.steps + 2) r → IsComputed s (expression_tree e) r
+    ≡ Does (Computes (expression_tree a) ∷ Computes (expression_tree b) ∷ AppliesBinary op (kind_of (expression_tree a))
+    (kind_of (expression_tree b)) ∷ []) v w)
+    → IsAfter (binary_result op (operand_kind (out-Expression a).kind) (operand_kind (out-Expression b).kind) x.number y.number)
+    (x.steps + y.steps + 2) r → IsComputed s (expression_tree e) r
 plain s e a b op x y r h l m d i =
     let kind = (out-Expression e).kind in
     let t = Typed kind (Binary op (expression_tree a) (expression_tree b)) in
@@ -120,10 +133,13 @@ plain s e a b op x y r h l m d i =
     ap (λ j. binary_result op (operand_kind j) (operand_kind (kind_of (expression_tree b))) x.number y.number) (kind_is a)
     ∙ ap (λ k. binary_result op (operand_kind (out-Expression a).kind) (operand_kind k) x.number y.number) (kind_is b) ∙ i.0 in
     left_after s (expression_tree e) t (suc (x.steps + (y.steps + 1))) r (binary_tree e a b op h) (steps_of_three r.steps x.steps y.steps i.1)
-    (three_parts s (Computes t) (Computes (expression_tree a)) (Computes (expression_tree b)) (AppliesBinary op (kind_of (expression_tree a)) (kind_of (expression_tree b)))
-    (Meant.Integer x.number) (Meant.Integer y.number) (Meant.Integer r.number) x.steps y.steps (λ v w q. d kind v w) l m (λ v w q. ap (λ o. left (outcome o w) v) is))
+    (three_parts s (Computes t) (Computes (expression_tree a)) (Computes (expression_tree b))
+    (AppliesBinary op (kind_of (expression_tree a)) (kind_of (expression_tree b)))
+    (Meant.Integer x.number) (Meant.Integer y.number) (Meant.Integer r.number) x.steps y.steps (λ v w q. d kind v w) l m
+    (λ v w q. ap (λ o. left (outcome o w) v) is))
 
-pub is_of_both : (s : Store) (e a b : Expression) (op : BinaryOp) (x y r : Computed) → (out-Expression e).node ≡ N.Binary op a b → IsComputed s (expression_tree a) x → IsComputed s (expression_tree b) y
+pub is_of_both : (s : Store) (e a b : Expression) (op : BinaryOp) (x y r : Computed) → (out-Expression e).node ≡ N.Binary op a b →
+    IsComputed s (expression_tree a) x → IsComputed s (expression_tree b) y
     → decides op x.number ≡ false → IsOfBoth op (out-Expression a).kind (out-Expression b).kind x y r → IsComputed s (expression_tree e) r
 is_of_both s e a b AndThen x y r h l m d i =
     let kind = (out-Expression e).kind in

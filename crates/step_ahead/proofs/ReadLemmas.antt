@@ -32,7 +32,8 @@ use Rattle.step_ahead.proofs.RunLemmas.{leaves_as, two_parts}
 use Rattle.step_ahead.proofs.FormLemmas.{at_node}
 
 -- of a place that is found
-pub reads_place : (s : Store) (p : PlaceTree) (k : Option IntKind) (o : Owner) (i : ℕ) (z : ℤ) (n m : ℕ) → Leaves s (Finds p) (Designates (owner_of (names_of s) o) i) n → HasNumber s o i z
+pub reads_place : (s : Store) (p : PlaceTree) (k : Option IntKind) (o : Owner) (i : ℕ) (z : ℤ) (n m : ℕ) →
+    Leaves s (Finds p) (Designates (owner_of (names_of s) o) i) n → HasNumber s o i z
     → m ≡ n + 2 → Leaves s (Computes (Typed k (Read p))) (Meant.Integer z) m
 reads_place s p k o i z n m l h e =
     leaves_as s (Computes (Typed k (Read p))) (Meant.Integer z) m (suc (n + 1)) (omega (arith, e))
@@ -40,7 +41,8 @@ reads_place s p k o i z n m l h e =
     (λ v w q. refl) l (λ v w q. ap (λ y. Does [] (Meant.Integer y ∷ v) w) (h w q)))
 
 -- of a slot of the newest call
-held_here : (f : Meant.Owner → Variable) (ns : List (List ℕ)) (k : IntKind) (q : Meant.Owner) (z : ℤ) (v : Variable) → f q ≡ v → AreCells ns k (Number z) v → number_held (f (holder q v)) 0 ≡ z
+held_here : (f : Meant.Owner → Variable) (ns : List (List ℕ)) (k : IntKind) (q : Meant.Owner) (z : ℤ) (v : Variable) → f q ≡ v →
+    AreCells ns k (Number z) v → number_held (f (holder q v)) 0 ≡ z
 held_here f ns k q z (Holds j None c) e h = ap (λ x. number_held x 0) e ∙ h.1
 held_here f ns k q z (Holds j (Some n) c) e h = absurd h
 held_here f ns k q z (Meant.Lent o) e h = absurd h
@@ -52,7 +54,8 @@ slot_holds s x r z w a e h =
     ∙ held_here w.variables (names_of s) r.kind (OfCall s.newest x) z (w.variables (OfCall s.newest x)) refl
     (subst (λ c. AreCells (names_of s) r.kind c (w.variables (OfCall s.newest x))) e (h.rooms (Call s.newest x) r a))
 
-pub reads_slot : (s : Store) (x : ℕ) (rs : List Room) (r : Room) (z : ℤ) (k : Option IntKind) (c : Computed) → slice_get s.calls s.newest ≡ Some rs → slice_get rs x ≡ Some r → r.cells ≡ Number z
+pub reads_slot : (s : Store) (x : ℕ) (rs : List Room) (r : Room) (z : ℤ) (k : Option IntKind) (c : Computed) → slice_get s.calls s.newest ≡ Some rs →
+    slice_get rs x ≡ Some r → r.cells ≡ Number z
     → IsAfter (Ok z) 3 c → IsComputed s (Typed k (Read (Var (H.Slot x)))) c
 reads_slot s x rs r z k c a b e i =
     let there : room_at s (Call s.newest x) ≡ Some r = ap (option_and_then (λ ys. slice_get ys x)) a ∙ b in
@@ -67,7 +70,8 @@ reads_slot s x rs r z k c a b e i =
 within : (i n : ℕ) → i < n → nat_lt i n ≡ true
 within i n h = grind (arith, nat_tests)
 
-pub finds_cell : (s : Store) (h : Home) (e : ExpressionTree) (o : Owner) (i n k m : ℕ) → Reaches s h o → HasCount s o n → i < n → Leaves s (Computes e) (Meant.Integer (pos i)) k → m ≡ k + 2
+pub finds_cell : (s : Store) (h : Home) (e : ExpressionTree) (o : Owner) (i n k m : ℕ) → Reaches s h o → HasCount s o n → i < n →
+    Leaves s (Computes e) (Meant.Integer (pos i)) k → m ≡ k + 2
     → Leaves s (Finds (Cell h e)) (Designates (owner_of (names_of s) o) i) m
 finds_cell s h e o i n k m r c l p q =
     leaves_as s (Finds (Cell h e)) (Designates (owner_of (names_of s) o) i) m (suc (k + 1)) (omega (arith, q))
@@ -81,16 +85,19 @@ finds_cell s h e o i n k m r c l p q =
 pub is_variable : (s : Store) (p : Place) (h : Home) (r : Found) → p ≡ Q.Var h → IsFound s (Var h) r → IsFound s (place_tree p) r
 is_variable s p h r e f = subst (λ t. IsFound s t r) (sym (ap place_tree e ∙ place-Var h)) f
 
-pub is_cell : (s : Store) (p : Place) (h : Home) (a : Expression) (r : Found) → p ≡ Q.Cell h a → IsFound s (Cell h (expression_tree a)) r → IsFound s (place_tree p) r
+pub is_cell : (s : Store) (p : Place) (h : Home) (a : Expression) (r : Found) → p ≡ Q.Cell h a → IsFound s (Cell h (expression_tree a)) r →
+    IsFound s (place_tree p) r
 is_cell s p h a r e f = subst (λ t. IsFound s t r) (sym (ap place_tree e ∙ place-Cell h a)) f
 
 pub read_variable : (s : Store) (e : Expression) (p : Place) (h : Home) (r : Computed) → (out-Expression e).node ≡ N.Read p → p ≡ Q.Var h
     → IsComputed s (Typed (out-Expression e).kind (Read (Var h))) r → IsComputed s (expression_tree e) r
-read_variable s e p h r i j l = subst (λ t. IsComputed s t r) (sym (at_node e (N.Read p) (Read (Var h)) i (node-Read p ∙ ap Read (ap place_tree j ∙ place-Var h)))) l
+read_variable s e p h r i j l = subst (λ t. IsComputed s t r)
+    (sym (at_node e (N.Read p) (Read (Var h)) i (node-Read p ∙ ap Read (ap place_tree j ∙ place-Var h)))) l
 
 pub read_cell : (s : Store) (e : Expression) (p : Place) (h : Home) (a : Expression) (r : Computed) → (out-Expression e).node ≡ N.Read p → p ≡ Q.Cell h a
     → IsComputed s (Typed (out-Expression e).kind (Read (Cell h (expression_tree a)))) r → IsComputed s (expression_tree e) r
-read_cell s e p h a r i j l = subst (λ t. IsComputed s t r) (sym (at_node e (N.Read p) (Read (Cell h (expression_tree a))) i (node-Read p ∙ ap Read (ap place_tree j ∙ place-Cell h a)))) l
+read_cell s e p h a r i j l = subst (λ t. IsComputed s t r)
+    (sym (at_node e (N.Read p) (Read (Cell h (expression_tree a))) i (node-Read p ∙ ap Read (ap place_tree j ∙ place-Cell h a)))) l
 
 pub cell_at : (y : ℤ) (n : ℕ) → has_cell y n ≡ true → (pos (nat_abs y) ≡ y) × (nat_abs y < n)
 cell_at (pos i) n h = (refl, below i n h) where

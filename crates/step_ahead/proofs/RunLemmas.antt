@@ -34,7 +34,8 @@ pub at_once : (s : Store) (o : Op) (x : Meant.Value) → DoesAt s o [] same (und
 at_once s o x d = record { comes = λ P f g k v cs w h. ap (λ E. perform P E f g k cs) (d v w h) }
 
 -- one task, and what takes what it leaves
-pub two_parts : (s : Store) (o a b : Op) (x y : Meant.Value) (n : ℕ) → DoesAt s o (a ∷ b ∷ []) same same → Leaves s a x n → DoesAt s b [] (under x) (under y) → Leaves s o y (suc (n + 1))
+pub two_parts : (s : Store) (o a b : Op) (x y : Meant.Value) (n : ℕ) → DoesAt s o (a ∷ b ∷ []) same same → Leaves s a x n →
+    DoesAt s b [] (under x) (under y) → Leaves s o y (suc (n + 1))
 two_parts s o a b x y n d l e = record {
   comes = λ P f g k v cs w h.
       ap (λ E. run P (n + 1) (perform P E f g k cs)) (d v w h)
@@ -55,7 +56,8 @@ three_parts s o a b c x y z m n d l r e = record {
 }
 
 -- one task, and what takes what it leaves and has two tasks come in its place
-pub more_parts : (s : Store) (o a b c d : Op) (x y z : Meant.Value) (m n : ℕ) → DoesAt s o (a ∷ b ∷ []) same same → Leaves s a x m → DoesAt s b (c ∷ d ∷ []) (under x) same
+pub more_parts : (s : Store) (o a b c d : Op) (x y z : Meant.Value) (m n : ℕ) → DoesAt s o (a ∷ b ∷ []) same same → Leaves s a x m →
+    DoesAt s b (c ∷ d ∷ []) (under x) same
     → Leaves s c y n → DoesAt s d [] (under y) (under z) → Leaves s o z (suc (m + suc (n + 1)))
 more_parts s o a b c d x y z m n p l q r e = record {
   comes = λ P f g k v cs w h.
@@ -75,7 +77,8 @@ only_dropped s e x m n q l = record {
   comes = λ P f g k v cs w h. (
     w.variables,
     subst (λ i. run P i (At f g (Works (Computes e) ∷ Works Drops ∷ k) v cs w) ≡ At f g k v cs w) (sym q)
-        (run_parts P n 1 (At f g (Works (Computes e) ∷ Works Drops ∷ k) v cs w) (At f g (Works Drops ∷ k) (x ∷ v) cs w) (At f g k v cs w) (l.comes P f g (Works Drops ∷ k) v cs w h) refl),
+        (run_parts P n 1 (At f g (Works (Computes e) ∷ Works Drops ∷ k) v cs w) (At f g (Works Drops ∷ k) (x ∷ v) cs w) (At f g k v cs w)
+        (l.comes P f g (Works Drops ∷ k) v cs w h) refl),
     h,
   );
 }

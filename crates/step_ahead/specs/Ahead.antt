@@ -21,13 +21,15 @@ use Rattle.step_ahead.specs.declared.asking.Asked.{Asked}
 -- after n steps the tasks are these, whatever values are pending, and the variables those of the store
 pub record Reaches (s t : Store) (n : ℕ) (k j : List Task) : Type 0 where
   pub comes : (P : Code) (f : List ℕ) (g : Guards) (v : List Meant.Value) (cs : List Frame) (w : World) → HoldsWorld s w
-      → (vs : Meant.Owner → Meant.Variable) × (run P n (At f g k v cs w) ≡ At f g j v cs (record w { variables = vs })) × HoldsWorld t (record w { variables = vs })
+      → (vs : Meant.Owner → Meant.Variable) × (run P n (At f g k v cs w) ≡ At f g j v cs (record w { variables = vs })) ×
+      HoldsWorld t (record w { variables = vs })
 
 -- after n steps the machine's tasks and values are these, and its variables those of the store
 pub record GoesOn (s t : Store) (n : ℕ) (tasks left : List Work) (values new : List Value) : Type 0 where
   pub comes : (P : Code) (f : List ℕ) (g : Guards) (cs : List Frame) (w : World) → HoldsWorld s w
       → (vs : Meant.Owner → Meant.Variable)
-      × (run P n (At f g (tasks_of tasks) (values_of (names_of s) values) cs w) ≡ At f g (tasks_of left) (values_of (names_of s) new) cs (record w { variables = vs }))
+      × (run P n (At f g (tasks_of tasks) (values_of (names_of s) values) cs w) ≡ At f g (tasks_of left) (values_of (names_of s) new) cs
+      (record w { variables = vs }))
       × HoldsWorld t (record w { variables = vs })
 
 -- the number of an expression isn't 0, or is, after so many steps and some more, at most so many together

@@ -33,7 +33,8 @@ IsFound s p r = Leaves s (Finds p) (Meant.Designates (owner_of (names_of s) r.ow
 pub record IsEvaluated (s t : Store) (e : ExpressionTree) (n : ℕ) : Type 0 where
   pub comes : (P : Code) (f : List ℕ) (g : Guards) (k : List Task) (v : List Meant.Value) (cs : List Frame) (w : World)
       → HoldsWorld s w
-      → (vs : Meant.Owner → Meant.Variable) × (run P n (At f g (Works (Computes e) ∷ Works Drops ∷ k) v cs w) ≡ At f g k v cs (record w { variables = vs })) × HoldsWorld t (record w { variables = vs })
+      → (vs : Meant.Owner → Meant.Variable) × (run P n (At f g (Works (Computes e) ∷ Works Drops ∷ k) v cs w) ≡ At f g k v cs
+      (record w { variables = vs })) × HoldsWorld t (record w { variables = vs })
 
 -- a number after so many steps
 abbrev pub IsAfter : Result ℤ Trap → ℕ → Computed → Type 0

@@ -14,7 +14,8 @@ use Rattle.step_interp.specs.declared.machine.Machine.{Machine}
 use Rattle.step_interp.specs.Machines.{frames_of, state_of}
 
 pub state_at : (n : Machine) (w : World) (name : List ℕ) (body : Forest) (fs : List Frame)
-    → n.call.function.now.name ≡ name → n.call.guards ≡ [] → tasks_of n.call.tasks ≡ items body [] → n.call.values ≡ [] → frames_of (names_of n.store) n.waiting ≡ fs
+    → n.call.function.now.name ≡ name → n.call.guards ≡ [] → tasks_of n.call.tasks ≡ items body [] → n.call.values ≡ [] →
+    frames_of (names_of n.store) n.waiting ≡ fs
     → At name no_guards (items body []) [] fs w ≡ state_of n w
 state_at n w name body fs a b c d e =
     ap (λ x. At x no_guards (items body []) [] fs w) (sym a)

@@ -25,7 +25,8 @@ any_default (x ∷ xs) (suc k) d e l = any_default xs k d e (omega (arith, l))
 order : (k n : ℕ) → k < n + 1 → (k < n) ⊎ (k ≡ n)
 order k n l = grind arith
 
-pub numbers_more : (xs : List Slot) (n : ℕ) (s : Slot) → n < length xs → s ≡ get_or xs n s → IsNone s.cells → ((k : ℕ) (d : Slot) → k < n → IsNone (get_or xs k d).cells)
+pub numbers_more : (xs : List Slot) (n : ℕ) (s : Slot) → n < length xs → s ≡ get_or xs n s → IsNone s.cells →
+    ((k : ℕ) (d : Slot) → k < n → IsNone (get_or xs k d).cells)
     → (k : ℕ) (d : Slot) → k < n + 1 → IsNone (get_or xs k d).cells
 numbers_more xs n s l e z h k d q = elim (order k n q) as (λ _. IsNone (get_or xs k d).cells) [
   | inl a ↦ h k d a

@@ -31,7 +31,8 @@ use Rattle.step_interp.specs.Files.{first_cell, has_name, HasFile, HasPlaces}
 
 -- ---- first numbers
 
-pub first_is : (k : IntKind) (es : List Expression) (i : ℕ) (e : Expression) → i < length es → e ≡ get_or es i e → first_cell k es i ≡ converted k (constant_or_zero (expression_tree e))
+pub first_is : (k : IntKind) (es : List Expression) (i : ℕ) (e : Expression) → i < length es → e ≡ get_or es i e →
+    first_cell k es i ≡ converted k (constant_or_zero (expression_tree e))
 first_is k [] i e l h = absurd (omega arith)
 first_is k (x ∷ es) zero e l h = ap (λ y. converted k (constant_or_zero (expression_tree y))) (sym h)
 first_is k (x ∷ es) (suc i) e l h = first_is k es i e (omega arith) h
@@ -101,7 +102,8 @@ global_there : (g : GlobalVariable) (m : List ℕ) (ts : List Top) → bytes_eq 
 global_there g m ts e = ap (λ b. cond b (initial_variable g) (global_named m ts)) e
 
 -- a declaration that has its variable already
-pub skipped : (tops left : List Top) (names : List (List ℕ)) (file : List Room) (g : GlobalVariable) → has_name names g.slot.name ≡ true → HasFile tops (T.Global g ∷ left) names file → HasFile tops left names file
+pub skipped : (tops left : List Top) (names : List (List ℕ)) (file : List Room) (g : GlobalVariable) → has_name names g.slot.name ≡ true →
+    HasFile tops (T.Global g ∷ left) names file → HasFile tops left names file
 skipped tops left names file g e h = record {
   count = h.count;
   rooms = h.rooms;
@@ -115,7 +117,8 @@ order i n h = grind arith
 
 -- a declaration of another name
 pub added : (tops left : List Top) (names : List (List ℕ)) (file : List Room) (g : GlobalVariable) (room : Room) → has_name names g.slot.name ≡ false
-    → ((ns : List (List ℕ)) → IsRoom ns room (initial_variable g)) → HasFile tops (T.Global g ∷ left) names file → HasFile tops left (names ++ g.slot.name ∷ []) (file ++ room ∷ [])
+    → ((ns : List (List ℕ)) → IsRoom ns room (initial_variable g)) → HasFile tops (T.Global g ∷ left) names file →
+    HasFile tops left (names ++ g.slot.name ∷ []) (file ++ room ∷ [])
 added tops left names file g room e k h = record {
   count = length-append names (m ∷ []) ∙ ap (λ n. n + 1) h.count ∙ sym (length-append file (room ∷ []));
   rooms = λ i r q ns. one_slot_more ns file room (λ x. global_named (entry_or [] (names ++ m ∷ []) x) tops)
@@ -123,7 +126,8 @@ added tops left names file g room e k h = record {
       (subst (IsRoom ns room) (sym here) (k ns)) i r q;
   apart = λ i j a b q. places i j (order i (length file) (shorter i a)) (order j (length file) (shorter j b)) q;
   others = λ q n.
-      let x = sym (name_added names m q) ∙ n in h.others q (left_false (has_name names q) (bytes_eq m q) x) ∙ global_there g q left (right_false (has_name names q) (bytes_eq m q) x);
+      let x = sym (name_added names m q) ∙ n in h.others q (left_false (has_name names q) (bytes_eq m q) x) ∙ global_there g q left
+      (right_false (has_name names q) (bytes_eq m q) x);
 } where
   m : List ℕ
   m = g.slot.name
@@ -135,7 +139,8 @@ added tops left names file g room e k h = record {
   shorter i a = omega (arith, a, length-append file (room ∷ []))
 
   here : global_named (entry_or [] (names ++ m ∷ []) (length file)) tops ≡ initial_variable g
-  here = ap (λ n. global_named (entry_or [] (names ++ m ∷ []) n) tops) (sym h.count) ∙ ap (λ n. global_named n tops) (entry_last names m) ∙ h.others m e ∙ global_here g m left ((bytes_eq-Decides m m).1 refl)
+  here = ap (λ n. global_named (entry_or [] (names ++ m ∷ []) n) tops) (sym h.count) ∙ ap (λ n. global_named n tops) (entry_last names m) ∙
+      h.others m e ∙ global_here g m left ((bytes_eq-Decides m m).1 refl)
 
   last_is : entry_or [] (names ++ m ∷ []) (length file) ≡ m
   last_is = ap (entry_or [] (names ++ m ∷ [])) (sym h.count) ∙ entry_last names m
@@ -143,7 +148,8 @@ added tops left names file g room e k h = record {
   other_name : (i : ℕ) → i < length file → entry_or [] (names ++ m ∷ []) i ≡ m → ⊥
   other_name i l q = true≢false (sym (named_there names i m (within i l) (sym (entry_before names m i (within i l)) ∙ q)) ∙ e)
 
-  places : (i j : ℕ) → (i < length file) ⊎ (i ≡ length file) → (j < length file) ⊎ (j ≡ length file) → entry_or [] (names ++ m ∷ []) i ≡ entry_or [] (names ++ m ∷ []) j → i ≡ j
+  places : (i j : ℕ) → (i < length file) ⊎ (i ≡ length file) → (j < length file) ⊎ (j ≡ length file) →
+      entry_or [] (names ++ m ∷ []) i ≡ entry_or [] (names ++ m ∷ []) j → i ≡ j
   places i j (inl a) (inl b) q = h.apart i j a b (sym (entry_before names m i (within i a)) ∙ q ∙ entry_before names m j (within j b))
   places i j (inl a) (inr b) q = absurd (other_name i a (q ∙ ap (entry_or [] (names ++ m ∷ [])) b ∙ last_is))
   places i j (inr a) (inl b) q = absurd (other_name j b (sym q ∙ ap (entry_or [] (names ++ m ∷ [])) a ∙ last_is))
@@ -156,13 +162,15 @@ no_places names places e k m = ap (λ es. is_some (lookup (is_at (λ b. slice_cm
 
 -- a name more
 pub place_added : (names : List (List ℕ)) (n : List ℕ) (i : ℕ) (old new : BTreeMap (Bor (List ℕ)) ℕ) → HasPlaces names old
-    → ((m : List ℕ) → get_by (λ k. slice_cmp nat_cmp m k.now) new ≡ cond (bytes_eq n m) (Some i) (get_by (λ k. slice_cmp nat_cmp m k.now) old)) → HasPlaces (names ++ n ∷ []) new
-place_added names n i old new h u m = ap is_some (u m) ∙ at (bytes_eq n m) (get_by (λ k. slice_cmp nat_cmp m k.now) old) (has_name names m) (h m) ∙ sym (name_added names n m) where
-  at : (b : Bool) (o : Option ℕ) (c : Bool) → is_some o ≡ c → is_some (cond b (Some i) o) ≡ (c || b)
-  at true o true e = refl
-  at true o false e = refl
-  at false o true e = e
-  at false o false e = e
+    → ((m : List ℕ) → get_by (λ k. slice_cmp nat_cmp m k.now) new ≡ cond (bytes_eq n m) (Some i) (get_by (λ k. slice_cmp nat_cmp m k.now) old)) →
+    HasPlaces (names ++ n ∷ []) new
+place_added names n i old new h u m = ap is_some (u m) ∙ at (bytes_eq n m) (get_by (λ k. slice_cmp nat_cmp m k.now) old) (has_name names m) (h m) ∙
+    sym (name_added names n m) where
+      at : (b : Bool) (o : Option ℕ) (c : Bool) → is_some o ≡ c → is_some (cond b (Some i) o) ≡ (c || b)
+      at true o true e = refl
+      at true o false e = refl
+      at false o true e = e
+      at false o false e = e
 
 -- ---- the whole file
 
@@ -179,7 +187,8 @@ map_push f [] x = refl
 map_push f (y ∷ xs) x = ap (λ ys. f y ∷ ys) (map_push f xs x)
 
 -- before any call only the variables of the file are present
-pub first_holds : (p : Program) (s : Store) (input : List ℕ) (left : List Top) → HasFile p.tops left (names_of s) s.file → s.calls ≡ [] ∷ [] → s.newest ≡ 0 → HoldsWorld s (world_at_start (code_of p) input [])
+pub first_holds : (p : Program) (s : Store) (input : List ℕ) (left : List Top) → HasFile p.tops left (names_of s) s.file → s.calls ≡ [] ∷ [] →
+    s.newest ≡ 0 → HoldsWorld s (world_at_start (code_of p) input [])
 first_holds p s input left h c n = record { rooms = rooms; apart = h.apart; newest = sym n } where
   none_there : (c x : ℕ) (r : Room) → option_and_then (λ rs. slice_get rs x) (slice_get ([] ∷ []) c) ≡ Some r → ⊥
   none_there zero x r e = absurd (cc)

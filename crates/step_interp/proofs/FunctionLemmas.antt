@@ -16,20 +16,23 @@ use Rattle.step_interp.specs.Functions.{routine_at, IsRoutineOf, stays, stays_be
 
 -- one that has the name is that of the name, where it has a body
 defined_first : (m : List ℕ) (f : Function) (ts : List Top) (b c : Bool) → b ≡ true → c ≡ true
-    → first_of (cond (b && c) (Some (function_tree f)) (function_in (λ g. is_some g.body) m ts)) (cond (b && true) (Some (function_tree f)) (function_in (λ g. true) m ts)) undeclared ≡ function_tree f
+    → first_of (cond (b && c) (Some (function_tree f)) (function_in (λ g. is_some g.body) m ts))
+    (cond (b && true) (Some (function_tree f)) (function_in (λ g. true) m ts)) undeclared ≡ function_tree f
 defined_first m f ts true true h k = refl
 defined_first m f ts true false h k = absurd (true≢false (sym k))
 defined_first m f ts false c h k = absurd (true≢false (sym h))
 
 -- or else where no definition of the name follows
 declared_first : (m : List ℕ) (f : Function) (ts : List Top) (b c : Bool) → b ≡ true → c ≡ false
-    → first_of (cond (b && c) (Some (function_tree f)) (function_in (λ g. is_some g.body) m ts)) (cond (b && true) (Some (function_tree f)) (function_in (λ g. true) m ts)) undeclared
+    → first_of (cond (b && c) (Some (function_tree f)) (function_in (λ g. is_some g.body) m ts))
+    (cond (b && true) (Some (function_tree f)) (function_in (λ g. true) m ts)) undeclared
     ≡ first_of (function_in (λ g. is_some g.body) m ts) (Some (function_tree f)) undeclared
 declared_first m f ts true false h k = refl
 declared_first m f ts true true h k = absurd (true≢false k)
 declared_first m f ts false c h k = absurd (true≢false (sym h))
 
-pub defined_is : (m : List ℕ) (f : Function) (ts : List Top) → bytes_eq f.name m ≡ true → is_some f.body ≡ true → function_named m (T.Function f ∷ ts) ≡ function_tree f
+pub defined_is : (m : List ℕ) (f : Function) (ts : List Top) → bytes_eq f.name m ≡ true → is_some f.body ≡ true →
+    function_named m (T.Function f ∷ ts) ≡ function_tree f
 defined_is m f ts e b = defined_first m f ts (bytes_eq f.name m) (is_some f.body) e b
 
 declared_is : (m : List ℕ) (f : Function) (ts : List Top) → bytes_eq f.name m ≡ true → is_some f.body ≡ false
@@ -43,20 +46,24 @@ alone_is m f e = at (is_some f.body) refl where
   at false k = declared_is m f [] e k
 
 -- a function of another name
-passed_in : (p : Function → Bool) (m : List ℕ) (g : Function) (ts : List Top) → bytes_eq g.name m ≡ false → function_in p m (T.Function g ∷ ts) ≡ function_in p m ts
+passed_in : (p : Function → Bool) (m : List ℕ) (g : Function) (ts : List Top) → bytes_eq g.name m ≡ false →
+    function_in p m (T.Function g ∷ ts) ≡ function_in p m ts
 passed_in p m g ts e = ap (λ b. cond (b && p g) (Some (function_tree g)) (function_in p m ts)) e
 
-behind_in : (p : Function → Bool) (m : List ℕ) (o : Option Routine) (t : Top) (ts : List Top) → function_in p m (t ∷ ts) ≡ function_in p m ts → function_in p m (as_top o ++ t ∷ ts) ≡ function_in p m (as_top o ++ ts)
+behind_in : (p : Function → Bool) (m : List ℕ) (o : Option Routine) (t : Top) (ts : List Top) → function_in p m (t ∷ ts) ≡ function_in p m ts →
+    function_in p m (as_top o ++ t ∷ ts) ≡ function_in p m (as_top o ++ ts)
 behind_in p m None t ts e = e
 behind_in p m (Some r) t ts e = ap (λ x. cond (bytes_eq r.function.now.name m && p r.function.now) (Some (function_tree r.function.now)) x) e
 
-behind : (m : List ℕ) (o : Option Routine) (t : Top) (ts : List Top) → ((p : Function → Bool) → function_in p m (t ∷ ts) ≡ function_in p m ts) → function_named m (as_top o ++ t ∷ ts) ≡ function_named m (as_top o ++ ts)
+behind : (m : List ℕ) (o : Option Routine) (t : Top) (ts : List Top) → ((p : Function → Bool) → function_in p m (t ∷ ts) ≡ function_in p m ts) →
+    function_named m (as_top o ++ t ∷ ts) ≡ function_named m (as_top o ++ ts)
 behind m o t ts e =
     ap (λ x. first_of x (function_in (λ g. true) m (as_top o ++ t ∷ ts)) undeclared) (behind_in (λ g. is_some g.body) m o t ts (e (λ g. is_some g.body)))
     ∙ ap (λ x. first_of (function_in (λ g. is_some g.body) m (as_top o ++ ts)) x undeclared) (behind_in (λ g. true) m o t ts (e (λ g. true)))
 
 -- a function that stays, and one of its name behind it
-kept_first : (m : List ℕ) (f g : Function) (ts : List Top) → bytes_eq f.name m ≡ true → bytes_eq g.name m ≡ true → stays f g ≡ true → function_named m (T.Function f ∷ T.Function g ∷ ts) ≡ function_named m (T.Function f ∷ ts)
+kept_first : (m : List ℕ) (f g : Function) (ts : List Top) → bytes_eq f.name m ≡ true → bytes_eq g.name m ≡ true → stays f g ≡ true →
+    function_named m (T.Function f ∷ T.Function g ∷ ts) ≡ function_named m (T.Function f ∷ ts)
 kept_first m f g ts e h s = at (is_some f.body) refl where
   none : is_some f.body ≡ false → is_some g.body ≡ false
   none k = first (is_some f.body) (is_some g.body) k s where
@@ -73,13 +80,17 @@ kept_first m f g ts e h s = at (is_some f.body) refl where
 
   at : (b : Bool) → is_some f.body ≡ b → function_named m (T.Function f ∷ T.Function g ∷ ts) ≡ function_named m (T.Function f ∷ ts)
   at true k = defined_is m f (T.Function g ∷ ts) e k ∙ sym (defined_is m f ts e k)
-  at false k = declared_is m f (T.Function g ∷ ts) e k ∙ ap (λ x. first_of x (Some (function_tree f)) undeclared) (passed (none k)) ∙ sym (declared_is m f ts e k)
+  at false k = declared_is m f (T.Function g ∷ ts) e k ∙ ap (λ x. first_of x (Some (function_tree f)) undeclared) (passed (none k)) ∙
+      sym (declared_is m f ts e k)
 
 -- one that does not stay
-replaced_first : (m : List ℕ) (f g : Function) (ts : List Top) → bytes_eq f.name m ≡ true → bytes_eq g.name m ≡ true → stays f g ≡ false → function_named m (T.Function f ∷ T.Function g ∷ ts) ≡ function_named m (T.Function g ∷ ts)
+replaced_first : (m : List ℕ) (f g : Function) (ts : List Top) → bytes_eq f.name m ≡ true → bytes_eq g.name m ≡ true → stays f g ≡ false →
+    function_named m (T.Function f ∷ T.Function g ∷ ts) ≡ function_named m (T.Function g ∷ ts)
 replaced_first m f g ts e h s =
     declared_is m f (T.Function g ∷ ts) e (left (is_some f.body) (is_some g.body) s)
-    ∙ ap (λ x. first_of x (Some (function_tree f)) undeclared) (ap (λ b. cond b (Some (function_tree g)) (function_in (λ x. is_some x.body) m ts)) (both (bytes_eq g.name m) (is_some g.body) h (right (is_some f.body) (is_some g.body) s)))
+    ∙ ap (λ x. first_of x (Some (function_tree f)) undeclared)
+    (ap (λ b. cond b (Some (function_tree g)) (function_in (λ x. is_some x.body) m ts))
+    (both (bytes_eq g.name m) (is_some g.body) h (right (is_some f.body) (is_some g.body) s)))
     ∙ sym (defined_is m g ts h (right (is_some f.body) (is_some g.body) s)) where
       left : (a b : Bool) → (a || not b) ≡ false → a ≡ false
       left true b s = absurd (true≢false s)
@@ -100,13 +111,16 @@ same_name : (n m : List ℕ) → n ≡ m → bytes_eq n m ≡ true
 same_name n m e = (bytes_eq-Decides n m).1 e
 
 -- a declaration of no function
-pub other_top : (tops left : List Top) (t : Top) (x : Functions) → ((p : Function → Bool) (m : List ℕ) → function_in p m (t ∷ left) ≡ function_in p m left) → HasFunctions tops (t ∷ left) x → HasFunctions tops left x
+pub other_top : (tops left : List Top) (t : Top) (x : Functions) →
+    ((p : Function → Bool) (m : List ℕ) → function_in p m (t ∷ left) ≡ function_in p m left) → HasFunctions tops (t ∷ left) x → HasFunctions tops left x
 other_top tops left t x e h = record { same = λ m. sym (behind m (routine_at x m) t left (λ p. e p m)) ∙ h.same m; routines = h.routines }
 
 -- a function whose place is taken
-pub kept : (tops left : List Top) (g : Function) (x : Functions) → stays_before (routine_at x g.name) g ≡ true → HasFunctions tops (T.Function g ∷ left) x → HasFunctions tops left x
+pub kept : (tops left : List Top) (g : Function) (x : Functions) → stays_before (routine_at x g.name) g ≡ true →
+    HasFunctions tops (T.Function g ∷ left) x → HasFunctions tops left x
 kept tops left g x s h = record { same = same; routines = h.routines } where
-  here : (m : List ℕ) (o : Option Routine) → routine_at x m ≡ o → bytes_eq g.name m ≡ true → function_named m (as_top o ++ T.Function g ∷ left) ≡ function_named m (as_top o ++ left)
+  here : (m : List ℕ) (o : Option Routine) → routine_at x m ≡ o → bytes_eq g.name m ≡ true →
+      function_named m (as_top o ++ T.Function g ∷ left) ≡ function_named m (as_top o ++ left)
   here m None e b = absurd (true≢false (sym s ∙ ap (λ n. stays_before (routine_at x n) g) ((bytes_eq-Decides g.name m).0 b) ∙ ap (λ o. stays_before o g) e))
   here m (Some r) e b =
       kept_first m r.function.now g left (same_name r.function.now.name m (h.routines m r e).named) b
@@ -119,13 +133,16 @@ kept tops left g x s h = record { same = same; routines = h.routines } where
     at false b = sym (behind m (routine_at x m) (T.Function g) left (λ p. passed_in p m g left b)) ∙ h.same m
 
 -- a function that is put in the table
-pub put : (tops left : List Top) (g : Function) (r : Routine) (x y : Functions) → r.function.now ≡ g → IsRoutineOf g.name r → stays_before (routine_at x g.name) g ≡ false
-    → ((m : List ℕ) → routine_at y m ≡ cond (bytes_eq g.name m) (Some r) (routine_at x m)) → HasFunctions tops (T.Function g ∷ left) x → HasFunctions tops left y
+pub put : (tops left : List Top) (g : Function) (r : Routine) (x y : Functions) → r.function.now ≡ g → IsRoutineOf g.name r →
+    stays_before (routine_at x g.name) g ≡ false
+    → ((m : List ℕ) → routine_at y m ≡ cond (bytes_eq g.name m) (Some r) (routine_at x m)) → HasFunctions tops (T.Function g ∷ left) x →
+    HasFunctions tops left y
 put tops left g r x y is k s u h = record { same = same; routines = routines } where
   now_is : (m : List ℕ) (b : Bool) → bytes_eq g.name m ≡ b → routine_at y m ≡ cond b (Some r) (routine_at x m)
   now_is m b e = u m ∙ ap (λ c. cond c (Some r) (routine_at x m)) e
 
-  here : (m : List ℕ) (o : Option Routine) → routine_at x m ≡ o → bytes_eq g.name m ≡ true → function_named m (as_top o ++ T.Function g ∷ left) ≡ function_named m (T.Function g ∷ left)
+  here : (m : List ℕ) (o : Option Routine) → routine_at x m ≡ o → bytes_eq g.name m ≡ true →
+      function_named m (as_top o ++ T.Function g ∷ left) ≡ function_named m (T.Function g ∷ left)
   here m None e b = refl
   here m (Some q) e b =
       replaced_first m q.function.now g left (same_name q.function.now.name m (h.routines m q e).named) b
@@ -154,7 +171,8 @@ no_function tops x e = record { same = λ m. ap (λ o. function_named m (as_top 
 
 -- ---- the whole file
 
-pub not_function : (p : Function → Bool) (m : List ℕ) (t : Top) (ts : List Top) → ((f : Function) → t ≡ T.Function f → ⊥) → function_in p m (t ∷ ts) ≡ function_in p m ts
+pub not_function : (p : Function → Bool) (m : List ℕ) (t : Top) (ts : List Top) → ((f : Function) → t ≡ T.Function f → ⊥) →
+    function_in p m (t ∷ ts) ≡ function_in p m ts
 not_function p m (T.Include b) ts n = refl
 not_function p m (T.Enum e) ts n = refl
 not_function p m (T.Global g) ts n = refl

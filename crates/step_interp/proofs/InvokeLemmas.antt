@@ -46,13 +46,15 @@ all_without n v = ap (λ k. without_last k v) (nothing n) where
 
 -- ---- bodies
 
-pub with_body : {A : Type 0} (o : Option A) (t : A → Forest) (h : FunctionTree) (m : List ℕ) (vs : List Value) (f : List ℕ) (g : Guards) (k : List Task) (v : List Value) (cs : List Frame) (w : World)
+pub with_body : {A : Type 0} (o : Option A) (t : A → Forest) (h : FunctionTree) (m : List ℕ) (vs : List Value) (f : List ℕ) (g : Guards)
+    (k : List Task) (v : List Value) (cs : List Frame) (w : World)
     → is_some o ≡ true
     → begin_call m (option_map_or (λ a. a) (option_map t o) Nil) (push h vs w) (Waits f g k v ∷ cs) w ≡ invoke (option_map t o) h m vs f g k v cs w
 with_body (Some a) t h m vs f g k v cs w e = refl
 with_body None t h m vs f g k v cs w e = absurd (true≢false (sym e))
 
-pub no_body : {A : Type 0} (o : Option A) (t : A → Forest) (h : FunctionTree) (m : List ℕ) (vs : List Value) (f : List ℕ) (g : Guards) (k : List Task) (v : List Value) (cs : List Frame) (w : World)
+pub no_body : {A : Type 0} (o : Option A) (t : A → Forest) (h : FunctionTree) (m : List ℕ) (vs : List Value) (f : List ℕ) (g : Guards) (k : List Task)
+    (v : List Value) (cs : List Frame) (w : World)
     → is_some o ≡ false
     → settle (call_without_body m h vs w) f g k v cs ≡ invoke (option_map t o) h m vs f g k v cs w
 no_body (Some a) t h m vs f g k v cs w e = absurd (true≢false e)
@@ -64,7 +66,8 @@ is_none None t e = refl
 
 -- ---- the function of a name
 
-pub with_function : (P : Code) (m n : List ℕ) (h : FunctionTree) (xs bs us vs : List Value) (f : List ℕ) (g : Guards) (k : List Task) (cs : List Frame) (w : World) (next : Next) (new : Machine)
+pub with_function : (P : Code) (m n : List ℕ) (h : FunctionTree) (xs bs us vs : List Value) (f : List ℕ) (g : Guards) (k : List Task)
+    (cs : List Frame) (w : World) (next : Next) (new : Machine)
     → m ≡ n → P.functions n ≡ h → bs ≡ xs → us ≡ vs
     → QuietlyReaches (IsGetchar m h) (invoke h.body h m bs f g k us cs w) w next new
     → QuietlyReaches (IsGetchar n (P.functions n)) (perform P (Invokes n xs vs w) f g k cs) w next new

@@ -21,7 +21,8 @@ not_putchar m f vs w = cond (bytes_eq m (codes "printf")) (write_bytes (printed_
 abbrev not_getchar : List ℕ → FunctionTree → List Value → World → Outcome
 not_getchar m f vs w = cond (bytes_eq m (codes "putchar")) (write_byte (residue UChar (next vs)) w) (not_putchar m f vs w)
 
-after_getchar : (m : List ℕ) (f : FunctionTree) (vs : List Value) (w : World) → bytes_eq m (codes "getchar") ≡ false → call_without_body m f vs w ≡ not_getchar m f vs w
+after_getchar : (m : List ℕ) (f : FunctionTree) (vs : List Value) (w : World) → bytes_eq m (codes "getchar") ≡ false →
+    call_without_body m f vs w ≡ not_getchar m f vs w
 after_getchar m f vs w e = ap (λ b. cond b (read_byte w.input w) (not_getchar m f vs w)) e
 
 after_putchar : (m : List ℕ) (f : FunctionTree) (vs : List Value) (w : World)
@@ -29,7 +30,8 @@ after_putchar : (m : List ℕ) (f : FunctionTree) (vs : List Value) (w : World)
 after_putchar m f vs w e1 e2 = after_getchar m f vs w e1 ∙ ap (λ b. cond b (write_byte (residue UChar (next vs)) w) (not_putchar m f vs w)) e2
 
 after_printf : (m : List ℕ) (f : FunctionTree) (vs : List Value) (w : World)
-    → bytes_eq m (codes "getchar") ≡ false → bytes_eq m (codes "putchar") ≡ false → bytes_eq m (codes "printf") ≡ false → call_without_body m f vs w ≡ not_printf m f vs w
+    → bytes_eq m (codes "getchar") ≡ false → bytes_eq m (codes "putchar") ≡ false → bytes_eq m (codes "printf") ≡ false →
+    call_without_body m f vs w ≡ not_printf m f vs w
 after_printf m f vs w e1 e2 e3 = after_putchar m f vs w e1 e2 ∙ ap (λ b. cond b (write_bytes (printed_bytes vs) w) (not_printf m f vs w)) e3
 
 after_exit : (m : List ℕ) (f : FunctionTree) (vs : List Value) (w : World)
@@ -37,7 +39,8 @@ after_exit : (m : List ℕ) (f : FunctionTree) (vs : List Value) (w : World)
     → call_without_body m f vs w ≡ not_exit m f vs w
 after_exit m f vs w e1 e2 e3 e4 = after_printf m f vs w e1 e2 e3 ∙ ap (λ b. cond b (Exits (converted Int (next vs)) w) (not_exit m f vs w)) e4
 
-pub is_getchar : (m : List ℕ) (f : FunctionTree) (vs : List Value) (w : World) → bytes_eq m (codes "getchar") ≡ true → call_without_body m f vs w ≡ read_byte w.input w
+pub is_getchar : (m : List ℕ) (f : FunctionTree) (vs : List Value) (w : World) → bytes_eq m (codes "getchar") ≡ true →
+    call_without_body m f vs w ≡ read_byte w.input w
 is_getchar m f vs w e = ap (λ b. cond b (read_byte w.input w) (not_getchar m f vs w)) e
 
 pub is_putchar : (m : List ℕ) (f : FunctionTree) (vs : List Value) (w : World)

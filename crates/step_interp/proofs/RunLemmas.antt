@@ -36,7 +36,8 @@ input_on P (suc n) c b m w e = last_input P n c b ∙ left_on (run P (suc n) c) 
 goes_on : (r : Beginning) (n : ℕ) (m : Machine) (w : World) → after r n ≡ state_of m w → GoesOnAt r n
 goes_on r n m w e = record { events = w.events; goes = ap shows e }
 
-pub stands_at : (r : Beginning) (n : ℕ) (m : Machine) (w : World) (written : Written) (l : Option (List ℕ)) → after r n ≡ state_of m w → HasPorts r.told w written l → StandsAt r n written l
+pub stands_at : (r : Beginning) (n : ℕ) (m : Machine) (w : World) (written : Written) (l : Option (List ℕ)) → after r n ≡ state_of m w →
+    HasPorts r.told w written l → StandsAt r n written l
 stands_at r n m w written l e p = record {
   output = p.output ∙ ap (more r.told) (sym (ap output_of e));
   input = p.input ∙ ap Some (sym (input_on r.code n r.first r.input m w e));
@@ -50,8 +51,10 @@ pub next_at : (r : Beginning) (n : ℕ) (m k : Machine) (w : World) (written : W
     → Follows (step r.code (state_of m w)) r.told k written l → Follows (after r (suc n)) r.told k written l
 next_at r n m k w written l e f = subst (λ c. Follows c r.told k written l) (sym (one_more r n m w e)) f
 
-over_at : (r : Beginning) (n budget : ℕ) (m : Machine) (w : World) (s : List Event → State) (b : List Event → B.Shown) (written : Written) (l : Option (List ℕ)) → n < budget
-    → ((es : List Event) → shows (s es) ≡ b es) → ((es : List Event) → events_in (s es) ≡ es) → ((es : List Event) → IsOver (shows (s es))) → ((es : List Event) (i : List ℕ) → left_in (s es) i ≡ i)
+over_at : (r : Beginning) (n budget : ℕ) (m : Machine) (w : World) (s : List Event → State) (b : List Event → B.Shown) (written : Written)
+    (l : Option (List ℕ)) → n < budget
+    → ((es : List Event) → shows (s es) ≡ b es) → ((es : List Event) → events_in (s es) ≡ es) → ((es : List Event) → IsOver (shows (s es))) →
+    ((es : List Event) (i : List ℕ) → left_in (s es) i ≡ i)
     → after r n ≡ state_of m w → IsLast (step r.code (state_of m w)) s r.told w written l → IsOverAt r b budget (suc n) written l
 over_at r n budget m w s b written l lt a d o i e last =
     let there : after r (suc n) ≡ s last.events = one_more r n m w e ∙ last.over in record {
@@ -60,17 +63,21 @@ over_at r n budget m w s b written l lt a d o i e last =
       ends = subst (λ c. shows c ≡ b (events_in c)) (sym there) (a last.events ∙ ap b (sym (d last.events)));
       stands = record {
         output = last.output ∙ ap (more r.told) (sym (ap output_of there ∙ ap bytes_in (d last.events)));
-        input = last.input ∙ ap Some (sym (last_input r.code n r.first r.input ∙ ap (λ c. left_in c (input_after r.code n r.first r.input)) there ∙ i last.events (input_after r.code n r.first r.input) ∙ input_on r.code n r.first r.input m w e));
+        input = last.input ∙ ap Some (sym (last_input r.code n r.first r.input ∙ ap (λ c. left_in c (input_after r.code n r.first r.input)) there ∙
+            i last.events (input_after r.code n r.first r.input) ∙ input_on r.code n r.first r.input m w e));
       };
     }
 
 -- the answer that stands where a step was the last one
-pub answered : (r : Beginning) (n budget : ℕ) (m k : Machine) (w : World) (answer : RunAnswer) (written : Written) (l : Option (List ℕ)) → n < budget → after r n ≡ state_of m w
+pub answered : (r : Beginning) (n budget : ℕ) (m k : Machine) (w : World) (answer : RunAnswer) (written : Written) (l : Option (List ℕ)) →
+    n < budget → after r n ≡ state_of m w
     → Followed r.code r.told (suc n) m w (A.Over answer) k written l → Answers r budget answer written l
 answered r n budget m k w (Ended z i) written l lt e f =
-    subst (λ j. IsOverAt r (B.Ended z) budget j written l) (sym f.0) (over_at r n budget m w (HasEnded z) (B.Ended z) written l lt (λ es. refl) (λ es. refl) (λ es. tt) (λ es i. refl) e f.1)
+    subst (λ j. IsOverAt r (B.Ended z) budget j written l) (sym f.0)
+    (over_at r n budget m w (HasEnded z) (B.Ended z) written l lt (λ es. refl) (λ es. refl) (λ es. tt) (λ es i. refl) e f.1)
 answered r n budget m k w (Trapped t i) written l lt e f =
-    subst (λ j. IsOverAt r (B.Trapped t) budget j written l) (sym f.0) (over_at r n budget m w (HasTrapped t) (B.Trapped t) written l lt (λ es. refl) (λ es. refl) (λ es. tt) (λ es i. refl) e f.1)
+    subst (λ j. IsOverAt r (B.Trapped t) budget j written l) (sym f.0)
+    (over_at r n budget m w (HasTrapped t) (B.Trapped t) written l lt (λ es. refl) (λ es. refl) (λ es. tt) (λ es i. refl) e f.1)
 answered r n budget m k w Spent written l lt e f = absurd f
 answered r n budget m k w ReadFault written l lt e f =
     (n, record { within = lt; goes = goes_on r n m w e; reading = subst (IsReading r.code) (sym e) f.0; stands = stands_at r n m w written l e f.1 })
@@ -99,15 +106,19 @@ answered r n budget m k w Memory written l lt e f = elim f as (λ _. (i : ℕ) �
 ]
 
 -- all steps were made
-pub spent : (r : Beginning) (budget : ℕ) (m : Machine) (written : Written) (l : Option (List ℕ)) → Follows (after r budget) r.told m written l → IsSpentAt r budget written l
+pub spent : (r : Beginning) (budget : ℕ) (m : Machine) (written : Written) (l : Option (List ℕ)) → Follows (after r budget) r.told m written l →
+    IsSpentAt r budget written l
 spent r budget m written l f = record { goes = goes_on r budget m f.world f.same; stands = stands_at r budget m f.world written l f.same f.ports }
 
 -- ---- completeness
 
 stays_over : (r : Beginning) (n budget : ℕ) (b : List Event → B.Shown) (written : Written) (l : Option (List ℕ))
     → ((es : List Event) (d : B.Shown) → B.Covers (b es) d → d ≡ b es) → IsOverAt r b budget n written l → (es : List Event) × (shows (after r budget) ≡ b es)
-stays_over r n budget b written l k h =
-    (events_in (after r n), k (events_in (after r n)) (shows (after r budget)) (subst (λ s. B.Covers s (shows (after r budget))) h.ends (run_grows r.code n budget r.first h.within)))
+stays_over r n budget b written l k h = (
+  events_in (after r n),
+  k (events_in (after r n)) (shows (after r budget))
+      (subst (λ s. B.Covers s (shows (after r budget))) h.ends (run_grows r.code n budget r.first h.within)),
+)
 
 pub agrees : (r : Beginning) (budget : ℕ) (answer : RunAnswer) (written : Written) (l : Option (List ℕ))
     → Answers r budget answer written l → ¬ (answer ≡ ReadFault) → ¬ (answer ≡ WriteFault) → Agrees answer (shows (after r budget))

@@ -52,7 +52,8 @@ has_later m w input events h = record {
 
 -- nor are the values pending
 has_values : (old new : Machine) (w : World) → new ≡ record old { call = record old.call { values = new.call.values } } → HasWorld old w → HasWorld new w
-has_values old new w e h = subst (λ m. HasWorld m w) (sym e) (record { holds = h.holds; cells = h.cells; answers = h.answers; linked = h.linked; called = h.called; waiting = h.waiting })
+has_values old new w e h = subst (λ m. HasWorld m w) (sym e)
+    (record { holds = h.holds; cells = h.cells; answers = h.answers; linked = h.linked; called = h.called; waiting = h.waiting })
 
 pub settled_at : (old new : Machine) (x : Meant.Value) (w : World)
     → values_of (names_of old.store) new.call.values ≡ x ∷ values_of (names_of old.store) old.call.values
@@ -60,7 +61,8 @@ pub settled_at : (old new : Machine) (x : Meant.Value) (w : World)
     → HasWorld old w → StandsFor (settled old (Gives x w)) new w.input w.events
 settled_at old new x w e o h = record {
   world = w;
-  same = ap (λ vs. At old.call.function.now.name (guards_of old.call.guards) (tasks_of old.call.tasks) vs (frames_of (names_of old.store) old.waiting) w) (sym e)
+  same = ap (λ vs. At old.call.function.now.name (guards_of old.call.guards) (tasks_of old.call.tasks) vs (frames_of (names_of old.store) old.waiting)
+      w) (sym e)
       ∙ sym (ap (λ m. state_of m w) o);
   has = has_values old new w o h;
   input = refl;
@@ -70,21 +72,26 @@ settled_at old new x w e o h = record {
 -- ---- known functions
 
 -- the byte is written, and is the value
-pub wrote_byte : (old new : Machine) (b : ℕ) (w : World) → IsGiven (pos b) old new → HasWorld old w → StandsFor (settled old (write_byte b w)) new w.input (w.events ++ Byte b ∷ [])
-wrote_byte old new b w g h = settled_at old new (Meant.Integer (pos b)) (emit (Byte b ∷ []) w) g.values g.others (has_later old w w.input (w.events ++ Byte b ∷ []) h)
+pub wrote_byte : (old new : Machine) (b : ℕ) (w : World) → IsGiven (pos b) old new → HasWorld old w →
+    StandsFor (settled old (write_byte b w)) new w.input (w.events ++ Byte b ∷ [])
+wrote_byte old new b w g h = settled_at old new (Meant.Integer (pos b)) (emit (Byte b ∷ []) w) g.values g.others
+    (has_later old w w.input (w.events ++ Byte b ∷ []) h)
 
 pub wrote_bytes : (old new : Machine) (bs : List ℕ) (w : World) → IsGiven (converted Int (pos (length bs))) old new → HasWorld old w
     → StandsFor (settled old (write_bytes bs w)) new w.input (w.events ++ map Byte bs)
-wrote_bytes old new bs w g h = settled_at old new (Meant.Integer (converted Int (pos (length bs)))) (emit (map Byte bs) w) g.values g.others (has_later old w w.input (w.events ++ map Byte bs) h)
+wrote_bytes old new bs w g h = settled_at old new (Meant.Integer (converted Int (pos (length bs)))) (emit (map Byte bs) w) g.values g.others
+    (has_later old w w.input (w.events ++ map Byte bs) h)
 
 -- what is read next is the value
-read_at : (old n : Machine) (w : World) (input left : List ℕ) (z : ℤ) → w.input ≡ input → HasWorld old w → IsRead input z left → IsGiven z old n → StandsFor (settled old (read_byte input w)) n left w.events
+read_at : (old n : Machine) (w : World) (input left : List ℕ) (z : ℤ) → w.input ≡ input → HasWorld old w → IsRead input z left → IsGiven z old n →
+    StandsFor (settled old (read_byte input w)) n left w.events
 read_at old n w [] left z e h r g =
     subst (λ l. StandsFor (settled old (read_byte [] w)) n l w.events) (e ∙ sym r.1)
     (settled_at old n (Meant.Integer (negsuc 0)) w (g.values ∙ ap (λ y. Meant.Integer y ∷ values_of (names_of old.store) old.call.values) r.0) g.others h)
 read_at old n w (b ∷ bs) left z e h r g =
     subst (λ l. StandsFor (settled old (read_byte (b ∷ bs) w)) n l w.events) (sym r.1)
-    (settled_at old n (Meant.Integer (pos (residue UChar (pos b)))) (record w { input = bs }) (g.values ∙ ap (λ y. Meant.Integer y ∷ values_of (names_of old.store) old.call.values) r.0) g.others (has_later old w bs w.events h))
+    (settled_at old n (Meant.Integer (pos (residue UChar (pos b)))) (record w { input = bs })
+    (g.values ∙ ap (λ y. Meant.Integer y ∷ values_of (names_of old.store) old.call.values) r.0) g.others (has_later old w bs w.events h))
 
 pub reads : (R : Type 0) (old : Machine) (w : World) → R → HasWorld old w → Reaches R (settled old (read_byte w.input w)) w Reads old
 reads R old w r h = (r, λ z left i n g. read_at old n w w.input left z refl h i g)

@@ -23,7 +23,8 @@ use Rattle.step_interp.specs.Followed.{Follows}
 use Rattle.step_interp.specs.Skipped.{Skips}
 use Rattle.step_interp.proofs.RunLemmas.{stands_at}
 
-pub skipped : (old : Machine) (n : ℕ) (s : Store) (tasks : List Work) (values : List Value) → s.names ≡ old.store.names → GoesOn old.store s n old.call.tasks tasks old.call.values values
+pub skipped : (old : Machine) (n : ℕ) (s : Store) (tasks : List Work) (values : List Value) → s.names ≡ old.store.names →
+    GoesOn old.store s n old.call.tasks tasks old.call.values values
     → Skips n old (record old { store = s; call = record old.call { tasks = tasks; values = values } })
 skipped old n s tasks values e r w h =
     let ns = names_of old.store in
@@ -32,14 +33,16 @@ skipped old n s tasks values e r w h =
     let x = r.comes (code_of old.program.now) name g (frames_of ns old.waiting) w h.holds in
     let now = record w { variables = x.0 } in record {
       world = now;
-      same = x.1 ∙ ap (λ m. At name g (tasks_of tasks) (values_of (map (λ y. y.now) m.items) values) (frames_of (map (λ y. y.now) m.items) old.waiting) now) (sym e);
+      same = x.1 ∙ ap (λ m. At name g (tasks_of tasks) (values_of (map (λ y. y.now) m.items) values)
+          (frames_of (map (λ y. y.now) m.items) old.waiting) now) (sym e);
       has = record { holds = x.2; cells = h.cells; answers = h.answers; linked = h.linked; called = h.called; waiting = h.waiting };
       input = refl;
       events = refl;
     }
 
 -- so many steps further
-pub skipped_to : (r : Beginning) (d n : ℕ) (m k : Machine) (written : Written) (l : Option (List ℕ)) → r.code ≡ code_of m.program.now → Follows (after r d) r.told m written l → Skips n m k
+pub skipped_to : (r : Beginning) (d n : ℕ) (m k : Machine) (written : Written) (l : Option (List ℕ)) → r.code ≡ code_of m.program.now →
+    Follows (after r d) r.told m written l → Skips n m k
     → Follows (after r (d + n)) r.told k written l
 skipped_to r d n m k written l e f q =
     let x = q f.world f.has in record {
@@ -50,5 +53,6 @@ skipped_to r d n m k written l e f q =
     }
 
 -- a run that stops there for want of memory
-pub stopped : (r : Beginning) (d budget : ℕ) (m : Machine) (written : Written) (l : Option (List ℕ)) → d ≤ budget → Follows (after r d) r.told m written l → Answers r budget Memory written l
+pub stopped : (r : Beginning) (d budget : ℕ) (m : Machine) (written : Written) (l : Option (List ℕ)) → d ≤ budget →
+    Follows (after r d) r.told m written l → Answers r budget Memory written l
 stopped r d budget m written l h f = (d, record { within = h; stands = stands_at r d m f.world written l f.same f.ports })

@@ -18,7 +18,8 @@ use Rattle.step_memory.specs.Rooms.{IsRoom, AreCells, AreSlots}
 use Rattle.step_memory.proofs.PageLemmas.{get_left, get_right, get_drop}
 
 -- one more slot behind the others
-pub one_slot_more : (ns : List (List ℕ)) (rooms : List Room) (room : Room) (slots : ℕ → Variable) → AreSlots ns rooms slots → IsRoom ns room (slots (length rooms)) → AreSlots ns (rooms ++ room ∷ []) slots
+pub one_slot_more : (ns : List (List ℕ)) (rooms : List Room) (room : Room) (slots : ℕ → Variable) → AreSlots ns rooms slots →
+    IsRoom ns room (slots (length rooms)) → AreSlots ns (rooms ++ room ∷ []) slots
 one_slot_more ns [] room slots a h zero r e = subst (λ x. IsRoom ns x (slots 0)) (cc) h
 one_slot_more ns [] room slots a h (suc x) r e = cc
 one_slot_more ns (y ∷ rooms) room slots a h zero r e = a 0 r e
@@ -46,7 +47,8 @@ under : (i n : ℕ) → i < n → nat_lt i n ≡ true
 under i n h = grind (arith, nat_tests)
 
 -- the variable that the next parameter is
-pub next_slot : (f : FunctionTree) (vs left : List Meant.Value) (i : ℕ) (s : Slot) → i < f.params → i < length f.slots → s ≡ get_or f.slots i s → left ≡ drop i vs → parameter s (top left) ≡ slot_at_start f vs i
+pub next_slot : (f : FunctionTree) (vs left : List Meant.Value) (i : ℕ) (s : Slot) → i < f.params → i < length f.slots → s ≡ get_or f.slots i s →
+    left ≡ drop i vs → parameter s (top left) ≡ slot_at_start f vs i
 next_slot f vs left i s p h e k =
     sym (ap (λ b. cond b (parameter (entry_or no_slot f.slots i) (entry_or Meant.Missing vs i)) (zeros (entry_or no_slot f.slots i))) (under i f.params p)
     ∙ ap (λ q. parameter q (entry_or Meant.Missing vs i)) (entry_slot f.slots i s h e)
@@ -77,11 +79,14 @@ entry_got (x ∷ ss) (suc i) s e = entry_got ss i s e
 not_under : (i n : ℕ) → n ≤ i → nat_lt i n ≡ false
 not_under i n h = grind (arith, nat_tests)
 
-mapped_slot : (ns : List (List ℕ)) (o : Option Slot) (r : Room) (v : Variable) → option_map room_at_start o ≡ Some r → ((s : Slot) → o ≡ Some s → v ≡ zeros s) → IsRoom ns r v
+mapped_slot : (ns : List (List ℕ)) (o : Option Slot) (r : Room) (v : Variable) → option_map room_at_start o ≡ Some r →
+    ((s : Slot) → o ≡ Some s → v ≡ zeros s) → IsRoom ns r v
 mapped_slot ns None r v e h = cc
-mapped_slot ns (Some s) r v e h = let same : room_at_start s ≡ r = cc in subst (λ x. IsRoom ns x v) same (subst (IsRoom ns (room_at_start s)) (sym (h s refl)) (zero_slot ns s))
+mapped_slot ns (Some s) r v e h = let same : room_at_start s ≡ r = cc in
+    subst (λ x. IsRoom ns x v) same (subst (IsRoom ns (room_at_start s)) (sym (h s refl)) (zero_slot ns s))
 
-pub rest_slots : (ns : List (List ℕ)) (f : FunctionTree) (vs : List Meant.Value) (first : List Room) (n : ℕ) → length first ≡ n → (n < length f.slots → f.params ≤ n)
+pub rest_slots : (ns : List (List ℕ)) (f : FunctionTree) (vs : List Meant.Value) (first : List Room) (n : ℕ) → length first ≡ n →
+    (n < length f.slots → f.params ≤ n)
     → AreSlots ns first (slot_at_start f vs) → AreSlots ns (first ++ map room_at_start (drop n f.slots)) (slot_at_start f vs)
 rest_slots ns f vs first n e p a x r h = elim (cases_lt x n) as (λ _. IsRoom ns r (slot_at_start f vs x)) [
   | inl l ↦ a x r (sym (get_left first (map room_at_start (drop n f.slots)) x (omega (arith, e, l))) ∙ h)
@@ -94,6 +99,7 @@ rest_slots ns f vs first n e p a x r h = elim (cases_lt x n) as (λ _. IsRoom ns
       ∙ sym (get_right first (map room_at_start (drop n f.slots)) x (x - n) behind) ∙ h)
       (λ s g.
       let within : n < length f.slots = omega (arith, l, slice_get_within f.slots x s g) in
-      ap (λ b. cond b (parameter (entry_or no_slot f.slots x) (entry_or Meant.Missing vs x)) (zeros (entry_or no_slot f.slots x))) (not_under x f.params (omega (arith, p within, l)))
+      ap (λ b. cond b (parameter (entry_or no_slot f.slots x) (entry_or Meant.Missing vs x)) (zeros (entry_or no_slot f.slots x)))
+      (not_under x f.params (omega (arith, p within, l)))
       ∙ ap zeros (entry_got f.slots x s g))
 ]

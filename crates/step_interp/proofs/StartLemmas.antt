@@ -44,19 +44,22 @@ begun_quiet m a f vs p given =
     both (λ r. IsQuiet (begin_call m a r [] (world_at_start p given [])) given) (nat_lt most_calls 1) (Err Trap.Calls)
     (cond (nat_lt most_cells (p.cells + cells_of f.slots)) (Err Trap.Cells) (Ok (enter_call f vs (world_at_start p given []))))
     (record { output = refl; input = refl })
-    (both (λ r. IsQuiet (begin_call m a r [] (world_at_start p given [])) given) (nat_lt most_cells (p.cells + cells_of f.slots)) (Err Trap.Cells) (Ok (enter_call f vs (world_at_start p given [])))
+    (both (λ r. IsQuiet (begin_call m a r [] (world_at_start p given [])) given) (nat_lt most_cells (p.cells + cells_of f.slots)) (Err Trap.Cells)
+    (Ok (enter_call f vs (world_at_start p given [])))
     (record { output = refl; input = refl }) (record { output = refl; input = refl }))
 
 pub start_quiet : (p : Code) (m : List ℕ) (xs : List ℤ) (given : List ℕ) → IsQuiet (start p m xs given []) given
 start_quiet p m xs given = begun_quiet m (items_of (p.functions m)) (p.functions m) (map Integer xs) p given
 
-pub stopped_at_start : (r : Beginning) (budget : ℕ) (l : Option (List ℕ)) → IsCount r.told → l ≡ Some r.input → IsQuiet r.first r.input → IsStoppedAt r budget 0 r.told l
+pub stopped_at_start : (r : Beginning) (budget : ℕ) (l : Option (List ℕ)) → IsCount r.told → l ≡ Some r.input → IsQuiet r.first r.input →
+    IsStoppedAt r budget 0 r.told l
 stopped_at_start r budget l c e q = record {
   within = omega arith;
   stands = record { output = told_nil r.told c ∙ ap (more r.told) (sym q.output); input = e ∙ ap Some (sym q.input) };
 }
 
-pub trapped_at_start : (r : Beginning) (budget : ℕ) (t : Trap) (l : Option (List ℕ)) → IsCount r.told → l ≡ Some r.input → r.first ≡ HasTrapped t [] → IsOverAt r (B.Trapped t) budget 0 r.told l
+pub trapped_at_start : (r : Beginning) (budget : ℕ) (t : Trap) (l : Option (List ℕ)) → IsCount r.told → l ≡ Some r.input → r.first ≡ HasTrapped t [] →
+    IsOverAt r (B.Trapped t) budget 0 r.told l
 trapped_at_start r budget t l c e s = record {
   within = omega arith;
   steps = record { over = subst (λ d. IsOver (shows d)) (sym s) tt; before = λ m h. absurd (omega (arith, h)) };
@@ -94,17 +97,23 @@ no_argument xs n e = ap (λ k. map Integer (drop k xs)) (whole n (length xs) e) 
 
 -- the state from which a run begins, by what its entry is
 start_as : (p : Program) (m : List ℕ) (f : FunctionTree) (xs : List ℤ) (given : List ℕ) → (code_of p).functions m ≡ f
-    → start (code_of p) m xs given [] ≡ begin_call m (items_of f) (push f (map Integer xs) (world_at_start (code_of p) given [])) [] (world_at_start (code_of p) given [])
-start_as p m f xs given e = ap (λ h. begin_call m (items_of h) (push h (map Integer xs) (world_at_start (code_of p) given [])) [] (world_at_start (code_of p) given [])) e
+    → start (code_of p) m xs given [] ≡ begin_call m (items_of f) (push f (map Integer xs) (world_at_start (code_of p) given [])) []
+    (world_at_start (code_of p) given [])
+start_as p m f xs given e = ap (λ h. begin_call m (items_of h) (push h (map Integer xs) (world_at_start (code_of p) given [])) []
+    (world_at_start (code_of p) given [])) e
 
-pub begins : (p : Program) (t : Functions) (m : List ℕ) (f : Function) (ls : Labels) (xs : List ℤ) (cells : ℕ) (machine : Machine) (given : List ℕ) → (code_of p).functions m ≡ function_tree f → f.name ≡ m
-    → cells ≡ global_cells p.tops + cells_of f.slots → nat_lt most_cells cells ≡ false → AreFunctionsOf p t → AreLabelsOf f ls → BeginsIn p t f ls xs cells machine → StandsFor (start (code_of p) m xs given []) machine given []
+pub begins : (p : Program) (t : Functions) (m : List ℕ) (f : Function) (ls : Labels) (xs : List ℤ) (cells : ℕ) (machine : Machine) (given : List ℕ) →
+    (code_of p).functions m ≡ function_tree f → f.name ≡ m
+    → cells ≡ global_cells p.tops + cells_of f.slots → nat_lt most_cells cells ≡ false → AreFunctionsOf p t → AreLabelsOf f ls →
+    BeginsIn p t f ls xs cells machine → StandsFor (start (code_of p) m xs given []) machine given []
 begins p t m f ls xs cells machine given e k c h fs a b =
     let w = enter_call (function_tree f) (map Integer xs) (world_at_start (code_of p) given []) in record {
       world = w;
       same = start_as p m (function_tree f) xs given e
-          ∙ ap (λ b. begin_call m (items_of (function_tree f)) (cond b (Err Trap.Cells) (Ok w)) [] (world_at_start (code_of p) given [])) (ap (nat_lt most_cells) (sym c) ∙ h)
-          ∙ state_at machine w m (items_of (function_tree f)) [] (ap (λ g. g.name) b.function ∙ k) b.guards b.tasks b.values (ap (frames_of (names_of machine.store)) b.waiting);
+          ∙ ap (λ b. begin_call m (items_of (function_tree f)) (cond b (Err Trap.Cells) (Ok w)) [] (world_at_start (code_of p) given []))
+          (ap (nat_lt most_cells) (sym c) ∙ h)
+          ∙ state_at machine w m (items_of (function_tree f)) [] (ap (λ g. g.name) b.function ∙ k) b.guards b.tasks b.values
+          (ap (frames_of (names_of machine.store)) b.waiting);
       has = record {
         holds = b.holds given;
         cells = sym (b.cells ∙ c);

@@ -21,7 +21,8 @@ min_more n a b m = omega arith
 
 more_append : (t : Written) (a b : List ℕ) → more (more t a) b ≡ more t (a ++ b)
 more_append (Told bytes) a b = ap Told (append_assoc bytes a b)
-more_append (Counted n) a b = ap Counted (min_more n (length a) (length b) 18446744073709551615 ∙ ap (λ k. min (n + k) 18446744073709551615) (sym (length-append a b)))
+more_append (Counted n) a b = ap Counted (min_more n (length a) (length b) 18446744073709551615 ∙
+    ap (λ k. min (n + k) 18446744073709551615) (sym (length-append a b)))
 more_append Untold a b = refl
 
 bytes_append : (xs ys : List Event) → bytes_in (xs ++ ys) ≡ bytes_in xs ++ bytes_in ys
@@ -63,7 +64,8 @@ wrote s told m w es fs bs was now l h q e p k = record {
   same = h.same;
   has = h.has;
   ports = record {
-    output = k ∙ ap (λ t. more t bs) p.output ∙ more_append told (bytes_in w.events) bs ∙ ap (more told) (sym (ap bytes_in h.events ∙ bytes_shown w.events es fs bs q e));
+    output = k ∙ ap (λ t. more t bs) p.output ∙ more_append told (bytes_in w.events) bs ∙
+        ap (more told) (sym (ap bytes_in h.events ∙ bytes_shown w.events es fs bs q e));
     input = p.input ∙ ap Some (sym h.input);
   };
 }
@@ -78,7 +80,8 @@ wrote_bytes R s told w m bs was now l h p k = wrote s told m w h.events (map Byt
 
 -- a step of whose bytes a front was written
 front : (s : State) (told : Written) (m : Machine) (w : World) (es fs : List Event) (bs : List ℕ) (was now : Written) (l : Option (List ℕ))
-    → StandsFor s m w.input ((w.events ++ es) ++ fs) → bytes_in es ≡ [] → bytes_in fs ≡ bs → HasPorts told w was l → FrontWritten was now bs → WroteFront s told w now l
+    → StandsFor s m w.input ((w.events ++ es) ++ fs) → bytes_in es ≡ [] → bytes_in fs ≡ bs → HasPorts told w was l → FrontWritten was now bs →
+    WroteFront s told w now l
 front s told m w es fs bs was now l h q e p f = record {
   bytes = bs;
   next = ap output_of h.same ∙ ap bytes_in h.events ∙ bytes_shown w.events es fs bs q e;
@@ -107,7 +110,11 @@ read_on R s told w m n z was before after h r i p =
 -- the same, where memory was refused after the read
 pub read_then : (R : Type 0) (s : State) (told : Written) (w : World) (m : Machine) (z : ℤ) (was : Written) (before after : Option (List ℕ))
     → QuietlyReaches R s w Reads m → ReadsNext z before after → HasPorts told w was before → HasRead s told was after
-read_then R s told w m z was before after h r p = record { machine = given; follows = read_on R s told w m given z was before after h r (record { values = refl; others = refl }) p } where
+read_then R s told w m z was before after h r p = record {
+  machine = given;
+  follows = read_on R s told w m given z was before after h r
+      (record { values = refl; others = refl }) p;
+} where
   given : Machine
   given = record m { call = record m.call { values = My.Integer z ∷ m.call.values } }
 

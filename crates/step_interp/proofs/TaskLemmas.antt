@@ -70,7 +70,8 @@ comes_to P (Leaves x u) f g before after cs vs w c = absurd c
 -- ---- of a machine
 
 -- a task of an item, a test or a selector
-pub control_performed : (old : Machine) (new : Call) (t : Task) (w : World) → new.function ≡ old.call.function → new.labels ≡ old.call.labels → Moves (task_of t) old.store old.call new → HasWorld old w
+pub control_performed : (old : Machine) (new : Call) (t : Task) (w : World) → new.function ≡ old.call.function → new.labels ≡ old.call.labels →
+    Moves (task_of t) old.store old.call new → HasWorld old w
     → StandsFor (step (code_of old.program.now) (state_with t old w)) (record old { call = new }) w.input w.events
 control_performed old new t w e l m h =
     let P = code_of old.program.now in
@@ -96,19 +97,25 @@ control_performed old new t w e l m h =
 -- the state after a task of an expression is what its effect comes to
 op_stepped : (old : Machine) (t : Task) (o : Op) (w : World) → task_of t ≡ T.Works o
     → step (code_of old.program.now) (state_with t old w)
-    ≡ perform (code_of old.program.now) (effect o (values_of (names_of old.store) old.call.values) w) old.call.function.now.name (guards_of old.call.guards) (tasks_of old.call.tasks) (frames_of (names_of old.store) old.waiting)
+    ≡ perform (code_of old.program.now) (effect o (values_of (names_of old.store) old.call.values) w) old.call.function.now.name
+    (guards_of old.call.guards) (tasks_of old.call.tasks) (frames_of (names_of old.store) old.waiting)
 op_stepped old t o w e =
-    ap (λ x. step (code_of old.program.now) (At old.call.function.now.name (guards_of old.call.guards) (x ∷ tasks_of old.call.tasks) (values_of (names_of old.store) old.call.values) (frames_of (names_of old.store) old.waiting) w)) e
+    ap (λ x. step (code_of old.program.now) (At old.call.function.now.name (guards_of old.call.guards) (x ∷ tasks_of old.call.tasks)
+    (values_of (names_of old.store) old.call.values) (frames_of (names_of old.store) old.waiting) w)) e
 
-pub op_trapped : (old : Machine) (t : Task) (o : Op) (trap : Trap) (w : World) → task_of t ≡ T.Works o → IsTrapped o trap old.store old.call.values → HasWorld old w
+pub op_trapped : (old : Machine) (t : Task) (o : Op) (trap : Trap) (w : World) → task_of t ≡ T.Works o → IsTrapped o trap old.store old.call.values →
+    HasWorld old w
     → step (code_of old.program.now) (state_with t old w) ≡ HasTrapped trap w.events
 op_trapped old t o trap w e m h =
     op_stepped old t o w e
-    ∙ ap (λ x. perform (code_of old.program.now) x old.call.function.now.name (guards_of old.call.guards) (tasks_of old.call.tasks) (frames_of (names_of old.store) old.waiting)) (m w h.holds)
+    ∙ ap (λ x. perform (code_of old.program.now) x old.call.function.now.name (guards_of old.call.guards) (tasks_of old.call.tasks)
+    (frames_of (names_of old.store) old.waiting)) (m w h.holds)
 
-pub op_performed : (old : Machine) (t : Task) (o : Op) (s : Store) (tasks : List Work) (values : List Value) (w : World) → task_of t ≡ T.Works o → s.names ≡ old.store.names
+pub op_performed : (old : Machine) (t : Task) (o : Op) (s : Store) (tasks : List Work) (values : List Value) (w : World) → task_of t ≡ T.Works o →
+    s.names ≡ old.store.names
     → Changes o old.store s old.call.tasks tasks old.call.values values → HasWorld old w
-    → StandsFor (step (code_of old.program.now) (state_with t old w)) (record old { store = s; call = record old.call { tasks = tasks; values = values } }) w.input w.events
+    → StandsFor (step (code_of old.program.now) (state_with t old w))
+    (record old { store = s; call = record old.call { tasks = tasks; values = values } }) w.input w.events
 op_performed old t o s tasks values w e n m h =
     let P = code_of old.program.now in
     let r = m w h.holds in
@@ -117,9 +124,17 @@ op_performed old t o s tasks values w e n m h =
     let g = guards_of old.call.guards in record {
       world = r.0;
       same = op_stepped old t o w e
-          ∙ comes_to P (effect o (values_of (names_of old.store) old.call.values) w) name g (tasks_of old.call.tasks) (tasks_of tasks) (frames_of (names_of old.store) old.waiting) (values_of (names_of old.store) values) r.0 r.1
+          ∙ comes_to P (effect o (values_of (names_of old.store) old.call.values) w) name g (tasks_of old.call.tasks) (tasks_of tasks)
+          (frames_of (names_of old.store) old.waiting) (values_of (names_of old.store) values) r.0 r.1
           ∙ ap (λ m. At name g (tasks_of tasks) (values_of (map (λ x. x.now) m.items) values) (frames_of (map (λ x. x.now) m.items) old.waiting) r.0) (sym n);
-      has = record { holds = r.2; cells = differ.cells ∙ h.cells; answers = differ.answers ∙ h.answers; linked = h.linked; called = h.called; waiting = h.waiting };
+      has = record {
+        holds = r.2;
+        cells = differ.cells ∙ h.cells;
+        answers = differ.answers ∙ h.answers;
+        linked = h.linked;
+        called = h.called;
+        waiting = h.waiting;
+      };
       input = differ.input;
       events = differ.events;
     }
@@ -128,11 +143,13 @@ op_performed old t o s tasks values w e n m h =
 
 -- the tasks are these, and the step from them shows nothing
 pub stepped : (old : Machine) (k : List T.Task) (w : World) (next : Next) (new : Machine) → tasks_of old.call.tasks ≡ k
-    → Reaches ⊥ (step (code_of old.program.now) (At old.call.function.now.name (guards_of old.call.guards) k (values_of (names_of old.store) old.call.values) (frames_of (names_of old.store) old.waiting) w)) w next new
+    → Reaches ⊥ (step (code_of old.program.now) (At old.call.function.now.name (guards_of old.call.guards) k
+    (values_of (names_of old.store) old.call.values) (frames_of (names_of old.store) old.waiting) w)) w next new
     → QuietlyReaches (IsReading (code_of old.program.now) (state_of old w)) (step (code_of old.program.now) (state_of old w)) w next new
 stepped old k w next new e r =
     let P = code_of old.program.now in
-    let s = λ (x : List T.Task). At old.call.function.now.name (guards_of old.call.guards) x (values_of (names_of old.store) old.call.values) (frames_of (names_of old.store) old.waiting) w in
+    let s = λ (x : List T.Task). At old.call.function.now.name (guards_of old.call.guards) x (values_of (names_of old.store) old.call.values)
+    (frames_of (names_of old.store) old.waiting) w in
     subst (λ x. QuietlyReaches (IsReading P (s x)) (step P (s x)) w next new) (sym e)
     (at_once (IsReading P (s k)) (step P (s k)) w next new (reaches_weaker ⊥ (IsReading P (s k)) (step P (s k)) w next new (λ b. absurd b) r))
 

@@ -28,7 +28,8 @@ pub record QuietlyReaches (R : Type 0) (s : State) (w : World) (next : Next) (m 
 -- the state after an outcome of a call from the newest one
 abbrev pub settled : Machine → Outcome → State
 settled m x =
-    settle x m.call.function.now.name (guards_of m.call.guards) (tasks_of m.call.tasks) (values_of (names_of m.store) m.call.values) (frames_of (names_of m.store) m.waiting)
+    settle x m.call.function.now.name (guards_of m.call.guards) (tasks_of m.call.tasks) (values_of (names_of m.store) m.call.values)
+    (frames_of (names_of m.store) m.waiting)
 
 -- in each world that the machine has, the outcome of the call comes to this; R holds of a call that reads
 abbrev pub Settles : Type 0 → (World → Outcome) → Machine → Next → Machine → Type 0
@@ -45,12 +46,14 @@ IsGetchar m f = (m ≡ codes "getchar") × (f.body ≡ None)
 -- the state after a call of a function from the newest one
 abbrev pub invoked : Machine → List ℕ → FunctionTree → List Meant.Value → World → State
 invoked m n h vs w =
-    invoke h.body h n vs m.call.function.now.name (guards_of m.call.guards) (tasks_of m.call.tasks) (values_of (names_of m.store) m.call.values) (frames_of (names_of m.store) m.waiting) w
+    invoke h.body h n vs m.call.function.now.name (guards_of m.call.guards) (tasks_of m.call.tasks) (values_of (names_of m.store) m.call.values)
+    (frames_of (names_of m.store) m.waiting) w
 
 -- a call of a function with these arguments comes to this
 abbrev pub CallsFunction : Function → List Value → Machine → Next → Machine → Type 0
 CallsFunction f vs old next new =
-    (w : World) → HasWorld old w → QuietlyReaches (IsGetchar f.name (function_tree f)) (invoked old f.name (function_tree f) (values_of (names_of old.store) vs) w) w next new
+    (w : World) → HasWorld old w → QuietlyReaches (IsGetchar f.name (function_tree f))
+    (invoked old f.name (function_tree f) (values_of (names_of old.store) vs) w) w next new
 
 -- a call of the function of a name, which takes so many of the values pending, comes to this
 abbrev pub Called : List ℕ → ℕ → Machine → Next → Machine → Type 0
@@ -59,5 +62,6 @@ Called n count old next new =
     let P = code_of old.program.now in
     (w : World) → HasWorld old w
     → QuietlyReaches (IsGetchar n (P.functions n))
-    (perform P (Invokes n (arguments_taken count v) (without_last count v) w) old.call.function.now.name (guards_of old.call.guards) (tasks_of old.call.tasks) (frames_of (names_of old.store) old.waiting))
+    (perform P (Invokes n (arguments_taken count v) (without_last count v) w) old.call.function.now.name (guards_of old.call.guards)
+    (tasks_of old.call.tasks) (frames_of (names_of old.store) old.waiting))
     w next new

@@ -23,7 +23,8 @@ frames_of ns (c ∷ cs) = Waits c.function.now.name (guards_of c.guards) (tasks_
 
 -- the state of a machine in a world
 abbrev pub state_of : Machine → World → State
-state_of m w = At m.call.function.now.name (guards_of m.call.guards) (tasks_of m.call.tasks) (values_of (names_of m.store) m.call.values) (frames_of (names_of m.store) m.waiting) w
+state_of m w = At m.call.function.now.name (guards_of m.call.guards) (tasks_of m.call.tasks) (values_of (names_of m.store) m.call.values)
+    (frames_of (names_of m.store) m.waiting) w
 
 -- the function is the one that its name has in the program
 abbrev pub IsFunctionOf : Program → Function → Type 0

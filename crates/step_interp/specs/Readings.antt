@@ -16,7 +16,8 @@ reading_of AfterL = Known.AfterL
 -- a byte of a format is read: these bytes come before what the others print
 abbrev pub ReadsByte : Reading → ℕ → Reading → List ℕ → List ℕ → List Value → List Value → Type 0
 ReadsByte r b next old new arguments left =
-    (ns : List (List ℕ)) (bs : List ℕ) → new ++ Known.printed (reading_of next) bs (values_of ns left) ≡ old ++ Known.printed (reading_of r) (b ∷ bs) (values_of ns arguments)
+    (ns : List (List ℕ)) (bs : List ℕ) → new ++ Known.printed (reading_of next) bs (values_of ns left) ≡ old ++ Known.printed (reading_of r) (b ∷ bs)
+    (values_of ns arguments)
 
 -- what `%` with a byte, and `%l` with a byte, print of a number
 abbrev pub short_conversion : ℕ → ℤ → List ℕ

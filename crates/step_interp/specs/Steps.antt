@@ -30,7 +30,8 @@ Steps old next new =
 -- the state of a machine with a task before those of its newest call
 abbrev pub state_with : Task → Machine → World → State
 state_with t m w =
-    At m.call.function.now.name (guards_of m.call.guards) (task_of t ∷ tasks_of m.call.tasks) (values_of (names_of m.store) m.call.values) (frames_of (names_of m.store) m.waiting) w
+    At m.call.function.now.name (guards_of m.call.guards) (task_of t ∷ tasks_of m.call.tasks) (values_of (names_of m.store) m.call.values)
+    (frames_of (names_of m.store) m.waiting) w
 
 -- the step of a task shows nothing, and leads to the machine as it is now, with the task that is next
 abbrev pub Performs : Task → Machine → Next → Machine → Type 0

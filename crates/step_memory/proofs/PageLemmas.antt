@@ -95,7 +95,8 @@ get_shown (p ∷ ps) ss (suc q) r a l m =
     ∙ ap (λ z. slice_get (page_shown (get_or ps q []) z) r) (next_part q ss)
 
 -- the entry of a part
-pub start_shown : (ss : List Slot) (q r : ℕ) (s : Slot) → r < 64 → slice_get ss (q * 64 + r) ≡ Some s → slice_get (map room_at_start (part q ss)) r ≡ Some (room_at_start s)
+pub start_shown : (ss : List Slot) (q r : ℕ) (s : Slot) → r < 64 → slice_get ss (q * 64 + r) ≡ Some s →
+    slice_get (map room_at_start (part q ss)) r ≡ Some (room_at_start s)
 start_shown ss q r s l e =
     slice_get-map room_at_start (part q ss) r
     ∙ ap (option_map room_at_start) (get_take (drop (q * 64) ss) 64 r l ∙ get_drop ss (q * 64) r ∙ e)
@@ -112,28 +113,35 @@ as_long [] p ss n h e = absurd (n refl)
 as_long (o ∷ os) [] ss n h e = tt
 as_long (o ∷ os) (r ∷ rs) ss n h e = e ∙ h
 
-pub set_shown : (ps : List (List Room)) (ss : List Slot) (q r : ℕ) (x : Room) → ArePages ps ss → get_or ps q [] ≢ [] → r < length (get_or ps q []) → q * 64 + r < length ss
+pub set_shown : (ps : List (List Room)) (ss : List Slot) (q r : ℕ) (x : Room) → ArePages ps ss → get_or ps q [] ≢ [] → r < length (get_or ps q []) →
+    q * 64 + r < length ss
     → shown (slice_set ps q (slice_set (get_or ps q []) r x)) ss ≡ slice_set (shown ps ss) (q * 64 + r) x
 set_shown [] ss q r x a n l m = absurd (n refl)
 set_shown (p ∷ ps) ss zero r x a n l m =
-    ap (λ z. z ++ shown ps (drop 64 ss)) (page_made (slice_set p r x) (take 64 ss) (set_some p r x n) ∙ ap (λ z. slice_set z r x) (sym (page_made p (take 64 ss) n)))
-    ∙ sym (ap (λ k. slice_set (shown (p ∷ ps) ss) k x) (at_first r) ∙ set-append_left (page_shown p (take 64 ss)) (shown ps (drop 64 ss)) r x (omega (arith, ap length (page_made p (take 64 ss) n))))
+    ap (λ z. z ++ shown ps (drop 64 ss)) (page_made (slice_set p r x) (take 64 ss) (set_some p r x n) ∙
+    ap (λ z. slice_set z r x) (sym (page_made p (take 64 ss) n)))
+    ∙ sym (ap (λ k. slice_set (shown (p ∷ ps) ss) k x) (at_first r) ∙ set-append_left (page_shown p (take 64 ss)) (shown ps (drop 64 ss)) r x
+    (omega (arith, ap length (page_made p (take 64 ss) n))))
 set_shown (p ∷ ps) ss (suc q) r x a n l m =
     ap (λ z. page_shown p (take 64 ss) ++ z) (set_shown ps (drop 64 ss) q r x a.1 n l (omega (arith, m, length-drop 64 ss)))
-    ∙ sym (set_right (page_shown p (take 64 ss)) (shown ps (drop 64 ss)) (suc q * 64 + r) (q * 64 + r) x (omega (arith, first_length p ss a.0 (omega (arith, m)))))
+    ∙ sym (set_right (page_shown p (take 64 ss)) (shown ps (drop 64 ss)) (suc q * 64 + r) (q * 64 + r) x
+    (omega (arith, first_length p ss a.0 (omega (arith, m)))))
 
-pub set_pages : (ps : List (List Room)) (ss : List Slot) (q : ℕ) (p : List Room) → ArePages ps ss → (get_or ps q [] ≢ []) → length p ≡ length (get_or ps q []) → ArePages (slice_set ps q p) ss
+pub set_pages : (ps : List (List Room)) (ss : List Slot) (q : ℕ) (p : List Room) → ArePages ps ss → (get_or ps q [] ≢ []) →
+    length p ≡ length (get_or ps q []) → ArePages (slice_set ps q p) ss
 set_pages [] ss q p a n e = tt
 set_pages (o ∷ ps) ss zero p a n e = (as_long o p (take 64 ss) n a.0 e, a.1)
 set_pages (o ∷ ps) ss (suc q) p a n e = (a.0, set_pages ps (drop 64 ss) q p a.1 n e)
 
 -- ---- a page is made
 
-pub page_at_start_shown : (ps : List (List Room)) (ss : List Slot) (q : ℕ) → get_or ps q [] ≡ [] → q < length ps → shown (slice_set ps q (map room_at_start (part q ss))) ss ≡ shown ps ss
+pub page_at_start_shown : (ps : List (List Room)) (ss : List Slot) (q : ℕ) → get_or ps q [] ≡ [] → q < length ps →
+    shown (slice_set ps q (map room_at_start (part q ss))) ss ≡ shown ps ss
 page_at_start_shown [] ss q e l = refl
 page_at_start_shown (p ∷ ps) ss zero e l = ap (λ z. z ++ shown ps (drop 64 ss)) (page_at_start (take 64 ss) ∙ ap (λ z. page_shown z (take 64 ss)) (sym e))
 page_at_start_shown (p ∷ ps) ss (suc q) e l =
-    ap (λ z. page_shown p (take 64 ss) ++ z) (ap (λ z. shown (slice_set ps q (map room_at_start z)) (drop 64 ss)) (sym (next_part q ss)) ∙ page_at_start_shown ps (drop 64 ss) q e (omega arith))
+    ap (λ z. page_shown p (take 64 ss) ++ z) (ap (λ z. shown (slice_set ps q (map room_at_start z)) (drop 64 ss)) (sym (next_part q ss)) ∙
+    page_at_start_shown ps (drop 64 ss) q e (omega arith))
 
 pub page_at_start_pages : (ps : List (List Room)) (ss : List Slot) (q : ℕ) → ArePages ps ss → ArePages (slice_set ps q (map room_at_start (part q ss))) ss
 page_at_start_pages [] ss q a = tt
@@ -170,7 +178,14 @@ one_more_at (p ∷ ps) (suc q) = one_more_at ps q
 pub length_shown : (ps : List (List Room)) (ss : List Slot) → ArePages ps ss → length (shown ps ss) ≡ length ss
 length_shown [] ss a = length-map ss room_at_start
 length_shown (p ∷ ps) ss a =
-    omega (arith, length-append (page_shown p (take 64 ss)) (shown ps (drop 64 ss)), length_page p (take 64 ss) a.0, length_shown ps (drop 64 ss) a.1, length-take 64 ss, length-drop 64 ss)
+    omega (
+      arith,
+      length-append (page_shown p (take 64 ss)) (shown ps (drop 64 ss)),
+      length_page p (take 64 ss) a.0,
+      length_shown ps (drop 64 ss) a.1,
+      length-take 64 ss,
+      length-drop 64 ss,
+    )
 
 pub none_at : (ps : List (List Room)) (q : ℕ) → None ≡ slice_get ps q → get_or ps q [] ≡ []
 none_at [] q e = refl
@@ -192,7 +207,8 @@ parts_of at = omega arith
 left_of : (at : ℕ) → at % 64 < 64
 left_of at = omega arith
 
-pub made_seen : (ps : List (List Room)) (ss : List Slot) (at : ℕ) (p : List Room) (x : Room) → ArePages ps ss → at < length ss → Some p ≡ slice_get ps (at / 64) → Some x ≡ slice_get p (at % 64)
+pub made_seen : (ps : List (List Room)) (ss : List Slot) (at : ℕ) (p : List Room) (x : Room) → ArePages ps ss → at < length ss →
+    Some p ≡ slice_get ps (at / 64) → Some x ≡ slice_get p (at % 64)
     → slice_get (shown ps ss) at ≡ Some x
 made_seen ps ss at p x a l e h =
     ap (slice_get (shown ps ss)) (sym (parts_of at))
@@ -201,7 +217,8 @@ made_seen ps ss at p x a l e h =
     ∙ ap (λ z. slice_get z (at % 64)) (made_page p (at % 64) x (part (at / 64) ss) h)
     ∙ sym h
 
-pub start_seen : (ps : List (List Room)) (ss : List Slot) (at : ℕ) (s : Slot) → ArePages ps ss → at < length ss → get_or ps (at / 64) [] ≡ [] → s ≡ get_or ss at s
+pub start_seen : (ps : List (List Room)) (ss : List Slot) (at : ℕ) (s : Slot) → ArePages ps ss → at < length ss → get_or ps (at / 64) [] ≡ [] →
+    s ≡ get_or ss at s
     → slice_get (shown ps ss) at ≡ Some (room_at_start s)
 start_seen ps ss at s a l e h =
     ap (slice_get (shown ps ss)) (sym (parts_of at))
@@ -219,7 +236,8 @@ page_of [] ss q a = tt
 page_of (p ∷ ps) ss zero a = a.0
 page_of (p ∷ ps) ss (suc q) a = subst (IsPage (get_or ps q [])) (next_part q ss) (page_of ps (drop 64 ss) q a.1)
 
-pub lacks_room : (ps : List (List Room)) (ss : List Slot) (at : ℕ) (p : List Room) → ArePages ps ss → at < length ss → Some p ≡ slice_get ps (at / 64) → None ≡ slice_get p (at % 64) → get_or ps (at / 64) [] ≡ []
+pub lacks_room : (ps : List (List Room)) (ss : List Slot) (at : ℕ) (p : List Room) → ArePages ps ss → at < length ss →
+    Some p ≡ slice_get ps (at / 64) → None ≡ slice_get p (at % 64) → get_or ps (at / 64) [] ≡ []
 lacks_room ps ss at p a l e h =
     is_unmade (get_or ps (at / 64) []) (part (at / 64) ss) (at % 64) (page_of ps ss (at / 64) a)
     (omega (arith, left_of at, parts_of at, length-take 64 (drop (at / 64 * 64) ss), length-drop (at / 64 * 64) ss))
@@ -227,7 +245,8 @@ lacks_room ps ss at p a l e h =
 
 -- ---- a room changes
 
-pub page_becomes : (F : Variable → Variable) (ps : List (List Room)) (ss : List Slot) (at : ℕ) (p p' : List Room) → ArePages ps ss → at < length ss → slice_get ps (at / 64) ≡ Some p
+pub page_becomes : (F : Variable → Variable) (ps : List (List Room)) (ss : List Slot) (at : ℕ) (p p' : List Room) → ArePages ps ss → at < length ss →
+    slice_get ps (at / 64) ≡ Some p
     → get_or ps (at / 64) [] ≢ [] → BecomesAt F (at % 64) p p' → BecomesAt F at (shown ps ss) (shown (slice_set ps (at / 64) p') ss)
 page_becomes F ps ss at p p' a l e n (was, now, there, b, m) =
     let q = at / 64 in
@@ -243,7 +262,8 @@ page_becomes F ps ss at p p' a l e n (was, now, there, b, m) =
           ∙ ap (λ k. slice_set (shown ps ss) k now) (parts_of at),
     )
 
-pub page_changes : (ps : List (List Room)) (ss : List Slot) (q : ℕ) (p p' : List Room) → ArePages ps ss → slice_get ps q ≡ Some p → get_or ps q [] ≢ [] → length p' ≡ length p → ArePages (slice_set ps q p') ss
+pub page_changes : (ps : List (List Room)) (ss : List Slot) (q : ℕ) (p p' : List Room) → ArePages ps ss → slice_get ps q ≡ Some p →
+    get_or ps q [] ≢ [] → length p' ≡ length p → ArePages (slice_set ps q p') ss
 page_changes ps ss q p p' a e n h = set_pages ps ss q p' a n (h ∙ ap length (sym (page_at ps q p (sym e))))
 
 -- a room of the front, and one behind it
@@ -252,12 +272,14 @@ becomes_left F xs xs' ys i (was, now, there, b, m) =
     let l = slice_get_within xs i was there in
     (was, now, get_left xs ys i l ∙ there, b, ap (λ z. z ++ ys) m ∙ sym (set-append_left xs ys i now l))
 
-pub becomes_right : (F : Variable → Variable) (xs ys ys' : List Room) (i n : ℕ) → i ≡ length xs + n → BecomesAt F n ys ys' → BecomesAt F i (xs ++ ys) (xs ++ ys')
+pub becomes_right : (F : Variable → Variable) (xs ys ys' : List Room) (i n : ℕ) → i ≡ length xs + n → BecomesAt F n ys ys' →
+    BecomesAt F i (xs ++ ys) (xs ++ ys')
 becomes_right F xs ys ys' i n e (was, now, there, b, m) = (was, now, get_right xs ys i n e ∙ there, b, ap (λ z. xs ++ z) m ∙ sym (set_right xs ys i n now e))
 
 -- ---- the start of a call
 
-pub rooms_new : (parameters first : List Room) (pages : List (List Room)) (ss : List Slot) (n : ℕ) → first ≡ parameters ++ map room_at_start (take n ss) → pages ≡ []
+pub rooms_new : (parameters first : List Room) (pages : List (List Room)) (ss : List Slot) (n : ℕ) →
+    first ≡ parameters ++ map room_at_start (take n ss) → pages ≡ []
     → first ++ shown pages (take (length ss - n) (drop n ss)) ≡ parameters ++ map room_at_start ss
 rooms_new parameters first pages ss n e h =
     ap (λ qs. first ++ shown qs (take (length ss - n) (drop n ss))) h

@@ -46,7 +46,8 @@ one_or_apart (Call c x) (Call d y) = elim (one_number d c) as (λ _. (Call d y �
 ]
 
 -- two variables of the machine that exist are one where they mean one
-alone : (s : Store) (w : World) (o p : Owner) (q r : Room) → HoldsWorld s w → room_at s o ≡ Some q → room_at s p ≡ Some r → owner_of (names_of s) o ≡ owner_of (names_of s) p → o ≡ p
+alone : (s : Store) (w : World) (o p : Owner) (q r : Room) → HoldsWorld s w → room_at s o ≡ Some q → room_at s p ≡ Some r →
+    owner_of (names_of s) o ≡ owner_of (names_of s) p → o ≡ p
 alone s w (File i) (File j) q r h a b e = ap File (h.apart i j (slice_get_within s.file i q a) (slice_get_within s.file j r b) (cc))
 alone s w (File i) (Call c x) q r h a b e = absurd (cc)
 alone s w (Call c x) (File j) q r h a b e = absurd (cc)
@@ -62,7 +63,8 @@ record IsPut (o : Owner) (was now : Room) (old new : Store) : Type 0 where
 
 put_world : (s : Store) (fs : List Room) (cs : List (List Room)) (o : Owner) (was now : Room) (F : Variable → Variable) (w : World)
     → length fs ≡ length s.file → IsPut o was now s (record s { file = fs; calls = cs }) → Becomes F was now → HoldsWorld s w
-    → HoldsWorld (record s { file = fs; calls = cs }) (record w { variables = put (owner_of (names_of s) o) (F (w.variables (owner_of (names_of s) o))) w.variables })
+    → HoldsWorld (record s { file = fs; calls = cs })
+    (record w { variables = put (owner_of (names_of s) o) (F (w.variables (owner_of (names_of s) o))) w.variables })
 put_world s fs cs o was now F w len i b h = record { rooms = rooms; apart = λ i j x y e. h.apart i j (omega arith) (omega arith) e; newest = h.newest } where
   ns : List (List ℕ)
   ns = names_of s
@@ -73,17 +75,21 @@ put_world s fs cs o was now F w len i b h = record { rooms = rooms; apart = λ i
   own : (r : Room) → room_at (record s { file = fs; calls = cs }) o ≡ Some r → IsRoom ns r (put q (F (w.variables q)) w.variables q)
   own r e =
       let same : now ≡ r = cc (i.after, e) in
-      put_holds (IsRoom ns r) q (F (w.variables q)) w.variables q (λ _. subst (λ x. IsRoom ns x (F (w.variables q))) same (b ns (w.variables q) (h.rooms o was i.before))) (λ n. absurd (n refl))
+      put_holds (IsRoom ns r) q (F (w.variables q)) w.variables q
+      (λ _. subst (λ x. IsRoom ns x (F (w.variables q))) same (b ns (w.variables q) (h.rooms o was i.before))) (λ n. absurd (n refl))
 
   rooms : (p : Owner) (r : Room) → room_at (record s { file = fs; calls = cs }) p ≡ Some r → IsRoom ns r (put q (F (w.variables q)) w.variables (owner_of ns p))
   rooms p r e = elim (one_or_apart o p) as (λ _. IsRoom ns r (put q (F (w.variables q)) w.variables (owner_of ns p))) [
-    | inl m ↦ subst (λ x. IsRoom ns r (put q (F (w.variables q)) w.variables (owner_of ns x))) (sym m) (own r (subst (λ x. room_at (record s { file = fs; calls = cs }) x ≡ Some r) m e))
+    | inl m ↦ subst (λ x. IsRoom ns r (put q (F (w.variables q)) w.variables (owner_of ns x))) (sym m)
+        (own r (subst (λ x. room_at (record s { file = fs; calls = cs }) x ≡ Some r) m e))
     | inr n ↦
         let there : room_at s p ≡ Some r = sym (i.beside p n) ∙ e in
-        put_holds (IsRoom ns r) q (F (w.variables q)) w.variables (owner_of ns p) (λ m. absurd (n (sym (alone s w o p was r h i.before there m)))) (λ _. h.rooms p r there)
+        put_holds (IsRoom ns r) q (F (w.variables q)) w.variables (owner_of ns p) (λ m. absurd (n (sym (alone s w o p was r h i.before there m))))
+        (λ _. h.rooms p r there)
   ]
 
-put_file : (s : Store) (place : ℕ) (was now : Room) → slice_get s.file place ≡ Some was → IsPut (File place) was now s (record s { file = slice_set s.file place now })
+put_file : (s : Store) (place : ℕ) (was now : Room) → slice_get s.file place ≡ Some was →
+    IsPut (File place) was now s (record s { file = slice_set s.file place now })
 put_file s place was now e = record { before = e; after = get_set s.file place was now e; beside = beside } where
   beside : (p : Owner) → p ≢ File place → room_at (record s { file = slice_set s.file place now }) p ≡ room_at s p
   beside (File j) n = get_set-other s.file place j now (λ m. n (ap File (sym m)))
@@ -99,29 +105,35 @@ put_slot s c x rs was now a e = record {
   where
     beside : (p : Owner) → p ≢ Call c x → room_at (record s { calls = slice_set s.calls c (slice_set rs x now) }) p ≡ room_at s p
     beside (File j) n = refl
-    beside (Call d y) n = elim (one_number c d) as (λ _. room_at (record s { calls = slice_set s.calls c (slice_set rs x now) }) (Call d y) ≡ room_at s (Call d y)) [
-      | inl m ↦
-          ap (λ z. option_and_then (λ xs. slice_get xs y) (slice_get (slice_set s.calls c (slice_set rs x now)) z)) (sym m)
-          ∙ ap (option_and_then (λ xs. slice_get xs y)) (get_set s.calls c rs (slice_set rs x now) a)
-          ∙ get_set-other rs x y now (λ h. n (ap (λ z. Call z y) (sym m) ∙ ap (Call c) (sym h)))
-          ∙ sym (ap (λ z. option_and_then (λ xs. slice_get xs y) (slice_get s.calls z)) (sym m) ∙ ap (option_and_then (λ xs. slice_get xs y)) a)
-      | inr m ↦ ap (option_and_then (λ xs. slice_get xs y)) (get_set-other s.calls c d (slice_set rs x now) m)
-    ]
+    beside (Call d y) n = elim (one_number c d) as (λ _. room_at (record s { calls = slice_set s.calls c (slice_set rs x now) }) (Call d y) ≡ room_at
+        s (Call d y)) [
+          | inl m ↦
+              ap (λ z. option_and_then (λ xs. slice_get xs y) (slice_get (slice_set s.calls c (slice_set rs x now)) z)) (sym m)
+              ∙ ap (option_and_then (λ xs. slice_get xs y)) (get_set s.calls c rs (slice_set rs x now) a)
+              ∙ get_set-other rs x y now (λ h. n (ap (λ z. Call z y) (sym m) ∙ ap (Call c) (sym h)))
+              ∙ sym (ap (λ z. option_and_then (λ xs. slice_get xs y) (slice_get s.calls z)) (sym m) ∙ ap (option_and_then (λ xs. slice_get xs y)) a)
+          | inr m ↦ ap (option_and_then (λ xs. slice_get xs y)) (get_set-other s.calls c d (slice_set rs x now) m)
+        ]
 
 -- a variable of the file, or a slot, becomes what F makes of it
 abbrev pub Changes : (Variable → Variable) → Owner → Store → Store → Type 0
-Changes F o old new = (w : World) → HoldsWorld old w → HoldsWorld new (record w { variables = put (owner_of (names_of old) o) (F (w.variables (owner_of (names_of old) o))) w.variables })
+Changes F o old new = (w : World) → HoldsWorld old w → HoldsWorld new
+    (record w { variables = put (owner_of (names_of old) o) (F (w.variables (owner_of (names_of old) o))) w.variables })
 
-pub change_file : (s : Store) (place : ℕ) (F : Variable → Variable) (fs : List Room) → BecomesAt F place s.file fs → Changes F (File place) s (record s { file = fs })
+pub change_file : (s : Store) (place : ℕ) (F : Variable → Variable) (fs : List Room) → BecomesAt F place s.file fs →
+    Changes F (File place) s (record s { file = fs })
 change_file s place F fs (was, now, e, b, m) w h =
     let i = put_file s place was now e in
-    subst (λ xs. HoldsWorld (record s { file = xs }) (record w { variables = put (owner_of (names_of s) (File place)) (F (w.variables (owner_of (names_of s) (File place)))) w.variables })) (sym m)
+    subst (λ xs. HoldsWorld (record s { file = xs })
+    (record w { variables = put (owner_of (names_of s) (File place)) (F (w.variables (owner_of (names_of s) (File place)))) w.variables })) (sym m)
     (put_world s (slice_set s.file place now) s.calls (File place) was now F w (length-set s.file place now) i b h)
 
-pub change_slot : (s : Store) (c x : ℕ) (F : Variable → Variable) (rs rs' : List Room) → slice_get s.calls c ≡ Some rs → BecomesAt F x rs rs' → Changes F (Call c x) s (record s { calls = slice_set s.calls c rs' })
+pub change_slot : (s : Store) (c x : ℕ) (F : Variable → Variable) (rs rs' : List Room) → slice_get s.calls c ≡ Some rs → BecomesAt F x rs rs' →
+    Changes F (Call c x) s (record s { calls = slice_set s.calls c rs' })
 change_slot s c x F rs rs' a (was, now, e, b, m) w h =
     let i = put_slot s c x rs was now a e in
-    subst (λ xs. HoldsWorld (record s { calls = slice_set s.calls c xs }) (record w { variables = put (owner_of (names_of s) (Call c x)) (F (w.variables (owner_of (names_of s) (Call c x)))) w.variables })) (sym m)
+    subst (λ xs. HoldsWorld (record s { calls = slice_set s.calls c xs })
+    (record w { variables = put (owner_of (names_of s) (Call c x)) (F (w.variables (owner_of (names_of s) (Call c x)))) w.variables })) (sym m)
     (put_world s s.file (slice_set s.calls c (slice_set rs x now)) (Call c x) was now F w refl i b h)
 
 -- the variable that a name reaches is cleared
@@ -134,14 +146,18 @@ entered_room : (s : Store) (w : World) (c : ℕ) (slots : ℕ → Variable) (rs 
     → AreSlots (names_of s) rs slots → suc w.calls ≡ c → ((d ≡ c) × (slice_get rs y ≡ Some r)) ⊎ ((d ≢ c) × (IsRoom (names_of s) r (w.variables (OfCall d y))))
     → IsRoom (names_of s) r (put_call (suc w.calls) slots w.variables (OfCall d y))
 entered_room s w c slots rs d y r a e i = elim i as (λ _. IsRoom (names_of s) r (put_call (suc w.calls) slots w.variables (OfCall d y))) [
-  | inl m ↦ chosen (IsRoom (names_of s) r) (eqb (suc w.calls) d) (slots y) (w.variables (OfCall d y)) (λ _. a y r m.1) (λ f. absurd (true≢false (sym ((Decides-eqb (suc w.calls) d).1 (e ∙ sym m.0)) ∙ f)))
-  | inr m ↦ chosen (IsRoom (names_of s) r) (eqb (suc w.calls) d) (slots y) (w.variables (OfCall d y)) (λ t. absurd (m.0 (sym ((Decides-eqb (suc w.calls) d).0 t) ∙ e))) (λ _. m.1)
+  | inl m ↦ chosen (IsRoom (names_of s) r) (eqb (suc w.calls) d) (slots y) (w.variables (OfCall d y)) (λ _. a y r m.1)
+      (λ f. absurd (true≢false (sym ((Decides-eqb (suc w.calls) d).1 (e ∙ sym m.0)) ∙ f)))
+  | inr m ↦ chosen (IsRoom (names_of s) r) (eqb (suc w.calls) d) (slots y) (w.variables (OfCall d y))
+      (λ t. absurd (m.0 (sym ((Decides-eqb (suc w.calls) d).0 t) ∙ e))) (λ _. m.1)
 ]
 
 -- the slots of the new call stand at its number, and those of each other call stay
-pub enters : (s : Store) (c : ℕ) (rs : List Room) (cs : List (List Room)) → suc s.newest ≡ c → HasSlots c rs s.calls cs → EntersCall rs s (record s { calls = cs; newest = c })
+pub enters : (s : Store) (c : ℕ) (rs : List Room) (cs : List (List Room)) → suc s.newest ≡ c → HasSlots c rs s.calls cs →
+    EntersCall rs s (record s { calls = cs; newest = c })
 enters s c rs cs n (there, beside) f vs a w h = record { rooms = rooms; apart = h.apart; newest = ap suc h.newest ∙ n } where
-  rooms : (p : Owner) (r : Room) → room_at (record s { calls = cs; newest = c }) p ≡ Some r → IsRoom (names_of s) r (put_call (suc w.calls) (slot_at_start f vs) w.variables (owner_of (names_of s) p))
+  rooms : (p : Owner) (r : Room) → room_at (record s { calls = cs; newest = c }) p ≡ Some r →
+      IsRoom (names_of s) r (put_call (suc w.calls) (slot_at_start f vs) w.variables (owner_of (names_of s) p))
   rooms (File i) r e = h.rooms (File i) r e
   rooms (Call d y) r e = elim (one_number d c) as (λ _. IsRoom (names_of s) r (put_call (suc w.calls) (slot_at_start f vs) w.variables (OfCall d y))) [
     | inl m ↦
@@ -165,7 +181,8 @@ holder_lent ns k p (Meant.Holds j None c) q h = absurd h
 holder_lent ns k p (Meant.Holds j (Some n) c) q h = absurd h
 holder_lent ns k p (Meant.Lent o) q h = h
 
-holder_own : (ns : List (List ℕ)) (k : IntKind) (cells : Cells) (v : Variable) (q : Meant.Owner) → ((p : Owner) → cells ≡ Lent p → ⊥) → AreCells ns k cells v → holder q v ≡ q
+holder_own : (ns : List (List ℕ)) (k : IntKind) (cells : Cells) (v : Variable) (q : Meant.Owner) → ((p : Owner) → cells ≡ Lent p → ⊥) →
+    AreCells ns k cells v → holder q v ≡ q
 holder_own ns k (Number z) (Meant.Holds j n c) q off h = refl
 holder_own ns k (Number z) (Meant.Lent o) q off h = absurd h
 holder_own ns k (Array xs) (Meant.Holds j n c) q off h = refl
@@ -179,7 +196,8 @@ own_at_start (Some n) p e = cc
 pub reaches_lent : (s : Store) (h : Home) (o p : Owner) (r : Room) → Names s h o → room_at s o ≡ Some r → r.cells ≡ Lent p → Reaches s h p
 reaches_lent s h o p r n a e w hw =
     ap (λ q. holder q (w.variables q)) (n w hw)
-    ∙ holder_lent (names_of s) r.kind p (w.variables (owner_of (names_of s) o)) (owner_of (names_of s) o) (subst (λ x. AreCells (names_of s) r.kind x (w.variables (owner_of (names_of s) o))) e (hw.rooms o r a))
+    ∙ holder_lent (names_of s) r.kind p (w.variables (owner_of (names_of s) o)) (owner_of (names_of s) o)
+    (subst (λ x. AreCells (names_of s) r.kind x (w.variables (owner_of (names_of s) o))) e (hw.rooms o r a))
 
 pub reaches_own : (s : Store) (h : Home) (o : Owner) (r : Room) → Names s h o → room_at s o ≡ Some r → ((p : Owner) → r.cells ≡ Lent p → ⊥) → Reaches s h o
 reaches_own s h o r n a off w hw =

@@ -67,7 +67,8 @@ ClearsIn h n old new = (w : World) → HoldsWorld old w → HoldsWorld new (clea
 -- a call with these slots is entered, whatever function and arguments they belong to
 abbrev pub EntersCall : List Room → Store → Store → Type 0
 EntersCall slots old new =
-    (f : FunctionTree) (vs : List Value) → AreSlots (names_of old) slots (slot_at_start f vs) → (w : World) → HoldsWorld old w → HoldsWorld new (enter_call f vs w)
+    (f : FunctionTree) (vs : List Value) → AreSlots (names_of old) slots (slot_at_start f vs) → (w : World) → HoldsWorld old w →
+    HoldsWorld new (enter_call f vs w)
 
 -- the newest call is gone
 abbrev pub LeavesCall : Store → Store → Type 0

@@ -17,16 +17,20 @@ use Rattle.step_open_calls.specs.Calls.{node_step, place_step, expression_step, 
 
 module _ (p : List ℕ → Bool) where
   pub node_calls_binary : (op : BinaryOp) (a b : Expression) → node_calls p (Binary op a b) ≡ (expression_calls p a || expression_calls p b)
-  node_calls_binary op a b = ap (node_calls p) (sym (rolls-Binary op a b)) ∙ fold-roll-Node Bool Bool Bool (node_step p) place_step expression_step (N.Binary op a b)
+  node_calls_binary op a b = ap (node_calls p) (sym (rolls-Binary op a b)) ∙
+      fold-roll-Node Bool Bool Bool (node_step p) place_step expression_step (N.Binary op a b)
 
-  pub node_calls_conditional : (a b c : Expression) → node_calls p (Conditional a b c) ≡ (expression_calls p a || (expression_calls p b || expression_calls p c))
-  node_calls_conditional a b c = ap (node_calls p) (sym (rolls-Conditional a b c)) ∙ fold-roll-Node Bool Bool Bool (node_step p) place_step expression_step (N.Conditional a b c)
+  pub node_calls_conditional : (a b c : Expression) → node_calls p
+      (Conditional a b c) ≡ (expression_calls p a || (expression_calls p b || expression_calls p c))
+  node_calls_conditional a b c = ap (node_calls p) (sym (rolls-Conditional a b c)) ∙
+      fold-roll-Node Bool Bool Bool (node_step p) place_step expression_step (N.Conditional a b c)
 
   pub node_calls_assign : (at : Place) (a : Expression) → node_calls p (Assign at a) ≡ (place_calls p at || expression_calls p a)
   node_calls_assign at a = ap (node_calls p) (sym (rolls-Assign at a)) ∙ fold-roll-Node Bool Bool Bool (node_step p) place_step expression_step (N.Assign at a)
 
   pub node_calls_update : (op : ArithOp) (at : Place) (a : Expression) → node_calls p (Update op at a) ≡ (place_calls p at || expression_calls p a)
-  node_calls_update op at a = ap (node_calls p) (sym (rolls-Update op at a)) ∙ fold-roll-Node Bool Bool Bool (node_step p) place_step expression_step (N.Update op at a)
+  node_calls_update op at a = ap (node_calls p) (sym (rolls-Update op at a)) ∙
+      fold-roll-Node Bool Bool Bool (node_step p) place_step expression_step (N.Update op at a)
 
   pub node_calls_comma : (a b : Expression) → node_calls p (Comma a b) ≡ (expression_calls p a || expression_calls p b)
   node_calls_comma a b = ap (node_calls p) (sym (rolls-Comma a b)) ∙ fold-roll-Node Bool Bool Bool (node_step p) place_step expression_step (N.Comma a b)
@@ -43,7 +47,8 @@ module _ (p : List ℕ → Bool) where
   pub item_calls_do : (a : List Item) (t : Test) → item_calls p (Do a t) ≡ (test_calls p t || items_call p a)
   item_calls_do a t = ap (item_calls p) (sym (rolls-Do a t)) ∙ fold-roll-Item Bool Bool (item_step p) (section_step p) (O.Do a t)
 
-  pub item_calls_for : (f : List Item) (t u : Option Expression) (a : List Item) → item_calls p (For f t u a) ≡ (items_call p f || (option_calls p t || (option_calls p u || items_call p a)))
+  pub item_calls_for : (f : List Item) (t u : Option Expression) (a : List Item) →
+      item_calls p (For f t u a) ≡ (items_call p f || (option_calls p t || (option_calls p u || items_call p a)))
   item_calls_for f t u a = ap (item_calls p) (sym (rolls-For f t u a)) ∙ fold-roll-Item Bool Bool (item_step p) (section_step p) (O.For f t u a)
 
   pub item_calls_switch : (s : Selector) (cs : List Section) → item_calls p (Switch s cs) ≡ (selector_calls p s || sections_call p cs)

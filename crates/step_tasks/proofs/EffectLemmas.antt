@@ -12,7 +12,8 @@ use Rattle.step_tasks.specs.Effects.{Comes, IsDoneAlways, Computed}
 use Rattle.step_tasks.specs.Tasks.{tasks_of}
 
 pub decided : (o : Op) (b c : ExpressionTree) (kind : Option IntKind) (h : Bool) (tasks left : List Work) (values new : List Value)
-    → o ≡ Decides b c kind → ((ns : List (List ℕ)) → h ≡ holds (top (values_of ns values))) → ((ns : List (List ℕ)) → values_of ns new ≡ rest (values_of ns values))
+    → o ≡ Decides b c kind → ((ns : List (List ℕ)) → h ≡ holds (top (values_of ns values))) →
+    ((ns : List (List ℕ)) → values_of ns new ≡ rest (values_of ns values))
     → Computed (cond h (Computes b ∷ conversion kind) (Computes c ∷ conversion kind)) tasks left → IsDoneAlways o tasks left values new
 decided o b c kind h tasks left values new e k v t s w hw =
     subst (λ E. Comes E (tasks_of tasks) (tasks_of left) (values_of (names_of s) new) w)

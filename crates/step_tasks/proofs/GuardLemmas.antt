@@ -54,7 +54,8 @@ set_already l xs h = fun_ext at where
 
 -- ---- one label less
 
-without_one : (m x : ℕ) (W : List ℕ) (a b q : Bool) → list_any (eqb m) W ≡ cond b false q → (a ≡ true → b ≡ false → eqb m x ≡ false) → (a ≡ false → b ≡ true → eqb m x ≡ false)
+without_one : (m x : ℕ) (W : List ℕ) (a b q : Bool) → list_any (eqb m) W ≡ cond b false q → (a ≡ true → b ≡ false → eqb m x ≡ false) →
+    (a ≡ false → b ≡ true → eqb m x ≡ false)
     → list_any (eqb m) (cond a W (x ∷ W)) ≡ cond b false (eqb m x || q)
 without_one m x W true true q i h k = i
 without_one m x W true false q i h k = i ∙ sym (ap (λ c. c || q) (h refl refl))
@@ -73,7 +74,8 @@ reset l xs = fun_ext (λ m. without_at l m xs)
 
 -- ---- the loop that takes a label out
 
-pub removed : (l : ℕ) (xs : List ℕ) (i d : ℕ) → i < length xs → get_or xs i d ≡ l → take i (remove xs i) ++ without l (drop i (remove xs i)) ≡ take i xs ++ without l (drop i xs)
+pub removed : (l : ℕ) (xs : List ℕ) (i d : ℕ) → i < length xs → get_or xs i d ≡ l →
+    take i (remove xs i) ++ without l (drop i (remove xs i)) ≡ take i xs ++ without l (drop i xs)
 removed l [] i d h e = absurd (omega arith)
 removed l (x ∷ xs) zero d h e = sym (ap (λ b. cond b (without l xs) (x ∷ without l xs)) (is_same l x e))
 removed l (x ∷ xs) (suc i) d h e = ap (λ ys. x ∷ ys) (removed l xs i d (omega arith) e)

@@ -61,7 +61,8 @@ stack_top levels (suc i) k x h (suc n, (y, j, g, l, s, t)) e = top (cc (g, ap (s
   top q = (j, (n, subst (λ z. IsStackIn n levels z.below j) q s), t ∙ ap (λ z. work_of z.work j) q)
 
 -- a level more
-pub put_one : (old : Labels) (levels : List Level) (x : Level) (level : ℕ) → levels ≡ old.levels ++ x ∷ [] → level ≡ length levels → IsPut x.below x.work old (record old { levels = levels }) level
+pub put_one : (old : Labels) (levels : List Level) (x : Level) (level : ℕ) → levels ≡ old.levels ++ x ∷ [] → level ≡ length levels →
+    IsPut x.below x.work old (record old { levels = levels }) level
 put_one old levels x level e n = record {
   above = λ k (m, s). subst (λ ls. IsStack ls level (work_of x.work k)) (sym e)
       (subst (λ i. IsStack (old.levels ++ x ∷ []) i (work_of x.work k)) (sym (n ∙ ap length e ∙ length_more old.levels))
@@ -117,7 +118,8 @@ entry_set xs i x j h = elim (either (eqb j i)) as (λ _. entry_or 0 (slice_set x
 
 -- ---- what is found
 
-found_as : (old new : Labels) (l : ℕ) (o : Option (List Task)) → start_of new l ≡ start_of old l → ((i : ℕ) (k : List Task) → IsStack old.levels i k → IsStack new.levels i k) → IsFound old l o → IsFound new l o
+found_as : (old new : Labels) (l : ℕ) (o : Option (List Task)) → start_of new l ≡ start_of old l →
+    ((i : ℕ) (k : List Task) → IsStack old.levels i k → IsStack new.levels i k) → IsFound old l o → IsFound new l o
 found_as old new l None e m h = e ∙ h
 found_as old new l (Some k) e m h = (λ z. h.0 (sym e ∙ z), subst (λ i. IsStack new.levels i k) (sym e) (m (start_of old l) k h.1))
 
@@ -135,17 +137,24 @@ adds_as F G old new e h = record { kept = h.kept; found = λ l o f. subst (λ p.
 pub nothing_added : (below : ℕ) (t : Labels) → AddsBefore below (λ k l. None) t t
 nothing_added below t k s = record { kept = λ i k s. s; found = λ l o f. subst (IsFound t l) (sym (or_none o)) f }
 
-pub added_as : (below : ℕ) (F G : List Task → ℕ → Option (List Task)) (old new : Labels) → ((k : List Task) (l : ℕ) → F k l ≡ G k l) → AddsBefore below F old new → AddsBefore below G old new
+pub added_as : (below : ℕ) (F G : List Task → ℕ → Option (List Task)) (old new : Labels) → ((k : List Task) (l : ℕ) → F k l ≡ G k l) →
+    AddsBefore below F old new → AddsBefore below G old new
 added_as below F G old new e h k s = adds_as (F k) (G k) old new (e k) (h k s)
 
-pub both_added : (below : ℕ) (F G : List Task → ℕ → Option (List Task)) (a b c : Labels) → AddsBefore below F a b → AddsBefore below G b c → AddsBefore below (λ k l. or_else (F k l) (G k l)) a c
+pub both_added : (below : ℕ) (F G : List Task → ℕ → Option (List Task)) (a b c : Labels) → AddsBefore below F a b → AddsBefore below G b c →
+    AddsBefore below (λ k l. or_else (F k l) (G k l)) a c
 both_added below F G a b c f g k s =
     let x = f k s in
     let y = g k (x.kept below k s) in
-    record { kept = λ i j r. y.kept i j (x.kept i j r); found = λ l o r. subst (IsFound c l) (or_or o (F k l) (G k l)) (y.found l (or_else o (F k l)) (x.found l o r)) }
+    record {
+      kept = λ i j r. y.kept i j (x.kept i j r);
+      found = λ l o r. subst (IsFound c l) (or_or o (F k l) (G k l))
+          (y.found l (or_else o (F k l)) (x.found l o r));
+    }
 
 -- before one level more
-pub added_above : (below level : ℕ) (w : Work) (F : List Task → ℕ → Option (List Task)) (a b c : Labels) → IsPut below w a b level → AddsBefore level F b c → AddsBefore below (λ k l. F (work_of w k) l) a c
+pub added_above : (below level : ℕ) (w : Work) (F : List Task → ℕ → Option (List Task)) (a b c : Labels) → IsPut below w a b level →
+    AddsBefore level F b c → AddsBefore below (λ k l. F (work_of w k) l) a c
 added_above below level w F a b c p f k s =
     let x = f (work_of w k) (p.above k s) in
     record { kept = λ i j r. x.kept i j (p.kept i j r); found = λ l o r. x.found l o (found_as a b l o (ap (λ z. entry_or 0 z l) p.starts) p.kept r) }
@@ -153,7 +162,8 @@ added_above below level w F a b c p f k s =
 -- ---- one label
 
 -- the table has it
-pub has_label : (t : Labels) (label below : ℕ) (F : List Task → List Task) → start_of t label ≢ 0 → AddsBefore below (λ k l. cond (eqb l label) (Some (F k)) None) t t
+pub has_label : (t : Labels) (label below : ℕ) (F : List Task → List Task) → start_of t label ≢ 0 →
+    AddsBefore below (λ k l. cond (eqb l label) (Some (F k)) None) t t
 has_label t label below F n k s = record { kept = λ i k s. s; found = found } where
   found : (l : ℕ) (o : Option (List Task)) → IsFound t l o → IsFound t l (or_else o (cond (eqb l label) (Some (F k)) None))
   found l (Some j) f = f
@@ -171,8 +181,11 @@ new_label old mid new label below level w z p e st k s = record { kept = kept; f
 
   here : (l : ℕ) (o : Option (List Task)) → eqb l label ≡ true → IsFound old l o → IsFound new l (or_else o (Some (work_of w k)))
   here l None y f =
-      let is : start_of new l ≡ level = st l ∙ ap (λ b. cond b level (start_of mid l)) y in
-      (λ q. p.counted (sym is ∙ q), subst (λ i. IsStack new.levels i (work_of w k)) (sym is) (subst (λ ls. IsStack ls level (work_of w k)) (sym e) (p.above k s)))
+      let is : start_of new l ≡ level = st l ∙ ap (λ b. cond b level (start_of mid l)) y in (
+        λ q. p.counted (sym is ∙ q),
+        subst (λ i. IsStack new.levels i (work_of w k)) (sym is)
+            (subst (λ ls. IsStack ls level (work_of w k)) (sym e) (p.above k s)),
+      )
   here l (Some j) y f = absurd (f.0 (ap (start_of old) ((Decides-eqb l label).0 y) ∙ z))
 
   other : (l : ℕ) (o : Option (List Task)) → eqb l label ≡ false → IsFound old l o → IsFound new l (or_else o None)
@@ -199,7 +212,8 @@ LeavesBefore below F G old new = (k : List Task) → IsStack old.levels below k 
 pub all_left : (below : ℕ) (F : List Task → ℕ → Option (List Task)) (t : Labels) → LeavesBefore below F F t t
 all_left below F t k s = record { kept = λ i j r. r; found = λ l o f. (o, f, refl) }
 
-pub one_less : (below : ℕ) (F G H K : List Task → ℕ → Option (List Task)) (a b c : Labels) → LeavesBefore below F G a b → AddsBefore below H b c → ((k : List Task) (l : ℕ) → G k l ≡ or_else (H k l) (K k l)) → LeavesBefore below F K a c
+pub one_less : (below : ℕ) (F G H K : List Task → ℕ → Option (List Task)) (a b c : Labels) → LeavesBefore below F G a b → AddsBefore below H b c →
+    ((k : List Task) (l : ℕ) → G k l ≡ or_else (H k l) (K k l)) → LeavesBefore below F K a c
 one_less below F G H K a b c f h e k s =
     let x = f k s in
     let y = h k (x.kept below k s) in
@@ -210,7 +224,8 @@ one_less below F G H K a b c f h e k s =
           (or_else z.0 (H k l), y.found l z.0 z.1, or_or z.0 (H k l) (K k l) ∙ ap (or_else z.0) (sym (e k l)) ∙ z.2);
     }
 
-pub none_left : (below : ℕ) (F G : List Task → ℕ → Option (List Task)) (a b : Labels) → LeavesBefore below F G a b → ((k : List Task) (l : ℕ) → G k l ≡ None) → AddsBefore below F a b
+pub none_left : (below : ℕ) (F G : List Task → ℕ → Option (List Task)) (a b : Labels) → LeavesBefore below F G a b →
+    ((k : List Task) (l : ℕ) → G k l ≡ None) → AddsBefore below F a b
 none_left below F G a b f e k s =
     let x = f k s in
     record { kept = x.kept; found = λ l o r. let z = x.found l o r in subst (IsFound b l) (sym (or_none z.0) ∙ ap (or_else z.0) (sym (e k l)) ∙ z.2) z.1 }
@@ -225,11 +240,13 @@ pub found_tasks : (t : Labels) (l : ℕ) (o : Option (List Task)) → IsFound t 
 found_tasks t l None f = subst (λ i. IsStack t.levels i []) (sym f) (stack_end t.levels)
 found_tasks t l (Some k) f = f.1
 
-items_at : (f : Function) (o : Option (List Item)) → f.body ≡ o → items_of (function_tree f) ≡ items_of (record (function_tree f) { body = option_map trees_of o })
+items_at : (f : Function) (o : Option (List Item)) → f.body ≡ o → items_of (function_tree f) ≡ items_of
+    (record (function_tree f) { body = option_map trees_of o })
 items_at f o e = ap (λ b. items_of (record (function_tree f) { body = option_map trees_of b })) e
 
 -- the labels of a function with a body, and of one without
-pub of_body : (f : Function) (body given : List Item) (old new : Labels) → f.body ≡ Some body → given ≡ body → old.starts ≡ [] → AddsBefore 0 (λ k l. seek (ToLabel l) (trees_of given) k) old new → AreLabelsOf f new
+pub of_body : (f : Function) (body given : List Item) (old new : Labels) → f.body ≡ Some body → given ≡ body → old.starts ≡ [] →
+    AddsBefore 0 (λ k l. seek (ToLabel l) (trees_of given) k) old new → AreLabelsOf f new
 of_body f body given old new e g s h l =
     subst (λ t. IsFound new l (seek (ToLabel l) t [])) (ap trees_of g ∙ sym (items_at f (Some body) e))
     ((h [] (stack_end old.levels)).found l None (empty_has old s l))

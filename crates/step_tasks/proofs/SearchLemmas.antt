@@ -46,8 +46,10 @@ no_default x a = at (out-Item x) (sym (roll-out-Item x)) where
   at (Open.Arrival c) e = absurd (a c (e ∙ rolls-Arrival c))
   at y e = ap (is_goal ToDefault) (as_layer x y e)
 
-pub no_lists : (x : Item) → ((t : Test) (a b : List Item) → x ≡ If t a b → ⊥) → ((t : Test) (a : List Item) → x ≡ While t a → ⊥) → ((a : List Item) (t : Test) → x ≡ Do a t → ⊥)
-    → ((f : List Item) (t u : Option Expression) (a : List Item) → x ≡ For f t u a → ⊥) → ((s : Selector) (cs : List Real.Section) → x ≡ Switch s cs → ⊥) → ((a : List Item) → x ≡ Block a → ⊥)
+pub no_lists : (x : Item) → ((t : Test) (a b : List Item) → x ≡ If t a b → ⊥) → ((t : Test) (a : List Item) → x ≡ While t a → ⊥) →
+    ((a : List Item) (t : Test) → x ≡ Do a t → ⊥)
+    → ((f : List Item) (t u : Option Expression) (a : List Item) → x ≡ For f t u a → ⊥) →
+    ((s : Selector) (cs : List Real.Section) → x ≡ Switch s cs → ⊥) → ((a : List Item) → x ≡ Block a → ⊥)
     → HasNoLabel (tree_of x)
 no_lists x i w d f s b l k = at (out-Item x) (sym (roll-out-Item x)) where
   at : (y : Item-F Item Real.Section) → x ≡ roll-Item y → seek_in l (tree_of x) k ≡ None
@@ -62,33 +64,39 @@ no_lists x i w d f s b l k = at (out-Item x) (sym (roll-out-Item x)) where
 -- ---- a list, from an item on
 
 from_here : (g : Goal) (x : Item) (xs : List Item) (k : List Task)
-    → seek g (trees_of (x ∷ xs)) k ≡ or_else (cond (is_goal g (tree_of x)) (Some (items (trees_of (x ∷ xs)) k)) (seek_in g (tree_of x) (items (trees_of xs) k))) (seek g (trees_of xs) k)
+    → seek g (trees_of (x ∷ xs)) k ≡ or_else (cond (is_goal g (tree_of x)) (Some (items (trees_of (x ∷ xs)) k))
+    (seek_in g (tree_of x) (items (trees_of xs) k))) (seek g (trees_of xs) k)
 from_here g x xs k =
     ap (λ f. seek g f k) (trees-more x xs)
-    ∙ ap (λ f. or_else (cond (is_goal g (tree_of x)) (Some (items f k)) (seek_in g (tree_of x) (items (trees_of xs) k))) (seek g (trees_of xs) k)) (sym (trees-more x xs))
+    ∙ ap (λ f. or_else (cond (is_goal g (tree_of x)) (Some (items f k)) (seek_in g (tree_of x) (items (trees_of xs) k))) (seek g (trees_of xs) k))
+    (sym (trees-more x xs))
 
 -- what is found from a place on: in the item there, or else behind it
 pub from_place : (g : Goal) (xs : List Item) (i : ℕ) (x : Item) (k : List Task) → i < length xs → x ≡ get_or xs i x
     → seek g (trees_of (drop i xs)) k
-    ≡ or_else (cond (is_goal g (tree_of x)) (Some (items (trees_of (drop i xs)) k)) (seek_in g (tree_of x) (items (trees_of (drop (i + 1) xs)) k))) (seek g (trees_of (drop (i + 1) xs)) k)
+    ≡ or_else (cond (is_goal g (tree_of x)) (Some (items (trees_of (drop i xs)) k)) (seek_in g (tree_of x) (items (trees_of (drop (i + 1) xs)) k)))
+    (seek g (trees_of (drop (i + 1) xs)) k)
 from_place g xs i x k h e =
     let split : drop i xs ≡ x ∷ drop (i + 1) xs = rw (add-one, drop-cons xs i x) (ap (λ y. y ∷ drop (suc i) xs) (sym e)) in
     ap (λ ys. seek g (trees_of ys) k) split ∙ from_here g x (drop (i + 1) xs) k
-    ∙ ap (λ ys. or_else (cond (is_goal g (tree_of x)) (Some (items (trees_of ys) k)) (seek_in g (tree_of x) (items (trees_of (drop (i + 1) xs)) k))) (seek g (trees_of (drop (i + 1) xs)) k)) (sym split)
+    ∙ ap (λ ys. or_else (cond (is_goal g (tree_of x)) (Some (items (trees_of ys) k)) (seek_in g (tree_of x) (items (trees_of (drop (i + 1) xs)) k)))
+    (seek g (trees_of (drop (i + 1) xs)) k)) (sym split)
 
 -- the item is the label
 pub is_here : (g : Goal) (xs : List Item) (i : ℕ) (x : Item) (k : List Task) → i < length xs → x ≡ get_or xs i x → is_goal g (tree_of x) ≡ true
     → seek g (trees_of (drop i xs)) k ≡ Some (items (trees_of (drop i xs)) k)
 is_here g xs i x k h e b =
     from_place g xs i x k h e
-    ∙ ap (λ c. or_else (cond c (Some (items (trees_of (drop i xs)) k)) (seek_in g (tree_of x) (items (trees_of (drop (i + 1) xs)) k))) (seek g (trees_of (drop (i + 1) xs)) k)) b
+    ∙ ap (λ c. or_else (cond c (Some (items (trees_of (drop i xs)) k)) (seek_in g (tree_of x) (items (trees_of (drop (i + 1) xs)) k)))
+    (seek g (trees_of (drop (i + 1) xs)) k)) b
 
 -- the label stands in the item
 pub is_inside : (g : Goal) (xs : List Item) (i : ℕ) (x : Item) (k found : List Task) → i < length xs → x ≡ get_or xs i x → is_goal g (tree_of x) ≡ false
     → seek_in g (tree_of x) (items (trees_of (drop (i + 1) xs)) k) ≡ Some found → seek g (trees_of (drop i xs)) k ≡ Some found
 is_inside g xs i x k found h e b s =
     from_place g xs i x k h e
-    ∙ ap (λ c. or_else (cond c (Some (items (trees_of (drop i xs)) k)) (seek_in g (tree_of x) (items (trees_of (drop (i + 1) xs)) k))) (seek g (trees_of (drop (i + 1) xs)) k)) b
+    ∙ ap (λ c. or_else (cond c (Some (items (trees_of (drop i xs)) k)) (seek_in g (tree_of x) (items (trees_of (drop (i + 1) xs)) k)))
+    (seek g (trees_of (drop (i + 1) xs)) k)) b
     ∙ ap (λ o. or_else o (seek g (trees_of (drop (i + 1) xs)) k)) s
 
 -- it stands neither there nor in it
@@ -96,7 +104,8 @@ pub is_later : (g : Goal) (xs : List Item) (i : ℕ) (x : Item) (k : List Task) 
     → seek_in g (tree_of x) (items (trees_of (drop (i + 1) xs)) k) ≡ None → seek g (trees_of (drop i xs)) k ≡ seek g (trees_of (drop (i + 1) xs)) k
 is_later g xs i x k h e b s =
     from_place g xs i x k h e
-    ∙ ap (λ c. or_else (cond c (Some (items (trees_of (drop i xs)) k)) (seek_in g (tree_of x) (items (trees_of (drop (i + 1) xs)) k))) (seek g (trees_of (drop (i + 1) xs)) k)) b
+    ∙ ap (λ c. or_else (cond c (Some (items (trees_of (drop i xs)) k)) (seek_in g (tree_of x) (items (trees_of (drop (i + 1) xs)) k)))
+    (seek g (trees_of (drop (i + 1) xs)) k)) b
     ∙ ap (λ o. or_else o (seek g (trees_of (drop (i + 1) xs)) k)) s
 
 pub past_last : (g : Goal) (xs : List Item) (k : List Task) → xs ≡ [] → seek g (trees_of xs) k ≡ None
@@ -108,31 +117,39 @@ past_last g xs k e = ap (λ ys. seek g (trees_of ys) k) e ∙ ap (λ f. seek g f
 pub among : (g : Goal) (cs : List Real.Section) (i : ℕ) (c : Real.Section) (k : List Task) → i < length cs → c ≡ get_or cs i c
     → let s = section_tree c in
     seek_sections g (sections_of (drop i cs)) k
-    ≡ or_else (cond (is_section_goal g s.cases s.default) (Some (tail_tasks (sections_of (drop i cs)) k)) (seek g s.list (end_of s.ends (tail_tasks (sections_of (drop (i + 1) cs)) k)))) (seek_sections g (sections_of (drop (i + 1) cs)) k)
+    ≡ or_else (cond (is_section_goal g s.cases s.default) (Some (tail_tasks (sections_of (drop i cs)) k))
+    (seek g s.list (end_of s.ends (tail_tasks (sections_of (drop (i + 1) cs)) k)))) (seek_sections g (sections_of (drop (i + 1) cs)) k)
 among g cs i c k h e =
     let s = section_tree c in
     let split : drop i cs ≡ c ∷ drop (i + 1) cs = rw (add-one, drop-cons cs i c) (ap (λ y. y ∷ drop (suc i) cs) (sym e)) in
     ap (λ ys. seek_sections g (sections_of ys) k) split
     ∙ ap (λ ys. seek_sections g ys k) (sections-more c (drop (i + 1) cs))
-    ∙ ap (λ ys. or_else (cond (is_section_goal g s.cases s.default) (Some (tail_tasks ys k)) (seek g s.list (end_of s.ends (tail_tasks (sections_of (drop (i + 1) cs)) k)))) (seek_sections g (sections_of (drop (i + 1) cs)) k)) (sym (sections-more c (drop (i + 1) cs)))
-    ∙ ap (λ ys. or_else (cond (is_section_goal g s.cases s.default) (Some (tail_tasks (sections_of ys) k)) (seek g s.list (end_of s.ends (tail_tasks (sections_of (drop (i + 1) cs)) k)))) (seek_sections g (sections_of (drop (i + 1) cs)) k)) (sym split)
+    ∙ ap (λ ys. or_else (cond (is_section_goal g s.cases s.default) (Some (tail_tasks ys k))
+    (seek g s.list (end_of s.ends (tail_tasks (sections_of (drop (i + 1) cs)) k)))) (seek_sections g (sections_of (drop (i + 1) cs)) k))
+    (sym (sections-more c (drop (i + 1) cs)))
+    ∙ ap (λ ys. or_else (cond (is_section_goal g s.cases s.default) (Some (tail_tasks (sections_of ys) k))
+    (seek g s.list (end_of s.ends (tail_tasks (sections_of (drop (i + 1) cs)) k)))) (seek_sections g (sections_of (drop (i + 1) cs)) k)) (sym split)
 
 module _ (g : Goal) (cs : List Real.Section) (i : ℕ) (c : Real.Section) (k : List Task) (h : i < length cs) (e : c ≡ get_or cs i c) where
   by_test : (b : Bool) → (let s = section_tree c in is_section_goal g s.cases s.default) ≡ b
       → let s = section_tree c in
       seek_sections g (sections_of (drop i cs)) k
-      ≡ or_else (cond b (Some (tail_tasks (sections_of (drop i cs)) k)) (seek g s.list (end_of s.ends (tail_tasks (sections_of (drop (i + 1) cs)) k)))) (seek_sections g (sections_of (drop (i + 1) cs)) k)
+      ≡ or_else (cond b (Some (tail_tasks (sections_of (drop i cs)) k))
+      (seek g s.list (end_of s.ends (tail_tasks (sections_of (drop (i + 1) cs)) k)))) (seek_sections g (sections_of (drop (i + 1) cs)) k)
   by_test b t =
       among g cs i c k h e
-      ∙ (let s = section_tree c in ap (λ x. or_else (cond x (Some (tail_tasks (sections_of (drop i cs)) k)) (seek g s.list (end_of s.ends (tail_tasks (sections_of (drop (i + 1) cs)) k)))) (seek_sections g (sections_of (drop (i + 1) cs)) k)) t)
+      ∙ (let s = section_tree c in ap (λ x. or_else (cond x (Some (tail_tasks (sections_of (drop i cs)) k))
+      (seek g s.list (end_of s.ends (tail_tasks (sections_of (drop (i + 1) cs)) k)))) (seek_sections g (sections_of (drop (i + 1) cs)) k)) t)
 
   -- the section has the label
-  pub section_here : (let s = section_tree c in is_section_goal g s.cases s.default) ≡ true → seek_sections g (sections_of (drop i cs)) k ≡ Some (tail_tasks (sections_of (drop i cs)) k)
+  pub section_here : (let s = section_tree c in is_section_goal g s.cases s.default) ≡ true →
+      seek_sections g (sections_of (drop i cs)) k ≡ Some (tail_tasks (sections_of (drop i cs)) k)
   section_here b = by_test true b
 
   -- the label stands in its list
   pub section_inside : (found : List Task) → (let s = section_tree c in is_section_goal g s.cases s.default) ≡ false
-      → (let s = section_tree c in seek g s.list (end_of s.ends (tail_tasks (sections_of (drop (i + 1) cs)) k))) ≡ Some found → seek_sections g (sections_of (drop i cs)) k ≡ Some found
+      → (let s = section_tree c in seek g s.list (end_of s.ends (tail_tasks (sections_of (drop (i + 1) cs)) k))) ≡ Some found →
+      seek_sections g (sections_of (drop i cs)) k ≡ Some found
   section_inside found b s = by_test false b ∙ ap (λ o. or_else o (seek_sections g (sections_of (drop (i + 1) cs)) k)) s
 
   -- neither

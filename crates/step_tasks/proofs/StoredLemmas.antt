@@ -20,7 +20,8 @@ use Rattle.step_tasks.specs.Effects.{Comes, Effects, Changes, LeavesIn}
 use Rattle.step_tasks.specs.Tasks.{tasks_of}
 
 pub assigned : (s t : Store) (values new : List Value) (o : Owner) (i : ℕ) (z : ℤ) (k : IntKind)
-    → z ≡ Meant.integer (top (values_of (names_of s) values)) → Meant.Designates (owner_of (names_of s) o) i ≡ top (rest (values_of (names_of s) values)) → HasKind s o k → StoresIn o i z s t
+    → z ≡ Meant.integer (top (values_of (names_of s) values)) → Meant.Designates (owner_of (names_of s) o) i ≡ top
+    (rest (values_of (names_of s) values)) → HasKind s o k → StoresIn o i z s t
     → values_of (names_of s) new ≡ Meant.Integer (converted k z) ∷ rest (rest (values_of (names_of s) values)) → LeavesIn Stores s t values new
 assigned s t values new o i z k ez ep hk st e tasks w h =
     let v = values_of (names_of s) values in
@@ -40,7 +41,8 @@ assigned s t values new o i z k ez ep hk st e tasks w h =
 abbrev pub left_by : Bool → IntKind → ℤ → ℤ → ℤ
 left_by after k old new = cond after old (converted k new)
 
-counts : (after : Bool) (d : Meant.Value) (w : World) (old new : ℤ) (k : IntKind) → load d w ≡ old → kind_at d w ≡ k → cond after (Meant.Integer (load d w)) (Meant.Integer (converted (kind_at d w) new)) ≡ Meant.Integer (left_by after k old new)
+counts : (after : Bool) (d : Meant.Value) (w : World) (old new : ℤ) (k : IntKind) → load d w ≡ old → kind_at d w ≡ k →
+    cond after (Meant.Integer (load d w)) (Meant.Integer (converted (kind_at d w) new)) ≡ Meant.Integer (left_by after k old new)
 counts true d w old new k e h = ap Meant.Integer e
 counts false d w old new k e h = ap (λ q. Meant.Integer (converted q new)) h
 
@@ -64,15 +66,19 @@ counted_cell s t up after place values new o i old z k ep hn hk r st e tasks w h
     )
 
 pub set_cell : (s t : Store) (x i : ℕ) (es : List ExpressionTree) (tasks left : List Work) (values mid new : List Value) (o : Owner) (j : ℕ) (z : ℤ)
-    → t.names ≡ s.names → z ≡ Meant.integer (top (values_of (names_of s) values)) → Meant.Designates (owner_of (names_of s) o) j ≡ top (rest (values_of (names_of s) values)) → StoresIn o j z s t
-    → values_of (names_of s) mid ≡ rest (rest (values_of (names_of s) values)) → Effects (initialise x (suc i) es) t tasks left mid new → Changes (Sets x i es) s t tasks left values new
+    → t.names ≡ s.names → z ≡ Meant.integer (top (values_of (names_of s) values)) →
+    Meant.Designates (owner_of (names_of s) o) j ≡ top (rest (values_of (names_of s) values)) → StoresIn o j z s t
+    → values_of (names_of s) mid ≡ rest (rest (values_of (names_of s) values)) → Effects (initialise x (suc i) es) t tasks left mid new →
+    Changes (Sets x i es) s t tasks left values new
 set_cell s t x i es tasks left values mid new o j z en ez ep st em k w h =
     let v = values_of (names_of s) values in
     let d = Meant.Designates (owner_of (names_of s) o) j in
     let names : names_of t ≡ names_of s = ap (λ ns. names_of (record t { names = ns })) en in
     let first = k (store d z w) (st w h) in
-    let second = subst (λ ns. Comes (initialise x (suc i) es (values_of ns mid) (store d z w)) (tasks_of tasks) (tasks_of left) (values_of ns new) (store d z w)) names first in
-    let third = subst (λ m. Comes (initialise x (suc i) es m (store d z w)) (tasks_of tasks) (tasks_of left) (values_of (names_of s) new) (store d z w)) em second in (
+    let second = subst (λ ns. Comes (initialise x (suc i) es (values_of ns mid) (store d z w)) (tasks_of tasks) (tasks_of left) (values_of ns new)
+    (store d z w)) names first in
+    let third = subst (λ m. Comes (initialise x (suc i) es m (store d z w)) (tasks_of tasks) (tasks_of left) (values_of (names_of s) new)
+    (store d z w)) em second in (
       store d z w,
       subst (λ y. Comes (initialise x (suc i) es (rest (rest v)) y) (tasks_of tasks) (tasks_of left) (values_of (names_of s) new) (store d z w))
           (ap (λ p. store p z w) ep ∙ ap (λ y. store (top (rest v)) y w) ez) third,

@@ -12,7 +12,8 @@ pub on_top : {A : Type 0} (x : A) (xs : List A) → Some x ≡ slice_get xs 0 �
 on_top x [] e = cc
 on_top x (y ∷ xs) e = cc
 
-pub popped : {A : Type 0} (r : Option A) (x : A) (old new : List A) → MatchOption r ((old ≡ []) × (new ≡ [])) (λ t. old ≡ t ∷ new) → Some x ≡ slice_get old 0 → old ≡ x ∷ new
+pub popped : {A : Type 0} (r : Option A) (x : A) (old new : List A) → MatchOption r ((old ≡ []) × (new ≡ [])) (λ t. old ≡ t ∷ new) →
+    Some x ≡ slice_get old 0 → old ≡ x ∷ new
 popped None x old new h e = let k = e ∙ ap (λ xs. slice_get xs 0) h.0 in cc
 popped (Some t) x old new h e = let k = e ∙ ap (λ xs. slice_get xs 0) h in cc
 
@@ -38,6 +39,7 @@ pub none_on_top : {A : Type 0} (xs : List A) → None ≡ slice_get xs 0 → xs 
 none_on_top [] e = refl
 none_on_top (x ∷ xs) e = cc
 
-pub popped_back : {A : Type 0} (r : Option A) (x : A) (old new xs : List A) → MatchOption r ((old ≡ []) × (new ≡ [])) (λ t. old ≡ t ∷ new) → old ≡ x ∷ xs → new ≡ xs
+pub popped_back : {A : Type 0} (r : Option A) (x : A) (old new xs : List A) → MatchOption r ((old ≡ []) × (new ≡ [])) (λ t. old ≡ t ∷ new) →
+    old ≡ x ∷ xs → new ≡ xs
 popped_back None x old new xs h e = let k = h.0 in cc
 popped_back (Some t) x old new xs h e = cc

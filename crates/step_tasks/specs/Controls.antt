@@ -58,7 +58,8 @@ MovesAlways t old new = (s : Store) → Moves t s old new
 -- the last value is taken, and holds or not: the tasks are those that follow then
 abbrev pub Turned : T.Task → Bool → List Work → List Work → Type 0
 Turned t taken old new =
-    (b : Forest) (g : Guards) → (next : Meant.Value → List T.Task) × (view b g (t ∷ tasks_of old) ≡ Takes next) × ((v : Meant.Value) → holds v ≡ taken → tasks_of new ≡ next v)
+    (b : Forest) (g : Guards) → (next : Meant.Value → List T.Task) × (view b g (t ∷ tasks_of old) ≡ Takes next) ×
+    ((v : Meant.Value) → holds v ≡ taken → tasks_of new ≡ next v)
 
 -- `return`, with its value, if it has one
 abbrev pub returns : Option ExpressionTree → List T.Task → List T.Task

@@ -82,7 +82,8 @@ pub record DifferInVariables (v w : World) : Type 0 where
 abbrev pub Changes : Op → Store → Store → List Work → List Work → List Value → List Value → Type 0
 Changes o s t tasks left values new =
     (w : World) → HoldsWorld s w
-    → (now : World) × Comes (effect o (values_of (names_of s) values) w) (tasks_of tasks) (tasks_of left) (values_of (names_of s) new) now × HoldsWorld t now × DifferInVariables w now
+    → (now : World) × Comes (effect o (values_of (names_of s) values) w) (tasks_of tasks) (tasks_of left) (values_of (names_of s) new) now ×
+    HoldsWorld t now × DifferInVariables w now
 
 -- a task that takes values, leaves one and may change variables: other tasks stay as they are
 abbrev pub LeavesIn : Op → Store → Store → List Value → List Value → Type 0
@@ -95,7 +96,8 @@ LeavesInOr o (Is.Traps trap) s t values new = IsTrapped o trap s values
 -- the cell of a variable is counted, and its value before or after that is left
 abbrev pub CountsIn : Bool → Bool → Owner → ℕ → Done → Store → Store → List Value → List Value → Type 0
 CountsIn up after o i done s t values new =
-    (place : List Value) → values_of (names_of s) place ≡ Meant.Designates (owner_of (names_of s) o) i ∷ values_of (names_of s) values → LeavesInOr (Counts up after) done s t place new
+    (place : List Value) → values_of (names_of s) place ≡ Meant.Designates (owner_of (names_of s) o) i ∷ values_of (names_of s) values →
+    LeavesInOr (Counts up after) done s t place new
 
 -- the arguments, and then the call
 abbrev pub call_tasks : List ℕ → List ExpressionTree → List Op

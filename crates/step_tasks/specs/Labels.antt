@@ -14,7 +14,8 @@ abbrev pub IsStackIn : ℕ → List Level → ℕ → List T.Task → Type 0
 IsStackIn zero levels zero k = k ≡ []
 IsStackIn zero levels (suc i) k = ⊥
 IsStackIn (suc n) levels zero k = k ≡ []
-IsStackIn (suc n) levels (suc i) k = (x : Level) × (j : List T.Task) × (slice_get levels i ≡ Some x) × (x.below ≤ i) × IsStackIn n levels x.below j × (k ≡ work_of x.work j)
+IsStackIn (suc n) levels (suc i) k = (x : Level) × (j : List T.Task) × (slice_get levels i ≡ Some x) × (x.below ≤ i) × IsStackIn n levels x.below j ×
+    (k ≡ work_of x.work j)
 
 abbrev pub IsStack : List Level → ℕ → List T.Task → Type 0
 IsStack levels i k = (n : ℕ) × IsStackIn n levels i k

@@ -24,15 +24,19 @@ leaves_none false t n w = tt
 
 module _ (P : Code) (structured : IsCodeStructured P) where
   entry_ran : (n : ℕ) (m : List ℕ) (r : Result World Trap) (w : World)
-      → Ran P (suc n) (target (valued [] [] [] []) (call_body (execs (with_fuel P n) (items_of (P.functions m))) (λ c w. leave_entry (P.functions m) (value_left m (P.functions m) c) w) w r))
+      → Ran P (suc n) (target (valued [] [] [] []) (call_body (execs (with_fuel P n) (items_of (P.functions m)))
+      (λ c w. leave_entry (P.functions m) (value_left m (P.functions m) c) w) w r))
       (begin_call m (items_of (P.functions m)) r [] w)
-  entry_ran n m (Ok u) w = bind P (valued [] [] [] []) _ _ (execs_ran P (with_fuel P n) n (sound P structured n) (items_of (P.functions m)) (structured m) m [] [] [] u)
+  entry_ran n m (Ok u) w = bind P (valued [] [] [] []) _ _ (execs_ran P (with_fuel P n) n (sound P structured n) (items_of (P.functions m))
+      (structured m) m [] [] [] u)
       (λ c w. over_ran P c m [] w (settled P (leave_entry (P.functions m) (value_left m (P.functions m) c) w) [] [] [] []))
   entry_ran n m (Err t) w = there P 0 _ refl
 
   entry_over : (n : ℕ) (m : List ℕ) (r : Result World Trap) (w : World)
-      → AllYield (λ (x : Value). ⊥) (call_body (execs (with_fuel P n) (items_of (P.functions m))) (λ c w. leave_entry (P.functions m) (value_left m (P.functions m) c) w) w r)
-  entry_over n m (Ok u) w = yields_bind (λ (x : Value). ⊥) (execs (with_fuel P n) (items_of (P.functions m)) u) _ (λ c w. leaves_none (lacks (P.functions m) (value_left m (P.functions m) c)) _ _ w)
+      → AllYield (λ (x : Value). ⊥) (call_body (execs (with_fuel P n) (items_of (P.functions m)))
+      (λ c w. leave_entry (P.functions m) (value_left m (P.functions m) c) w) w r)
+  entry_over n m (Ok u) w = yields_bind (λ (x : Value). ⊥) (execs (with_fuel P n) (items_of (P.functions m)) u)
+      _ (λ c w. leaves_none (lacks (P.functions m) (value_left m (P.functions m) c)) _ _ w)
   entry_over n m (Err t) w = tt
 
   -- the run by steps stands where the evaluation does, for good unless its fuel is gone

@@ -44,11 +44,13 @@ missing_run : IsOverAfter (structural_run missing (codes "main") [] [] []) 0 [] 
 unfolding converted arith_result digits
 missing_run = (refl, refl)
 
-prints_run : IsOverAfter (structural_run prints (codes "main") [] [] []) 0 [] (Ended (pos 8) (Byte 45 ∷ Byte 53 ∷ Byte 58 ∷ Byte 102 ∷ Byte 102 ∷ Byte 32 ∷ Byte 65 ∷ Byte 37 ∷ []))
+prints_run : IsOverAfter (structural_run prints (codes "main") [] [] []) 0 []
+    (Ended (pos 8) (Byte 45 ∷ Byte 53 ∷ Byte 58 ∷ Byte 102 ∷ Byte 102 ∷ Byte 32 ∷ Byte 65 ∷ Byte 37 ∷ []))
 unfolding converted arith_result digits
 prints_run = (refl, refl)
 
-asks_run : IsOverAfter (structural_run asks (codes "main") [] [] (pos 4294967300 ∷ [])) 0 [] (Trapped Trap.NoAnswer (Called (codes "p") (pos 3 ∷ pos 44 ∷ []) ∷ Called (codes "p") (pos 4 ∷ pos 0 ∷ []) ∷ []))
+asks_run : IsOverAfter (structural_run asks (codes "main") [] [] (pos 4294967300 ∷ [])) 0 []
+    (Trapped Trap.NoAnswer (Called (codes "p") (pos 3 ∷ pos 44 ∷ []) ∷ Called (codes "p") (pos 4 ∷ pos 0 ∷ []) ∷ []))
 unfolding converted arith_result digits
 asks_run = (refl, refl)
 

@@ -36,13 +36,15 @@ AllYield Q (Faults t w) = Unit {0}
 AllYield Q (Quits n w) = Unit {0}
 AllYield Q (Spent w) = Unit {0}
 
-pub yields_bind : {A B : Type 0} (Q : B → Type 0) (x : Evaluation A) (m : A → World → Evaluation B) → ((a : A) (w : World) → AllYield Q (m a w)) → AllYield Q (and_then x m)
+pub yields_bind : {A B : Type 0} (Q : B → Type 0) (x : Evaluation A) (m : A → World → Evaluation B) → ((a : A) (w : World) → AllYield Q (m a w)) →
+    AllYield Q (and_then x m)
 yields_bind Q (Yields a w) m h = h a w
 yields_bind Q (Faults t w) m h = tt
 yields_bind Q (Quits n w) m h = tt
 yields_bind Q (Spent w) m h = tt
 
-map_bind : {A B : Type 0} (R : A → Type 0) (Q : B → Type 0) (x : Evaluation A) (m : A → World → Evaluation B) → AllYield R x → ((a : A) (w : World) → R a → AllYield Q (m a w)) → AllYield Q (and_then x m)
+map_bind : {A B : Type 0} (R : A → Type 0) (Q : B → Type 0) (x : Evaluation A) (m : A → World → Evaluation B) → AllYield R x →
+    ((a : A) (w : World) → R a → AllYield Q (m a w)) → AllYield Q (and_then x m)
 map_bind R Q (Yields a w) m r h = h a w r
 map_bind R Q (Faults t w) m r h = tt
 map_bind R Q (Quits n w) m r h = tt
@@ -52,12 +54,14 @@ map_bind R Q (Spent w) m r h = tt
 arguments_counted : (L : LessFuel) (xs : Arguments) (w : World) → AllYield (λ vs. argument_count xs ≡ length vs + 0) (eval_arguments L xs w)
 arguments_counted L NoArgument w = refl
 arguments_counted L (Argument x xs) w =
-    yields_bind _ (eval L false x w) _ (λ v w. map_bind (λ vs. argument_count xs ≡ length vs + 0) _ (eval_arguments L xs w) _ (arguments_counted L xs w) (λ vs w e. omega (arith, e)))
+    yields_bind _ (eval L false x w) _ (λ v w. map_bind (λ vs. argument_count xs ≡ length vs + 0) _ (eval_arguments L xs w)
+    _ (arguments_counted L xs w) (λ vs w e. omega (arith, e)))
 
 module _ (P : Code) (L : LessFuel) (b : ℕ) where
   -- the calls that are left are met with one less of fuel
   abbrev pub CallsRun : Type 0
-  CallsRun = (d : Bool) (m : List ℕ) (n : ℕ) (vs : List Value) (f : List ℕ) (k : List Task) (v : List Value) (cs : List Frame) (w : World) → n ≡ length vs + 0 → is_dropped k ≡ d
+  CallsRun = (d : Bool) (m : List ℕ) (n : ℕ) (vs : List Value) (f : List ℕ) (k : List Task) (v : List Value) (cs : List Frame) (w : World) →
+      n ≡ length vs + 0 → is_dropped k ≡ d
       → Ran P b (target (valued f k v cs) (L.calls d m vs w)) (At f no_guards (Works (Calls m n) ∷ k) (pushed vs v) cs w)
 
   bind_with : {A B : Type 0} {c : State} {go : A → World → State} (Q : A → Type 0) (to : B → World → State) (x : Evaluation A) (m : A → World → Evaluation B)
@@ -71,13 +75,17 @@ module _ (P : Code) (L : LessFuel) (b : ℕ) where
   abbrev pub Computed : (World → Evaluation Value) → List Task → List ℕ → List Task → List Value → List Frame → Type 0
   Computed e j f k v cs = (w : World) → Ran P (suc b) (target (valued f k v cs) (e w)) (At f no_guards j v cs w)
 
-  and_ran : (y : Bool) (x : ExpressionTree) (f : List ℕ) (k : List Task) (v : List Value) (cs : List Frame) → Computed (eval L false x) (Works (Computes x) ∷ Works Judges ∷ k) f (Works Judges ∷ k) v cs
-      → (w : World) → Ran P (suc b) (target (valued f k v cs) (and_second y (eval L false x) w)) (perform P (cond y (Does (Computes x ∷ Judges ∷ []) v w) (Does [] (Integer (pos 0) ∷ v) w)) f no_guards k cs)
+  and_ran : (y : Bool) (x : ExpressionTree) (f : List ℕ) (k : List Task) (v : List Value) (cs : List Frame) →
+      Computed (eval L false x) (Works (Computes x) ∷ Works Judges ∷ k) f (Works Judges ∷ k) v cs
+      → (w : World) → Ran P (suc b) (target (valued f k v cs) (and_second y (eval L false x) w))
+      (perform P (cond y (Does (Computes x ∷ Judges ∷ []) v w) (Does [] (Integer (pos 0) ∷ v) w)) f no_guards k cs)
   and_ran true x f k v cs h w = bind P (valued f k v cs) _ _ (h w) (λ u w. there P 1 _ refl)
   and_ran false x f k v cs h w = there P 0 _ refl
 
-  or_ran : (y : Bool) (x : ExpressionTree) (f : List ℕ) (k : List Task) (v : List Value) (cs : List Frame) → Computed (eval L false x) (Works (Computes x) ∷ Works Judges ∷ k) f (Works Judges ∷ k) v cs
-      → (w : World) → Ran P (suc b) (target (valued f k v cs) (or_second y (eval L false x) w)) (perform P (cond y (Does [] (Integer (pos 1) ∷ v) w) (Does (Computes x ∷ Judges ∷ []) v w)) f no_guards k cs)
+  or_ran : (y : Bool) (x : ExpressionTree) (f : List ℕ) (k : List Task) (v : List Value) (cs : List Frame) →
+      Computed (eval L false x) (Works (Computes x) ∷ Works Judges ∷ k) f (Works Judges ∷ k) v cs
+      → (w : World) → Ran P (suc b) (target (valued f k v cs) (or_second y (eval L false x) w))
+      (perform P (cond y (Does [] (Integer (pos 1) ∷ v) w) (Does (Computes x ∷ Judges ∷ []) v w)) f no_guards k cs)
   or_ran true x f k v cs h w = there P 0 _ refl
   or_ran false x f k v cs h w = bind P (valued f k v cs) _ _ (h w) (λ u w. there P 1 _ refl)
 
@@ -98,12 +106,15 @@ module _ (P : Code) (L : LessFuel) (b : ℕ) where
 
   -- a binary mark that evaluates both operands
   binary_ran : (op : BinaryOp) (x z : ExpressionTree) (f : List ℕ) (k : List Task) (v : List Value) (cs : List Frame)
-      → Computed (eval L false x) (Works (Computes x) ∷ Works (Computes z) ∷ Works (AppliesBinary op (kind_of x) (kind_of z)) ∷ k) f (Works (Computes z) ∷ Works (AppliesBinary op (kind_of x) (kind_of z)) ∷ k) v cs
-      → ((u : Value) → Computed (eval L false z) (Works (Computes z) ∷ Works (AppliesBinary op (kind_of x) (kind_of z)) ∷ k) f (Works (AppliesBinary op (kind_of x) (kind_of z)) ∷ k) (u ∷ v) cs)
+      → Computed (eval L false x) (Works (Computes x) ∷ Works (Computes z) ∷ Works (AppliesBinary op (kind_of x) (kind_of z)) ∷ k) f
+      (Works (Computes z) ∷ Works (AppliesBinary op (kind_of x) (kind_of z)) ∷ k) v cs
+      → ((u : Value) → Computed (eval L false z) (Works (Computes z) ∷ Works (AppliesBinary op (kind_of x) (kind_of z)) ∷ k) f
+      (Works (AppliesBinary op (kind_of x) (kind_of z)) ∷ k) (u ∷ v) cs)
       → Computed (λ w. and_then (eval L false x w) (λ u w. and_then (eval L false z w) (λ y w. given (binary op (kind_of x) (kind_of z) u y w))))
       (Works (Computes x) ∷ Works (Computes z) ∷ Works (AppliesBinary op (kind_of x) (kind_of z)) ∷ k) f k v cs
   binary_ran op x z f k v cs h g w =
-      bind P (valued f k v cs) _ _ (h w) (λ u w. bind P (valued f k v cs) _ _ (g u w) (λ y w. next P _ (left_ran P (binary op (kind_of x) (kind_of z) u y w) f k v cs)))
+      bind P (valued f k v cs) _ _ (h w)
+      (λ u w. bind P (valued f k v cs) _ _ (g u w) (λ y w. next P _ (left_ran P (binary op (kind_of x) (kind_of z) u y w) f k v cs)))
 
   undropped : (xs : Arguments) (m : List ℕ) (n : ℕ) (k : List Task) → is_dropped (works (argument_tasks xs (Calls m n ∷ [])) k) ≡ false
   undropped NoArgument m n k = refl
@@ -122,7 +133,8 @@ module _ (P : Code) (L : LessFuel) (b : ℕ) where
           next P _ (bind P (valued f k v cs) _ _ (eval_ran x false f (Works (Indexes h) ∷ k) v cs w refl)
           (λ i w. next P _ (left_ran P (cell h (integer i) w) f k v cs)))
 
-      node_ran : (node : NodeTree) (kind : Option IntKind) (d : Bool) (f : List ℕ) (k : List Task) (v : List Value) (cs : List Frame) (w : World) → is_dropped k ≡ d
+      node_ran : (node : NodeTree) (kind : Option IntKind) (d : Bool) (f : List ℕ) (k : List Task) (v : List Value) (cs : List Frame) (w : World) →
+          is_dropped k ≡ d
           → Ran P (suc b) (target (valued f k v cs) (eval_node L d kind node w)) (At f no_guards (Works (Computes (Typed kind node)) ∷ k) v cs w)
       node_ran (Number n) kind d f k v cs w q = there P 1 _ refl
       node_ran (Character n) kind d f k v cs w q = there P 1 _ refl
@@ -131,9 +143,12 @@ module _ (P : Code) (L : LessFuel) (b : ℕ) where
       node_ran (Array h) kind d f k v cs w q = there P 1 _ refl
       node_ran (Read p) kind d f k v cs w q = next P _ (bind P (valued f k v cs) _ _ (place_ran p f (Works Loads ∷ k) v cs w) (λ x w. there P 1 _ refl))
       node_ran (Unary op x) kind d f k v cs w q =
-          next P _ (bind P (valued f k v cs) _ _ (eval_ran x false f (Works (AppliesUnary op (kind_of x)) ∷ k) v cs w refl) (λ u w. next P _ (left_ran P (unary op (kind_of x) u w) f k v cs)))
-      node_ran (Cast x) None d f k v cs w q = next P _ (bind P (valued f k v cs) _ _ (eval_ran x true f (Works Drops ∷ Works LeavesNothing ∷ k) v cs w refl) (λ u w. there P 2 _ refl))
-      node_ran (Cast x) (Some i) d f k v cs w q = next P _ (bind P (valued f k v cs) _ _ (eval_ran x false f (Works (Converts i) ∷ k) v cs w refl) (λ u w. there P 1 _ refl))
+          next P _ (bind P (valued f k v cs) _ _ (eval_ran x false f (Works (AppliesUnary op (kind_of x)) ∷ k) v cs w refl)
+          (λ u w. next P _ (left_ran P (unary op (kind_of x) u w) f k v cs)))
+      node_ran (Cast x) None d f k v cs w q = next P
+          _ (bind P (valued f k v cs) _ _ (eval_ran x true f (Works Drops ∷ Works LeavesNothing ∷ k) v cs w refl) (λ u w. there P 2 _ refl))
+      node_ran (Cast x) (Some i) d f k v cs w q = next P _ (bind P (valued f k v cs) _ _ (eval_ran x false f (Works (Converts i) ∷ k) v cs w refl)
+          (λ u w. there P 1 _ refl))
       node_ran (Binary AndThen x z) kind d f k v cs w q =
           next P _ (bind P (valued f k v cs) _ _ (eval_ran x false f (Works (Ands z) ∷ k) v cs w refl)
           (λ u w. next P _ (and_ran (holds u) z f k v cs (λ w. eval_ran z false f (Works Judges ∷ k) v cs w refl) w)))
@@ -148,18 +163,25 @@ module _ (P : Code) (L : LessFuel) (b : ℕ) where
           (λ u w. next P _ (either_ran (holds u) d y z f k v cs (λ w. eval_ran y d f k v cs w q) (λ w. eval_ran z d f k v cs w q) w)))
       node_ran (Conditional x y z) (Some i) d f k v cs w q =
           next P _ (bind P (valued f k v cs) _ _ (eval_ran x false f (Works (Decides y z (Some i)) ∷ k) v cs w refl)
-          (λ u w. next P _ (decides_ran (holds u) i y z f k v cs (λ w. eval_ran y false f (Works (Converts i) ∷ k) v cs w refl) (λ w. eval_ran z false f (Works (Converts i) ∷ k) v cs w refl) w)))
+          (λ u w. next P _ (decides_ran (holds u) i y z f k v cs (λ w. eval_ran y false f (Works (Converts i) ∷ k) v cs w refl)
+          (λ w. eval_ran z false f (Works (Converts i) ∷ k) v cs w refl) w)))
       node_ran (Assign p x) kind d f k v cs w q =
           next P _ (bind P (valued f k v cs) _ _ (place_ran p f (Works (Computes x) ∷ Works Stores ∷ k) v cs w)
-          (λ u w. bind P (valued f k v cs) _ _ (eval_ran x false f (Works Stores ∷ k) (u ∷ v) cs w refl) (λ y w. next P _ (left_ran P (assign u y w) f k v cs))))
+          (λ u w. bind P (valued f k v cs) _ _ (eval_ran x false f (Works Stores ∷ k) (u ∷ v) cs w refl)
+          (λ y w. next P _ (left_ran P (assign u y w) f k v cs))))
       node_ran (Update op p x) kind d f k v cs w q =
-          next P _ (bind P (valued f k v cs) _ _ (place_ran p f (Works Fetches ∷ Works (Computes x) ∷ Works (AppliesBinary (Arith op) kind (kind_of x)) ∷ Works Stores ∷ k) v cs w)
-          (λ u w. next P _ (bind P (valued f k v cs) _ _ (eval_ran x false f (Works (AppliesBinary (Arith op) kind (kind_of x)) ∷ Works Stores ∷ k) (loaded u w ∷ u ∷ v) cs w refl)
-          (λ y w'. next P _ (bind P (valued f k v cs) _ _ (left_ran P (binary (Arith op) kind (kind_of x) (loaded u w) y w') f (Works Stores ∷ k) (u ∷ v) cs) (λ y w. next P _ (left_ran P (assign u y w) f k v cs)))))))
+          next P _ (bind P (valued f k v cs)
+          _ _ (place_ran p f (Works Fetches ∷ Works (Computes x) ∷ Works (AppliesBinary (Arith op) kind (kind_of x)) ∷ Works Stores ∷ k) v cs w)
+          (λ u w. next P _ (bind P (valued f k v cs) _ _ (eval_ran x false f (Works (AppliesBinary (Arith op) kind (kind_of x)) ∷ Works Stores ∷ k)
+          (loaded u w ∷ u ∷ v) cs w refl)
+          (λ y w'. next P _ (bind P (valued f k v cs) _ _ (left_ran P (binary (Arith op) kind (kind_of x) (loaded u w) y w') f (Works Stores ∷ k)
+          (u ∷ v) cs) (λ y w. next P _ (left_ran P (assign u y w) f k v cs)))))))
       node_ran (Count p up after) kind d f k v cs w q =
-          next P _ (bind P (valued f k v cs) _ _ (place_ran p f (Works (Counts up after) ∷ k) v cs w) (λ u w. next P _ (left_ran P (count up after u w) f k v cs)))
+          next P _ (bind P (valued f k v cs) _ _ (place_ran p f (Works (Counts up after) ∷ k) v cs w)
+          (λ u w. next P _ (left_ran P (count up after u w) f k v cs)))
       node_ran (Comma x y) kind d f k v cs w q =
-          next P _ (bind P (valued f k v cs) _ _ (eval_ran x true f (Works Drops ∷ Works (Computes y) ∷ k) v cs w refl) (λ u w. next P _ (eval_ran y d f k v cs w q)))
+          next P _ (bind P (valued f k v cs) _ _ (eval_ran x true f (Works Drops ∷ Works (Computes y) ∷ k) v cs w refl)
+          (λ u w. next P _ (eval_ran y d f k v cs w q)))
       node_ran (Call m xs) kind d f k v cs w q =
           once P _ (bind_with (λ vs. argument_count xs ≡ length vs + 0) (valued f k v cs) _ _ (arguments_counted L xs w)
           (weaker P (arguments_ran xs m (argument_count xs) f k v cs w)) (λ vs w e. calls d m (argument_count xs) vs f k v cs w e q))

@@ -45,9 +45,11 @@ list_structured : (a : List I) → all_true (map plain (map item_of a)) ≡ true
 list_structured [] p = tt
 list_structured (e ∷ a) p = let q = and_parts (plain e.0) (all_true (map plain (map item_of a))) p in (e.1 q.0, list_structured a q.1)
 
-sections_structured : (a : List C) → all_true (map section_plain (map section_of a)) ≡ true → EverywhereIn IsStructured (sections (map section_tree (map section_of a)))
+sections_structured : (a : List C) → all_true (map section_plain (map section_of a)) ≡ true →
+    EverywhereIn IsStructured (sections (map section_tree (map section_of a)))
 sections_structured [] p = tt
-sections_structured (e ∷ a) p = let q = and_parts (section_plain e.0) (all_true (map section_plain (map section_of a))) p in (e.1 q.0, sections_structured a q.1)
+sections_structured (e ∷ a) p = let q = and_parts (section_plain e.0) (all_true (map section_plain (map section_of a))) p in
+    (e.1 q.0, sections_structured a q.1)
 
 layered : (y : Item-F I C)
     → throughout_step is_plain_layer (map-Item Item Section Bool Bool plain section_plain (map-Item I C Item Section item_of section_of y)) ≡ true

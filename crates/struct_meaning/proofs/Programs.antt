@@ -23,11 +23,13 @@ abbrev IsFoundStructured : Option FunctionTree → Type 0
 IsFoundStructured None = Unit {0}
 IsFoundStructured (Some f) = Everywhere IsStructured (items_of f)
 
-body_structured : (o : Option (List Item)) → Everywhere IsStructured (option_map_or trees_of o Nil) → Everywhere IsStructured (option_map_or (λ a. a) (option_map trees_of o) Nil)
+body_structured : (o : Option (List Item)) → Everywhere IsStructured (option_map_or trees_of o Nil) →
+    Everywhere IsStructured (option_map_or (λ a. a) (option_map trees_of o) Nil)
 body_structured None s = s
 body_structured (Some xs) s = s
 
-chosen_structured : (y : Bool) (f : Function) (o : Option FunctionTree) → IsTopStructured (T.Function f) → IsFoundStructured o → IsFoundStructured (cond y (Some (function_tree f)) o)
+chosen_structured : (y : Bool) (f : Function) (o : Option FunctionTree) → IsTopStructured (T.Function f) → IsFoundStructured o →
+    IsFoundStructured (cond y (Some (function_tree f)) o)
 chosen_structured true f o s h = body_structured f.body s
 chosen_structured false f o s h = h
 
@@ -47,7 +49,8 @@ first_structured None None s h = tt
 pub code_structured : (q : Program) → IsProgramStructured q → IsCodeStructured (code_of q)
 code_structured q s m =
     let t = recursion_from_All IsTopStructured q.tops s in
-    first_structured (function_in (λ f. is_some f.body) m q.tops) (function_in (λ f. true) m q.tops) (found_structured (λ f. is_some f.body) m q.tops t) (found_structured (λ f. true) m q.tops t)
+    first_structured (function_in (λ f. is_some f.body) m q.tops) (function_in (λ f. true) m q.tops)
+    (found_structured (λ f. is_some f.body) m q.tops t) (found_structured (λ f. true) m q.tops t)
 
 agrees_on : (p : Code) → IsCodeStructured p → MeaningsAgreeOn p
 agrees_on p s = record { runs = agrees p s }

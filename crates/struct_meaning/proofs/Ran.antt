@@ -57,7 +57,8 @@ module _ (P : Code) where
   pub sooner : {b : ℕ} {t : Target} {d : State} (i : ℕ) (c : State) → run P i c ≡ d → Ran P b t d → Ran P b t c
   sooner {b} {t} {d} i c e r = record {
     steps = i + r.steps;
-    fits = subst (λ z. Fits b t (i + r.steps) z) (sym (run_add P i r.steps c ∙ ap (λ z. run P r.steps z) e)) (more_steps b t i r.steps (run P r.steps d) r.fits);
+    fits = subst (λ z. Fits b t (i + r.steps) z) (sym (run_add P i r.steps c ∙ ap (λ z. run P r.steps z) e))
+        (more_steps b t i r.steps (run P r.steps d) r.fits);
   }
 
   pub next : {b : ℕ} {t : Target} (c : State) → Ran P b t (step P c) → Ran P b t c
@@ -88,7 +89,8 @@ module _ (P : Code) where
   bind to (Quits n w) m r h = r
   bind to (Spent w) m r h = r
 
-  pub bind_twice : {A B C : Type 0} {b : ℕ} {c : State} {go : A → World → State} (to : C → World → State) (x : Evaluation A) (m : A → World → Evaluation B) (n : B → World → Evaluation C)
+  pub bind_twice : {A B C : Type 0} {b : ℕ} {c : State} {go : A → World → State} (to : C → World → State) (x : Evaluation A)
+      (m : A → World → Evaluation B) (n : B → World → Evaluation C)
       → Ran P b (target go x) c → ((a : A) (w : World) → Ran P b (target to (and_then (m a w) n)) (go a w)) → Ran P b (target to (and_then (and_then x m) n)) c
   bind_twice {c = c} to (Yields a w) m n r h = sooner r.steps c r.fits (h a w)
   bind_twice to (Faults t w) m n r h = r
@@ -96,12 +98,14 @@ module _ (P : Code) where
   bind_twice to (Spent w) m n r h = r
 
   -- an outcome, where it is left with the values and where it settles
-  pub left_ran : {b : ℕ} (o : Outcome) (f : List ℕ) (k : List Task) (v : List Value) (cs : List Frame) → Ran P b (target (valued f k v cs) (given o)) (perform P (left o v) f no_guards k cs)
+  pub left_ran : {b : ℕ} (o : Outcome) (f : List ℕ) (k : List Task) (v : List Value) (cs : List Frame) →
+      Ran P b (target (valued f k v cs) (given o)) (perform P (left o v) f no_guards k cs)
   left_ran (Gives x w) f k v cs = there 0 _ refl
   left_ran (Traps t w) f k v cs = there 0 _ refl
   left_ran (Exits n w) f k v cs = there 0 _ refl
 
-  pub settled : {b : ℕ} (o : Outcome) (f : List ℕ) (k : List Task) (v : List Value) (cs : List Frame) → Ran P b (target (valued f k v cs) (given o)) (settle o f no_guards k v cs)
+  pub settled : {b : ℕ} (o : Outcome) (f : List ℕ) (k : List Task) (v : List Value) (cs : List Frame) →
+      Ran P b (target (valued f k v cs) (given o)) (settle o f no_guards k v cs)
   settled (Gives x w) f k v cs = there 0 _ refl
   settled (Traps t w) f k v cs = there 0 _ refl
   settled (Exits n w) f k v cs = there 0 _ refl

@@ -28,8 +28,10 @@ use Rattle.struct_meaning.proofs.Expressions.{CallsRun, eval_ran}
 
 -- the meaning with one less of fuel is met after at least b steps
 pub record Sound (P : Code) (L : LessFuel) (b : ℕ) : Type 0 where
-  pub again : (x : Tree) → EverywhereOf IsStructured x → (f : List ℕ) (k : List Task) (v : List Value) (cs : List Frame) → Reaches P b (L.again x) (Runs x ∷ k) f k v cs
-  pub again_for : (t u : Option ExpressionTree) (a : Forest) → Everywhere IsStructured a → (f : List ℕ) (k : List Task) (v : List Value) (cs : List Frame) → Reaches P b (L.again_for t u a) (Heads t u a ∷ k) f k v cs
+  pub again : (x : Tree) → EverywhereOf IsStructured x → (f : List ℕ) (k : List Task) (v : List Value) (cs : List Frame) →
+      Reaches P b (L.again x) (Runs x ∷ k) f k v cs
+  pub again_for : (t u : Option ExpressionTree) (a : Forest) → Everywhere IsStructured a →
+      (f : List ℕ) (k : List Task) (v : List Value) (cs : List Frame) → Reaches P b (L.again_for t u a) (Heads t u a ∷ k) f k v cs
   pub calls : CallsRun P L b
 
 -- what follows a completion, from the tasks k behind the statement to the tasks j behind the whole
@@ -54,7 +56,8 @@ module _ (P : Code) {b : ℕ} (f : List ℕ) (v : List Value) (cs : List Frame) 
   turned_ran m p q h (Returned (Some x)) w = there P 0 _ refl
 
   -- of the list of a section
-  section_followed_ran : (m : Meaning) → cut k ≡ j → cut_to k ≡ cut_to j → ((w : World) → Ran P b (target (landed P f j v cs) (and_then (m w) switched)) (At f no_guards k v cs w))
+  section_followed_ran : (m : Meaning) → cut k ≡ j → cut_to k ≡ cut_to j →
+      ((w : World) → Ran P b (target (landed P f j v cs) (and_then (m w) switched)) (At f no_guards k v cs w))
       → (c : Completion) (w : World) → Ran P b (target (landed P f j v cs) (and_then (followed m c w) switched)) (landed P f k v cs c w)
   section_followed_ran m p q h Normal w = h w
   section_followed_ran m p q h Broken w = there P 0 _ (ap (λ z. At f no_guards z v cs w) p)
@@ -78,11 +81,13 @@ module _ (P : Code) (L : LessFuel) (b : ℕ) (sound : Sound P L b) where
   selector_ran : (s : SelectorTree) (f : List ℕ) (k : List Task) (v : List Value) (cs : List Frame) (w : World)
       → Ran P (suc b) (target (valued f k v cs) (eval_selector L s w)) (At f no_guards (AsksSelector s ∷ k) v cs w)
   selector_ran (Selects e) f k v cs w =
-      next P _ (bind P (valued f k v cs) _ _ (eval_ran P L b sound.calls e false f (Works (Converts (promoted (operand_kind (kind_of e)))) ∷ k) v cs w refl) (λ x w. there P 1 _ refl))
+      next P _ (bind P (valued f k v cs) _ _ (eval_ran P L b sound.calls e false f (Works (Converts (promoted (operand_kind (kind_of e)))) ∷ k) v cs w
+      refl) (λ x w. there P 1 _ refl))
   selector_ran (Pick l n s) f k v cs w = next P _ (selector_ran s f k v cs w)
 
   cleared_ran : (y : Bool) (x n : ℕ) (f : List ℕ) (k : List Task) (v : List Value) (cs : List Frame) (w : World)
-      → Ran P (suc b) (target (landed P f k v cs) (Yields Normal (cond y (clear (H.Slot x) n w) w))) (perform P (Does (cond y (Clears x n ∷ []) []) v w) f no_guards k cs)
+      → Ran P (suc b) (target (landed P f k v cs) (Yields Normal (cond y (clear (H.Slot x) n w) w)))
+      (perform P (Does (cond y (Clears x n ∷ []) []) v w) f no_guards k cs)
   cleared_ran true x n f k v cs w = there P 1 _ refl
   cleared_ran false x n f k v cs w = there P 0 _ refl
 
@@ -93,13 +98,16 @@ module _ (P : Code) (L : LessFuel) (b : ℕ) (sound : Sound P L b) where
       bind P (landed P f k v cs) _ _ (eval_ran P L b sound.calls e false f (Works (Sets x i es) ∷ k) (slot_cell x i w ∷ v) cs w refl)
       (λ u w'. next P _ (initialise_ran es x (suc i) f k v cs (store (slot_cell x i w) (integer u) w')))
 
-  declare_ran : (x : ℕ) (es : Option (List ExpressionTree)) (f : List ℕ) (k : List Task) (v : List Value) (cs : List Frame) → Goal (declare L x es) (Runs (Local x es) ∷ k) f k v cs
+  declare_ran : (x : ℕ) (es : Option (List ExpressionTree)) (f : List ℕ) (k : List Task) (v : List Value) (cs : List Frame) →
+      Goal (declare L x es) (Runs (Local x es) ∷ k) f k v cs
   declare_ran x None f k v cs w = there P 1 _ refl
   declare_ran x (Some es) f k v cs w = next P _ (initialise_ran es x 0 f k v cs w)
 
-  return_ran : (e : Option ExpressionTree) (f : List ℕ) (k : List Task) (v : List Value) (cs : List Frame) → Goal (exec_return L e) (Runs (Return e) ∷ k) f k v cs
+  return_ran : (e : Option ExpressionTree) (f : List ℕ) (k : List Task) (v : List Value) (cs : List Frame) →
+      Goal (exec_return L e) (Runs (Return e) ∷ k) f k v cs
   return_ran None f k v cs w = there P 2 _ refl
-  return_ran (Some e) f k v cs w = next P _ (bind P (landed P f k v cs) _ _ (eval_ran P L b sound.calls e false f (Works (Ends true) ∷ k) v cs w refl) (λ u w. there P 1 _ refl))
+  return_ran (Some e) f k v cs w = next P _ (bind P (landed P f k v cs) _ _ (eval_ran P L b sound.calls e false f (Works (Ends true) ∷ k) v cs w refl)
+      (λ u w. there P 1 _ refl))
 
   chosen_ran : (y : Bool) (m n : Meaning) (i j : List Task) (f : List ℕ) (k : List Task) (v : List Value) (cs : List Frame)
       → Goal m i f k v cs → Goal n j f k v cs → Goal (chosen y m n) (cond y i j) f k v cs
@@ -110,9 +118,11 @@ module _ (P : Code) (L : LessFuel) (b : ℕ) (sound : Sound P L b) where
       → Goal (third_part L t u a) (Loops (ForLoop t u a) ∷ k) f k v cs
   third_ran t None a s f k v cs w = once P _ (sound.again_for t None a s f k v cs w)
   third_ran t (Some e) a s f k v cs w =
-      next P _ (bind P (landed P f k v cs) _ _ (eval_ran P L b sound.calls e true f (Works Drops ∷ Heads t (Some e) a ∷ k) v cs w refl) (λ u w. once P _ (sound.again_for t (Some e) a s f k v cs w)))
+      next P _ (bind P (landed P f k v cs) _ _ (eval_ran P L b sound.calls e true f (Works Drops ∷ Heads t (Some e) a ∷ k) v cs w refl)
+      (λ u w. once P _ (sound.again_for t (Some e) a s f k v cs w)))
 
-  pub for_ran : (t u : Option ExpressionTree) (a : Forest) → Everywhere IsStructured a → (m : Meaning) (f : List ℕ) (k : List Task) (v : List Value) (cs : List Frame)
+  pub for_ran : (t u : Option ExpressionTree) (a : Forest) → Everywhere IsStructured a →
+      (m : Meaning) (f : List ℕ) (k : List Task) (v : List Value) (cs : List Frame)
       → Goal m (items a (Loops (ForLoop t u a) ∷ k)) f (Loops (ForLoop t u a) ∷ k) v cs → Goal (for_turn L t u a m) (Heads t u a ∷ k) f k v cs
   for_ran None u a s m f k v cs h w = next P _ (bind P (landed P f k v cs) (m w) _ (h w) (turned_ran P f v cs k _ refl refl (third_ran None u a s f k v cs)))
   for_ran (Some t) u a s m f k v cs h w =
@@ -141,7 +151,8 @@ module _ (P : Code) (L : LessFuel) (b : ℕ) (sound : Sound P L b) where
   OptionTail None None f k v cs = Unit {0}
   OptionTail _ _ f k v cs = ⊥
 
-  here_ran : (y : Bool) (m : Meaning) (o : Option Meaning) (j : List Task) (i s : Option (List Task)) → s ≡ None → (f : List ℕ) (k : List Task) (v : List Value) (cs : List Frame)
+  here_ran : (y : Bool) (m : Meaning) (o : Option Meaning) (j : List Task) (i s : Option (List Task)) → s ≡ None →
+      (f : List ℕ) (k : List Task) (v : List Value) (cs : List Frame)
       → Tail m j f k v cs → OptionTail o i f k v cs → OptionTail (here_or y m o) (or_else (cond y (Some j) s) i) f k v cs
   here_ran true m o j i s e f k v cs p q = p
   here_ran false m o j i s e f k v cs p q = subst (λ z. OptionTail o (or_else z i) f k v cs) (sym e) q
@@ -166,28 +177,35 @@ module _ (P : Code) (L : LessFuel) (b : ℕ) (sound : Sound P L b) where
       → Tail (fall (execs L a) ends (from_section L c)) (items a (end_of ends (tail_tasks c k))) f k v cs
   section_ran a ends c f k v cs g h w =
       bind_twice P (landed P f k v cs) (execs L a w) _ switched (g w)
-      (section_followed_ran P f v cs k _ (cut_end ends (tail_tasks c k) ∙ cut_tail c k) (cut_to_end ends (tail_tasks c k) ∙ cut_to_tail c k) (end_ran ends c f k v cs h))
+      (section_followed_ran P f v cs k _ (cut_end ends (tail_tasks c k) ∙ cut_tail c k) (cut_to_end ends (tail_tasks c k) ∙ cut_to_tail c k)
+      (end_ran ends c f k v cs h))
 
   mutual
-    pub exec_ran : (x : Tree) → EverywhereOf IsStructured x → (f : List ℕ) (k : List Task) (v : List Value) (cs : List Frame) → Goal (exec L x) (Runs x ∷ k) f k v cs
-    exec_ran (Evaluate e) s f k v cs w = next P _ (bind P (landed P f k v cs) _ _ (eval_ran P L b sound.calls e true f (Works Drops ∷ k) v cs w refl) (λ u w. there P 1 _ refl))
+    pub exec_ran : (x : Tree) → EverywhereOf IsStructured x → (f : List ℕ) (k : List Task) (v : List Value) (cs : List Frame) →
+        Goal (exec L x) (Runs x ∷ k) f k v cs
+    exec_ran (Evaluate e) s f k v cs w = next P _ (bind P (landed P f k v cs) _ _ (eval_ran P L b sound.calls e true f (Works Drops ∷ k) v cs w refl)
+        (λ u w. there P 1 _ refl))
     exec_ran (Return e) s f k v cs w = return_ran e f k v cs w
     exec_ran (If t a c) s f k v cs w =
         next P _ (bind P (landed P f k v cs) _ _ (test_ran t f (Branches a c ∷ k) v cs w refl)
-        (λ x w. next P _ (chosen_ran (holds x) (execs L a) (execs L c) (items a k) (items c k) f k v cs (execs_ran a s.1 f k v cs) (execs_ran c s.2 f k v cs) w)))
+        (λ x w. next P _ (chosen_ran (holds x) (execs L a) (execs L c) (items a k) (items c k) f k v cs (execs_ran a s.1 f k v cs)
+        (execs_ran c s.2 f k v cs) w)))
     exec_ran (While t a) s f k v cs w =
         next P _ (bind P (landed P f k v cs) _ _ (test_ran t f (Turns (WhileLoop t a) ∷ k) v cs w refl)
         (λ x w. next P _ (chosen_ran (holds x) _ nothing (items a (Loops (WhileLoop t a) ∷ k)) k f k v cs
-        (λ w. bind P (landed P f k v cs) (execs L a w) _ (execs_ran a s.1 f (Loops (WhileLoop t a) ∷ k) v cs w) (turned_ran P f v cs k _ refl refl (λ w. once P _ (sound.again (While t a) s f k v cs w))))
+        (λ w. bind P (landed P f k v cs) (execs L a w) _ (execs_ran a s.1 f (Loops (WhileLoop t a) ∷ k) v cs w)
+        (turned_ran P f v cs k _ refl refl (λ w. once P _ (sound.again (While t a) s f k v cs w))))
         (λ w. there P 0 _ refl) w)))
     exec_ran (Do a t) s f k v cs w =
-        next P _ (bind P (landed P f k v cs) (execs L a w) _ (execs_ran a s.1 f (Loops (DoLoop a t) ∷ k) v cs w) (turned_ran P f v cs k _ refl refl (do_ran a t s f k v cs)))
+        next P _ (bind P (landed P f k v cs) (execs L a w) _ (execs_ran a s.1 f (Loops (DoLoop a t) ∷ k) v cs w)
+        (turned_ran P f v cs k _ refl refl (do_ran a t s f k v cs)))
     exec_ran (For i t u a) s f k v cs w =
         next P _ (bind P (landed P f k v cs) (execs L i w) _ (execs_ran i s.1 f (Heads t u a ∷ k) v cs w)
         (followed_ran P f v cs k _ refl refl (for_ran t u a s.2 (execs L a) f k v cs (execs_ran a s.2 f (Loops (ForLoop t u a) ∷ k) v cs))))
     exec_ran (Switch t c) s f k v cs w =
         next P _ (bind P (landed P f k v cs) _ _ (selector_ran t f (Enters (switch_kind t) c ∷ k) v cs w)
-        (λ x w. next P _ (entered_ran (from_case L (switch_kind t) (integer x) c) (from_default L c) (seek_sections (ToCase (switch_kind t) (integer x)) c k) (seek_sections ToDefault c k) f k v cs
+        (λ x w. next P _ (entered_ran (from_case L (switch_kind t) (integer x) c) (from_default L c)
+        (seek_sections (ToCase (switch_kind t) (integer x)) c k) (seek_sections ToDefault c k) f k v cs
         (case_ran (switch_kind t) (integer x) c s.1 f k v cs) (default_ran c s.1 f k v cs) w)))
     exec_ran (Block a) s f k v cs w = next P _ (execs_ran a s.1 f k v cs w)
     exec_ran (Local x es) s f k v cs w = declare_ran x es f k v cs w
@@ -201,14 +219,17 @@ module _ (P : Code) (L : LessFuel) (b : ℕ) (sound : Sound P L b) where
     exec_ran (Land l) s f k v cs w = absurd s
     exec_ran (Arrival e) s f k v cs w = absurd s
 
-    pub execs_ran : (xs : Forest) → Everywhere IsStructured xs → (f : List ℕ) (k : List Task) (v : List Value) (cs : List Frame) → Goal (execs L xs) (items xs k) f k v cs
+    pub execs_ran : (xs : Forest) → Everywhere IsStructured xs → (f : List ℕ) (k : List Task) (v : List Value) (cs : List Frame) →
+        Goal (execs L xs) (items xs k) f k v cs
     execs_ran Nil s f k v cs w = there P 0 _ refl
     execs_ran (Then x xs) s f k v cs w = bind P (landed P f k v cs) (exec L x w) _ (exec_ran x s.0 f (items xs k) v cs w)
         (followed_ran P f v cs k _ (cut_items xs k) (cut_to_items xs k) (execs_ran xs s.1 f k v cs))
 
-    tail_ran : (c : Sections) → EverywhereIn IsStructured c → (f : List ℕ) (k : List Task) (v : List Value) (cs : List Frame) → Tail (from_section L c) (tail_tasks c k) f k v cs
+    tail_ran : (c : Sections) → EverywhereIn IsStructured c → (f : List ℕ) (k : List Task) (v : List Value) (cs : List Frame) →
+        Tail (from_section L c) (tail_tasks c k) f k v cs
     tail_ran NoSection s f k v cs w = there P 1 _ refl
-    tail_ran (Section cases default a ends c) s f k v cs w = section_ran a ends c f k v cs (execs_ran a s.0 f (end_of ends (tail_tasks c k)) v cs) (tail_ran c s.1 f k v cs) w
+    tail_ran (Section cases default a ends c) s f k v cs w = section_ran a ends c f k v cs (execs_ran a s.0 f (end_of ends (tail_tasks c k)) v cs)
+        (tail_ran c s.1 f k v cs) w
 
     case_ran : (i : IntKind) (n : ℤ) (c : Sections) → EverywhereIn IsStructured c → (f : List ℕ) (k : List Task) (v : List Value) (cs : List Frame)
         → OptionTail (from_case L i n c) (seek_sections (ToCase i n) c k) f k v cs

@@ -20,7 +20,8 @@ module _ (l : Goal) (inner : enters_switches l ≡ false) where
   mutual
     pub unfound : (xs : Forest) → Everywhere IsStructured xs → (k : List Task) → seek l xs k ≡ None
     unfound Nil w k = refl
-    unfound (Then x xs) w k = neither (ap (λ y. cond y (Some (Runs x ∷ items xs k)) (seek_in l x (items xs k))) (not_sought l inner x w.0) ∙ unfound_in x w.0 (items xs k)) (unfound xs w.1 k)
+    unfound (Then x xs) w k = neither (ap (λ y. cond y (Some (Runs x ∷ items xs k)) (seek_in l x (items xs k))) (not_sought l inner x w.0) ∙
+        unfound_in x w.0 (items xs k)) (unfound xs w.1 k)
 
     unfound_in : (x : Tree) → EverywhereOf IsStructured x → (k : List Task) → seek_in l x k ≡ None
     unfound_in (If t a b) w k = neither (unfound a w.1 k) (unfound b w.2 k)

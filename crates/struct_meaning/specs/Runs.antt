@@ -15,7 +15,8 @@ use Rattle.struct_meaning.specs.Structured.{IsStructured, IsProgramStructured}
 -- the call of the entry, which ends the run (5.1.2.2.3)
 abbrev pub entry_call : Code → LessFuel → List ℕ → List ℤ → World → Evaluation Value
 entry_call p L m arguments w =
-    call_body (execs L (items_of (p.functions m))) (λ c w. leave_entry (p.functions m) (value_left m (p.functions m) c) w) w (push (p.functions m) (map Integer arguments) w)
+    call_body (execs L (items_of (p.functions m))) (λ c w. leave_entry (p.functions m) (value_left m (p.functions m) c) w) w
+    (push (p.functions m) (map Integer arguments) w)
 
 -- how a run stands; out of fuel there is more to come (this profile)
 abbrev pub stands : Evaluation Value → Shown

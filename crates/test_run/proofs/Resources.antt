@@ -125,7 +125,8 @@ structural_none = refl
 abbrev both : Shown
 both =
     Ended (pos 12)
-    (Called (codes "open_port") (pos 3 ∷ []) ∷ Called (codes "open_port") (pos 4 ∷ []) ∷ Called (codes "close_port") (pos 7 ∷ []) ∷ Called (codes "close_port") (pos 5 ∷ []) ∷ [])
+    (Called (codes "open_port") (pos 3 ∷ []) ∷ Called (codes "open_port") (pos 4 ∷ []) ∷ Called (codes "close_port") (pos 7 ∷ []) ∷ Called
+    (codes "close_port") (pos 5 ∷ []) ∷ [])
 
 copy_both : jump_run copy (codes "copy") (pos 3 ∷ []) [] (pos 5 ∷ pos 7 ∷ []) 100 ≡ both
 unfolding converted arith_result digits

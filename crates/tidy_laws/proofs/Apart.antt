@@ -57,8 +57,10 @@ module _ (p : Code) (sh : Shapes) (holes : ℕ → ℕ) where
     pub sealed : (d : ℕ) → d ≤ c → (sh d).own (holes d) ≡ false
     pub file_same : (m : List ℕ) → u.variables (OfFile m) ≡ w.variables (OfFile m)
     pub file_good : (m : List ℕ) → Good p sh 0 (kind_held (p.globals m)) true (w.variables (OfFile m))
-    pub call_same : (d x : ℕ) → d ≤ c → x < length (sh d).slots → eqb x (holes d) ≡ false → u.variables (OfCall d (new_number (holes d) x)) ≡ new_variable holes (w.variables (OfCall d x))
-    pub call_good : (d x : ℕ) → d ≤ c → x < length (sh d).slots → eqb x (holes d) ≡ false → Good p sh d (entry_or no_slot (sh d).slots x).kind ((sh d).own x) (w.variables (OfCall d x))
+    pub call_same : (d x : ℕ) → d ≤ c → x < length (sh d).slots → eqb x (holes d) ≡ false →
+        u.variables (OfCall d (new_number (holes d) x)) ≡ new_variable holes (w.variables (OfCall d x))
+    pub call_good : (d x : ℕ) → d ≤ c → x < length (sh d).slots → eqb x (holes d) ≡ false →
+        Good p sh d (entry_or no_slot (sh d).slots x).kind ((sh d).own x) (w.variables (OfCall d x))
     pub older : (d : ℕ) → d < c → IsFlag false (w.variables (OfCall d (holes d)))
     pub newest : IsFlag on (w.variables (OfCall c (holes c)))
 
@@ -97,14 +99,19 @@ module _ (p : Code) (sh : Shapes) (holes : ℕ → ℕ) where
   Keeps f = (c : ℕ) (k : IntKind) (b : Bool) (v : Variable) → Good p sh c k b v → Good p sh c k b (f v)
 
   pub number_keeps : (i : ℕ) (z : ℤ) → Keeps (with_number i z)
-  number_keeps i z c k b (Holds j r cells) g =
-      (g.0, (λ x. chosen_in_kind k (eqb i x) (converted j z) (cells x) (subst (λ y. IsInRange k (converted y z)) (sym g.0) (converted-in_range k z)) (g.1 x)), g.2)
+  number_keeps i z c k b (Holds j r cells) g = (
+    g.0,
+    (λ x. chosen_in_kind k (eqb i x) (converted j z) (cells x) (subst (λ y. IsInRange k (converted y z)) (sym g.0) (converted-in_range k z))
+        (g.1 x)),
+    g.2,
+  )
   number_keeps i z c k b (Lent o) g = g
 
   pub zeros_keep : (i : ℕ) → Keeps (with_zeros i)
   zeros_keep i c k b (Holds j r cells) g = (
     g.0,
-    (λ x. chosen_in_kind k (nat_lt x i) (cells x) (cond (nat_lt x (cells_held (Holds j r cells))) (pos 0) (cells x)) (g.1 x) (chosen_in_kind k (nat_lt x (cells_held (Holds j r cells))) (pos 0) (cells x) (zero_in_range k) (g.1 x))),
+    (λ x. chosen_in_kind k (nat_lt x i) (cells x) (cond (nat_lt x (cells_held (Holds j r cells))) (pos 0) (cells x)) (g.1 x)
+        (chosen_in_kind k (nat_lt x (cells_held (Holds j r cells))) (pos 0) (cells x) (zero_in_range k) (g.1 x))),
     g.2,
   )
   zeros_keep i c k b (Lent o) g = g
@@ -120,15 +127,18 @@ module _ (p : Code) (sh : Shapes) (holes : ℕ → ℕ) where
 
     pub target_own : (o : Owner) → Target p sh c o → IsOwn (owner_kind p sh o) (w.variables o)
     target_own (OfFile m) t = good_own 0 (kind_held (p.globals m)) true (w.variables (OfFile m)) refl (a.file_good m)
-    target_own (OfCall d x) t = good_own d (entry_or no_slot (sh d).slots x).kind ((sh d).own x) (w.variables (OfCall d x)) t.2 (a.call_good d x t.0 t.1 (target_kept d x t))
+    target_own (OfCall d x) t = good_own d (entry_or no_slot (sh d).slots x).kind ((sh d).own x) (w.variables (OfCall d x)) t.2
+        (a.call_good d x t.0 t.1 (target_kept d x t))
 
     pub target_same : (o : Owner) → Target p sh c o → u.variables (new_owner holes o) ≡ w.variables o
     target_same (OfFile m) t = a.file_same m
-    target_same (OfCall d x) t = a.call_same d x t.0 t.1 (target_kept d x t) ∙ own_new (owner_kind p sh (OfCall d x)) (w.variables (OfCall d x)) (target_own (OfCall d x) t)
+    target_same (OfCall d x) t = a.call_same d x t.0 t.1 (target_kept d x t) ∙
+        own_new (owner_kind p sh (OfCall d x)) (w.variables (OfCall d x)) (target_own (OfCall d x) t)
 
     -- ---- names
 
-    file_reached : (m : List ℕ) (v : Variable) → Good p sh 0 (kind_held (p.globals m)) true v → Target p sh c (holder (OfFile m) v) × (owner_kind p sh (holder (OfFile m) v) ≡ kind_held (p.globals m))
+    file_reached : (m : List ℕ) (v : Variable) → Good p sh 0 (kind_held (p.globals m)) true v →
+        Target p sh c (holder (OfFile m) v) × (owner_kind p sh (holder (OfFile m) v) ≡ kind_held (p.globals m))
     file_reached m (Holds j i cells) g = (tt, refl)
     file_reached m (Lent o) g = absurd (true≢false g.2)
 
@@ -145,10 +155,12 @@ module _ (p : Code) (sh : Shapes) (holes : ℕ → ℕ) where
         at false i = refl
 
     -- what a name leads to
-    pub home_reached : (h : Home) → IsHome (sh c).slots h → home_lacks (holes c) h ≡ true → Target p sh c (owner h w) × (owner_kind p sh (owner h w) ≡ home_kind p (sh c).slots h)
+    pub home_reached : (h : Home) → IsHome (sh c).slots h → home_lacks (holes c) h ≡ true →
+        Target p sh c (owner h w) × (owner_kind p sh (owner h w) ≡ home_kind p (sh c).slots h)
     home_reached (H.Global m) i l = file_reached m (w.variables (OfFile m)) (a.file_good m)
     home_reached (H.Slot x) i l =
-        subst (λ d. Target p sh c (holder (OfCall d x) (w.variables (OfCall d x))) × (owner_kind p sh (holder (OfCall d x) (w.variables (OfCall d x))) ≡ (entry_or no_slot (sh c).slots x).kind)) (sym a.calls)
+        subst (λ d. Target p sh c (holder (OfCall d x) (w.variables (OfCall d x))) ×
+        (owner_kind p sh (holder (OfCall d x) (w.variables (OfCall d x))) ≡ (entry_or no_slot (sh c).slots x).kind)) (sym a.calls)
         (slot_reached x (w.variables (OfCall c x)) i (a.call_good c x (omega arith) i (unnamed x l)))
 
     file_holder : (m : List ℕ) (v : Variable) → Good p sh 0 (kind_held (p.globals m)) true v → holder (OfFile m) v ≡ new_owner holes (holder (OfFile m) v)
@@ -188,7 +200,8 @@ module _ (p : Code) (sh : Shapes) (holes : ℕ → ℕ) where
     never_slot o d h t e = let i = subst (Target p sh c) e t in true≢false (sym i.2 ∙ a.sealed d h)
 
     pub put_apart : (f : Variable → Variable) → Keeps f → (o : Owner) → Target p sh c o
-        → Apart on c (record w { variables = put o (f (w.variables o)) w.variables }) (record u { variables = put (new_owner holes o) (f (u.variables (new_owner holes o))) u.variables })
+        → Apart on c (record w { variables = put o (f (w.variables o)) w.variables })
+        (record u { variables = put (new_owner holes o) (f (u.variables (new_owner holes o))) u.variables })
     put_apart f keeps o t = record {
       calls = a.calls;
       same_calls = a.same_calls;
@@ -215,16 +228,19 @@ module _ (p : Code) (sh : Shapes) (holes : ℕ → ℕ) where
         new_is = ap f (target_same o t)
 
         old_own : IsOwn (owner_kind p sh o) old
-        old_own = good_own 0 (owner_kind p sh o) true old refl (keeps 0 (owner_kind p sh o) true (w.variables o) (own_good (owner_kind p sh o) (w.variables o) (target_own o t)))
+        old_own = good_own 0 (owner_kind p sh o) true old refl
+            (keeps 0 (owner_kind p sh o) true (w.variables o) (own_good (owner_kind p sh o) (w.variables o) (target_own o t)))
 
         good_at : (q : Owner) (d : ℕ) (k : IntKind) (b : Bool) → Good p sh d k b (w.variables q) → Good p sh d k b (put o old w.variables q)
         good_at q d k b g =
-            chosen (Good p sh d k b) (same_owner o q) old (w.variables q) (λ e. subst (λ r. Good p sh d k b (f (w.variables r))) (sym ((same_owner_decides o q).0 e)) (keeps d k b (w.variables q) g)) (λ e. g)
+            chosen (Good p sh d k b) (same_owner o q) old (w.variables q)
+            (λ e. subst (λ r. Good p sh d k b (f (w.variables r))) (sym ((same_owner_decides o q).0 e)) (keeps d k b (w.variables q) g)) (λ e. g)
 
         file_at : (m : List ℕ) (b : Bool) → same_owner o (OfFile m) ≡ b → put (new_owner holes o) new u.variables (OfFile m) ≡ put o old w.variables (OfFile m)
         file_at m true e =
             let i = (same_owner_decides o (OfFile m)).0 e in
-            subst (λ q. put (new_owner holes q) new u.variables (OfFile m) ≡ put q old w.variables (OfFile m)) (sym i) (put_here (OfFile m) new u.variables ∙ new_is ∙ sym (put_here (OfFile m) old w.variables))
+            subst (λ q. put (new_owner holes q) new u.variables (OfFile m) ≡ put q old w.variables (OfFile m)) (sym i)
+            (put_here (OfFile m) new u.variables ∙ new_is ∙ sym (put_here (OfFile m) old w.variables))
         file_at m false e =
             put_beside (new_owner holes o) (OfFile m) new u.variables (λ i. true≢false (sym ((same_owner_decides o (OfFile m)).1 (back o i)) ∙ e))
             ∙ a.file_same m
@@ -238,10 +254,13 @@ module _ (p : Code) (sh : Shapes) (holes : ℕ → ℕ) where
             → put (new_owner holes o) new u.variables (OfCall d (new_number (holes d) x)) ≡ new_variable holes (put o old w.variables (OfCall d x))
         call_at d x h i k true e =
             let q = (same_owner_decides o (OfCall d x)).0 e in
-            let left = subst (λ q. put (new_owner holes o) new u.variables (new_owner holes q) ≡ old) q (put_here (new_owner holes o) new u.variables ∙ new_is) in
-            let right = subst (λ q. new_variable holes (put o old w.variables q) ≡ old) q (ap (new_variable holes) (put_here o old w.variables) ∙ own_new (owner_kind p sh o) old old_own) in
+            let left = subst (λ q. put (new_owner holes o) new u.variables (new_owner holes q) ≡ old) q
+            (put_here (new_owner holes o) new u.variables ∙ new_is) in
+            let right = subst (λ q. new_variable holes (put o old w.variables q) ≡ old) q
+            (ap (new_variable holes) (put_here o old w.variables) ∙ own_new (owner_kind p sh o) old old_own) in
             left ∙ sym right
         call_at d x h i k false e =
-            put_beside (new_owner holes o) (OfCall d (new_number (holes d) x)) new u.variables (λ q. true≢false (sym ((same_owner_decides o (OfCall d x)).1 (new_apart o d x t k q)) ∙ e))
+            put_beside (new_owner holes o) (OfCall d (new_number (holes d) x)) new u.variables
+            (λ q. true≢false (sym ((same_owner_decides o (OfCall d x)).1 (new_apart o d x t k q)) ∙ e))
             ∙ a.call_same d x h i k
             ∙ ap (new_variable holes) (sym (put_beside o (OfCall d x) old w.variables (λ q. true≢false (sym ((same_owner_decides o (OfCall d x)).1 q) ∙ e))))

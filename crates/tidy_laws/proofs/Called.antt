@@ -39,7 +39,8 @@ value_in : (m : List ℕ) (f : FunctionTree) (e : Completion) (p : Code) (sh : S
 value_in m f e p sh c = at e
   where
     fallen_in : HasSort p sh c (Num f.result) (fallen m)
-    fallen_in = either (HasSort p sh c (Num f.result)) (bytes_eq m (codes "main")) (Integer (pos 0)) Missing (tt, zero_in f.result (Integer (pos 0)) refl) (tt, zero_in f.result Missing refl)
+    fallen_in = either (HasSort p sh c (Num f.result)) (bytes_eq m (codes "main")) (Integer (pos 0)) Missing
+        (tt, zero_in f.result (Integer (pos 0)) refl) (tt, zero_in f.result Missing refl)
 
     given_in : (kind : Option IntKind) (v : Value) → HasSort p sh c (Num kind) (option_map_or (λ k. Integer (converted k (integer v))) kind Missing)
     given_in None v = (tt, tt)
@@ -86,14 +87,18 @@ module _ (p : Code) (L M : LessFuel) (less : Less p L M) (sh : Shapes) (holes : 
       abbrev pub gone : ℕ → ℕ
       gone = bored p sh holes n g f vs
 
-      pub push_same : (w u : World) → Apart p sh holes false n w u → Entered p shapes gone (suc n) (push f vs w) (push (narrowed g f) (map (new_lending holes) vs) u)
+      pub push_same : (w u : World) → Apart p sh holes false n w u → Entered p shapes gone (suc n) (push f vs w)
+          (push (narrowed g f) (map (new_lending holes) vs) u)
       push_same w u a =
-          let ok = λ (i j : ℕ). cond (nat_lt most_calls (suc i)) (Err Trap.Calls) (cond (nat_lt most_cells j) (Err Trap.Cells) (Ok (enter_call (narrowed g f) (map (new_lending holes) vs) u))) in
+          let ok = λ (i j : ℕ). cond (nat_lt most_calls (suc i)) (Err Trap.Calls)
+          (cond (nat_lt most_cells j) (Err Trap.Cells) (Ok (enter_call (narrowed g f) (map (new_lending holes) vs) u))) in
           subst (λ i. Entered p shapes gone (suc n) (push f vs w) (ok i (u.cells + cells_of (without g f.slots)))) (a.calls ∙ sym a.same_calls)
-          (subst (λ j. Entered p shapes gone (suc n) (push f vs w) (ok w.calls j)) (sym (ap (λ k. u.cells + k) cells_same ∙ ap (λ k. k + cells_of f.slots) a.cells))
+          (subst (λ j. Entered p shapes gone (suc n) (push f vs w) (ok w.calls j))
+          (sym (ap (λ k. u.cells + k) cells_same ∙ ap (λ k. k + cells_of f.slots) a.cells))
           (cases (nat_lt most_calls (suc w.calls)) (nat_lt most_cells (w.cells + cells_of f.slots))))
         where
-          cases : (b d : Bool) → Entered p shapes gone (suc n) (cond b (Err Trap.Calls) (cond d (Err Trap.Cells) (Ok (enter_call f vs w)))) (cond b (Err Trap.Calls) (cond d (Err Trap.Cells) (Ok (enter_call (narrowed g f) (map (new_lending holes) vs) u))))
+          cases : (b d : Bool) → Entered p shapes gone (suc n) (cond b (Err Trap.Calls) (cond d (Err Trap.Cells) (Ok (enter_call f vs w))))
+              (cond b (Err Trap.Calls) (cond d (Err Trap.Cells) (Ok (enter_call (narrowed g f) (map (new_lending holes) vs) u))))
           cases true d = refl
           cases false true = refl
           cases false false = enter_apart p sh holes n g f vs are may w u a cells_same
@@ -101,23 +106,31 @@ module _ (p : Code) (L M : LessFuel) (less : Less p L M) (sh : Shapes) (holes : 
       pub inside : (a b : Forest) → Items p f.slots g false a b → Ends p shapes gone (suc n) (breaking false) (execs L a) (execs M b)
       inside a b h =
           items_end p shapes gone (suc n) L M less
-          (subst (λ (z : Shape). Items p z.slots (gone (suc n)) false a b) (sym (shape_here p sh holes n g f vs)) (subst (λ k. Items p f.slots k false a b) (sym (hole_here p sh holes n g f vs)) h))
+          (subst (λ (z : Shape). Items p z.slots (gone (suc n)) false a b) (sym (shape_here p sh holes n g f vs))
+          (subst (λ k. Items p f.slots k false a b) (sym (hole_here p sh holes n g f vs)) h))
 
       left_alike : (d : Bool) (x : Value) → HasSort p sh n (Num f.result) x → (w u : World) → Apart p shapes gone false (suc n) w u
           → Alike (Post p sh holes n (Num f.result)) (given (leave_call d f x w)) (given (leave_call d (narrowed g f) x u))
       left_alike d x s w u a = cases (lacks f x && not d)
         where
-          cases : (b : Bool) → Alike (Post p sh holes n (Num f.result)) (given (cond b (Traps Trap.NoValue w) (Gives x (pop f w)))) (given (cond b (Traps Trap.NoValue u) (Gives x (pop (narrowed g f) u))))
+          cases : (b : Bool) → Alike (Post p sh holes n (Num f.result)) (given (cond b (Traps Trap.NoValue w) (Gives x (pop f w))))
+              (given (cond b (Traps Trap.NoValue u) (Gives x (pop (narrowed g f) u))))
           cases true = (refl, a.events)
           cases false = (s, refl, leave_apart p sh holes n g f vs cells_same w u a)
 
-    pub called_alike : (d : Bool) (o b : Option Forest) → SettledBody p f g o b → (vs : List Value) (w u : World) → AreArguments p sh n f vs → Apart p sh holes false n w u
-        → Alike (Post p sh holes n (Num (kind_called m o f.result))) (called L d m f o vs w) (called M d m (record f { slots = without g f.slots; body = b }) b (map (new_lending holes) vs) u)
+    pub called_alike : (d : Bool) (o b : Option Forest) → SettledBody p f g o b → (vs : List Value) (w u : World) → AreArguments p sh n f vs →
+        Apart p sh holes false n w u
+        → Alike (Post p sh holes n (Num (kind_called m o f.result))) (called L d m f o vs w)
+        (called M d m (record f { slots = without g f.slots; body = b }) b (map (new_lending holes) vs) u)
     called_alike d None None e vs w u are a =
-        subst (λ ss. Alike (Post p sh holes n (Num (kind_called m None f.result))) (given (call_without_body m f vs w)) (given (call_without_body m (record f { slots = ss; body = None }) (map (new_lending holes) vs) u))) (sym e)
-        (subst (λ z. Alike (Post p sh holes n (Num (kind_called m None f.result))) (given (call_without_body m f vs w)) (given z)) (sym (without_body_stays holes m f vs u)) (known_alike p sh holes n m f vs w u a))
+        subst (λ ss. Alike (Post p sh holes n (Num (kind_called m None f.result))) (given (call_without_body m f vs w))
+        (given (call_without_body m (record f { slots = ss; body = None }) (map (new_lending holes) vs) u))) (sym e)
+        (subst (λ z. Alike (Post p sh holes n (Num (kind_called m None f.result))) (given (call_without_body m f vs w)) (given z))
+        (sym (without_body_stays holes m f vs u)) (known_alike p sh holes n m f vs w u a))
     called_alike d (Some x) (Some y) h vs w u are a =
-        body_alike p (grown p sh holes n g f vs) (bored p sh holes n g f vs) (suc n) (Post p sh holes n (Num f.result)) (execs L x) (execs M y) (λ c w. leave_call d f (value_left m f c) w) (λ c u. leave_call d (narrowed g f) (value_left m f c) u)
-        (inside vs are x y h) (λ e w u a. left_alike vs are d (value_left m f e) (value_in m f e p sh n) w u a) w u a.events (push f vs w) (push (narrowed g f) (map (new_lending holes) vs) u) (push_same vs are w u a)
+        body_alike p (grown p sh holes n g f vs) (bored p sh holes n g f vs) (suc n) (Post p sh holes n (Num f.result)) (execs L x) (execs M y)
+        (λ c w. leave_call d f (value_left m f c) w) (λ c u. leave_call d (narrowed g f) (value_left m f c) u)
+        (inside vs are x y h) (λ e w u a. left_alike vs are d (value_left m f e) (value_in m f e p sh n) w u a) w u a.events (push f vs w)
+        (push (narrowed g f) (map (new_lending holes) vs) u) (push_same vs are w u a)
     called_alike d None (Some y) e vs w u are a = absurd e
     called_alike d (Some x) None e vs w u are a = absurd e

@@ -92,7 +92,8 @@ module _ (p : Code) (sh : Shapes) (holes : ℕ → ℕ) (n : ℕ) (g : ℕ) (f :
     -- ---- the slots at the start
 
     good_parameter : (s : Slot) (v : Value) → HasSort p sh n (ForSlot s.kind) v → Good p grown (suc n) s.kind (is_own (parameter s v)) (parameter s v)
-    good_parameter s (Lends o) h = let t = target_grows p n sh grown agree n o (omega arith) h.0 in (below o t, kind_grows p n sh grown agree n o (omega arith) h.0 ∙ h.1, refl)
+    good_parameter s (Lends o) h = let t = target_grows p n sh grown agree n o (omega arith) h.0 in
+        (below o t, kind_grows p n sh grown agree n o (omega arith) h.0 ∙ h.1, refl)
       where
         below : (o : Owner) → Target p grown n o → Target p grown (suc n) o
         below (OfFile m) t = tt
@@ -116,14 +117,18 @@ module _ (p : Code) (sh : Shapes) (holes : ℕ → ℕ) (n : ℕ) (g : ℕ) (f :
     parameter_image s (Format bs) h = refl
     parameter_image s Missing h = refl
 
-    start_image : (x : ℕ) → eqb x g ≡ false → slot_at_start (narrowed g f) (map (new_lending holes) vs) (new_number g x) ≡ new_variable bored (slot_at_start f vs x)
+    start_image : (x : ℕ) → eqb x g ≡ false → slot_at_start (narrowed g f) (map (new_lending holes) vs) (new_number g x) ≡ new_variable bored
+        (slot_at_start f vs x)
     start_image x h =
-        ap (λ b. cond b (parameter (entry_or no_slot (without g f.slots) (new_number g x)) (entry_or Missing (map (new_lending holes) vs) (new_number g x))) (zeros (entry_or no_slot (without g f.slots) (new_number g x)))) (same_parameter g f.params x may.local h)
+        ap (λ b. cond b (parameter (entry_or no_slot (without g f.slots) (new_number g x))
+        (entry_or Missing (map (new_lending holes) vs) (new_number g x))) (zeros (entry_or no_slot (without g f.slots) (new_number g x))))
+        (same_parameter g f.params x may.local h)
         ∙ ap (λ s. cond (nat_lt x f.params) (parameter s (entry_or Missing (map (new_lending holes) vs) (new_number g x))) (zeros s)) (same_entry g x f.slots h)
         ∙ at (nat_lt x f.params) refl
       where
         at : (b : Bool) → nat_lt x f.params ≡ b
-            → cond b (parameter (entry_or no_slot f.slots x) (entry_or Missing (map (new_lending holes) vs) (new_number g x))) (zeros (entry_or no_slot f.slots x))
+            → cond b (parameter (entry_or no_slot f.slots x) (entry_or Missing (map (new_lending holes) vs) (new_number g x)))
+            (zeros (entry_or no_slot f.slots x))
             ≡ new_variable bored (cond b (parameter (entry_or no_slot f.slots x) (entry_or Missing vs x)) (zeros (entry_or no_slot f.slots x)))
         at true e =
             let l = may.local in
@@ -137,7 +142,8 @@ module _ (p : Code) (sh : Shapes) (holes : ℕ → ℕ) (n : ℕ) (g : ℕ) (f :
     start_flag =
         let l = may.local in
         let e : nat_lt g f.params ≡ false = grind (arith, nat_tests) in
-        subst (λ b. IsFlag false (cond b (parameter (entry_or no_slot f.slots g) (entry_or Missing vs g)) (zeros (entry_or no_slot f.slots g)))) (sym e) (flag_zeros (entry_or no_slot f.slots g) may.int may.single)
+        subst (λ b. IsFlag false (cond b (parameter (entry_or no_slot f.slots g) (entry_or Missing vs g)) (zeros (entry_or no_slot f.slots g))))
+        (sym e) (flag_zeros (entry_or no_slot f.slots g) may.int may.single)
 
     -- ---- the beginning
 
@@ -158,23 +164,30 @@ module _ (p : Code) (sh : Shapes) (holes : ℕ → ℕ) (n : ℕ) (g : ℕ) (f :
       old_at : (d x : ℕ) → (enter_call f vs w).variables (OfCall d x) ≡ cond (eqb (suc n) d) (slot_at_start f vs x) (w.variables (OfCall d x))
       old_at d x = ap (λ k. cond (eqb (suc k) d) (slot_at_start f vs x) (w.variables (OfCall d x))) a.calls
 
-      new_at : (d x : ℕ) → (enter_call (narrowed g f) (map (new_lending holes) vs) u).variables (OfCall d x) ≡ cond (eqb (suc n) d) (slot_at_start (narrowed g f) (map (new_lending holes) vs) x) (u.variables (OfCall d x))
+      new_at : (d x : ℕ) → (enter_call (narrowed g f) (map (new_lending holes) vs) u).variables (OfCall d x) ≡ cond (eqb (suc n) d)
+          (slot_at_start (narrowed g f) (map (new_lending holes) vs) x) (u.variables (OfCall d x))
       new_at d x = ap (λ k. cond (eqb (suc k) d) (slot_at_start (narrowed g f) (map (new_lending holes) vs) x) (u.variables (OfCall d x))) a.same_calls
 
       sealed_in : (d : ℕ) → d ≤ suc n → (b : Bool) → eqb (suc n) d ≡ b → (let z = cond b (inside_shape g f vs) (sh d) in z.own (cond b g (holes d)) ≡ false)
       sealed_in d h true e = ap (λ b. not b && is_own (slot_at_start f vs g)) (eq-eqb g g refl)
       sealed_in d h false e = a.sealed d (before d h e)
 
-      same_in : (d x : ℕ) → d ≤ suc n → (b : Bool) → eqb (suc n) d ≡ b → (let z = cond b (inside_shape g f vs) (sh d) in x < length z.slots) → eqb x (cond b g (holes d)) ≡ false
-          → cond b (slot_at_start (narrowed g f) (map (new_lending holes) vs) (new_number (cond b g (holes d)) x)) (u.variables (OfCall d (new_number (cond b g (holes d)) x)))
+      same_in : (d x : ℕ) → d ≤ suc n → (b : Bool) → eqb (suc n) d ≡ b → (let z = cond b (inside_shape g f vs) (sh d) in x < length z.slots) →
+          eqb x (cond b g (holes d)) ≡ false
+          → cond b (slot_at_start (narrowed g f) (map (new_lending holes) vs) (new_number (cond b g (holes d)) x))
+          (u.variables (OfCall d (new_number (cond b g (holes d)) x)))
           ≡ new_variable bored (cond b (slot_at_start f vs x) (w.variables (OfCall d x)))
       same_in d x h true e i k = start_image x k
-      same_in d x h false e i k = let j = before d h e in a.call_same d x j i k ∙ sym (variable_before d sh (entry_or no_slot (sh d).slots x).kind ((sh d).own x) (w.variables (OfCall d x)) j (a.call_good d x j i k))
+      same_in d x h false e i k = let j = before d h e in a.call_same d x j i k ∙ sym
+          (variable_before d sh (entry_or no_slot (sh d).slots x).kind ((sh d).own x) (w.variables (OfCall d x)) j (a.call_good d x j i k))
 
-      good_in : (d x : ℕ) → d ≤ suc n → (b : Bool) → eqb (suc n) d ≡ b → (let z = cond b (inside_shape g f vs) (sh d) in x < length z.slots → eqb x (cond b g (holes d)) ≡ false
+      good_in : (d x : ℕ) → d ≤ suc n → (b : Bool) → eqb (suc n) d ≡ b →
+          (let z = cond b (inside_shape g f vs) (sh d) in x < length z.slots → eqb x (cond b g (holes d)) ≡ false
           → Good p grown d (entry_or no_slot z.slots x).kind (z.own x) (cond b (slot_at_start f vs x) (w.variables (OfCall d x))))
-      good_in d x h true e i k = subst (λ y. Good p grown d (entry_or no_slot f.slots x).kind (not y && is_own (slot_at_start f vs x)) (slot_at_start f vs x)) (sym k)
-          (subst (λ z. Good p grown z (entry_or no_slot f.slots x).kind (is_own (slot_at_start f vs x)) (slot_at_start f vs x)) (eqb-true (suc n) d e) (good_start x))
+      good_in d x h true e i k = subst (λ y. Good p grown d (entry_or no_slot f.slots x).kind (not y && is_own (slot_at_start f vs x))
+          (slot_at_start f vs x)) (sym k)
+          (subst (λ z. Good p grown z (entry_or no_slot f.slots x).kind (is_own (slot_at_start f vs x)) (slot_at_start f vs x)) (eqb-true (suc n) d e)
+          (good_start x))
       good_in d x h false e i k = good_grows p n sh grown agree d _ _ (w.variables (OfCall d x)) (before d h e) (a.call_good d x (before d h e) i k)
 
       pub enter_apart : Apart p grown bored false (suc n) (enter_call f vs w) (enter_call (narrowed g f) (map (new_lending holes) vs) u)
@@ -189,14 +202,20 @@ module _ (p : Code) (sh : Shapes) (holes : ℕ → ℕ) (n : ℕ) (g : ℕ) (f :
         file_same = a.file_same;
         file_good = λ m. good_grows p n sh grown agree 0 _ true (w.variables (OfFile m)) (omega arith) (a.file_good m);
         call_same = λ d x h i k. new_at d (new_number (bored d) x) ∙ same_in d x h (eqb (suc n) d) refl i k ∙ ap (new_variable bored) (sym (old_at d x));
-        call_good = λ d x h i k. subst (λ v. Good p grown d (entry_or no_slot (grown d).slots x).kind ((grown d).own x) v) (sym (old_at d x)) (good_in d x h (eqb (suc n) d) refl i k);
-        older = λ d h. let i : d ≤ n = omega (arith, h) in subst (IsFlag false) (sym (old_at d (bored d) ∙ ap (λ b. cond b (slot_at_start f vs (bored d)) (w.variables (OfCall d (bored d)))) (later_call n d i) ∙ ap (λ y. w.variables (OfCall d y)) (hole_before d i))) (flag_before d i);
-        newest = subst (IsFlag false) (sym (old_at (suc n) (bored (suc n)) ∙ ap (λ b. cond b (slot_at_start f vs (bored (suc n))) (w.variables (OfCall (suc n) (bored (suc n))))) (this_call n) ∙ ap (slot_at_start f vs) hole_here)) start_flag;
+        call_good = λ d x h i k. subst (λ v. Good p grown d (entry_or no_slot (grown d).slots x).kind ((grown d).own x) v) (sym (old_at d x))
+            (good_in d x h (eqb (suc n) d) refl i k);
+        older = λ d h. let i : d ≤ n = omega (arith, h) in subst (IsFlag false)
+            (sym (old_at d (bored d) ∙ ap (λ b. cond b (slot_at_start f vs (bored d)) (w.variables (OfCall d (bored d)))) (later_call n d i) ∙
+            ap (λ y. w.variables (OfCall d y)) (hole_before d i))) (flag_before d i);
+        newest = subst (IsFlag false) (sym
+            (old_at (suc n) (bored (suc n)) ∙ ap (λ b. cond b (slot_at_start f vs (bored (suc n))) (w.variables (OfCall (suc n) (bored (suc n)))))
+            (this_call n) ∙ ap (slot_at_start f vs) hole_here)) start_flag;
       }
 
   -- ---- the end
 
-  pub leave_apart : (cells : cells_of (without g f.slots) ≡ cells_of f.slots) (w u : World) → Apart p grown bored false (suc n) w u → Apart p sh holes false n (pop f w) (pop (narrowed g f) u)
+  pub leave_apart : (cells : cells_of (without g f.slots) ≡ cells_of f.slots) (w u : World) → Apart p grown bored false (suc n) w u →
+      Apart p sh holes false n (pop f w) (pop (narrowed g f) u)
   leave_apart cells w u a = record {
     calls = ap pred a.calls;
     same_calls = ap pred a.same_calls;
@@ -204,7 +223,8 @@ module _ (p : Code) (sh : Shapes) (holes : ℕ → ℕ) (n : ℕ) (g : ℕ) (f :
     input = a.input;
     answers = a.answers;
     events = a.events;
-    sealed = λ d h. subst (λ y. (sh d).own y ≡ false) (hole_before d h) (subst (λ (z : Shape). z.own (bored d) ≡ false) (agree d h) (a.sealed d (omega (arith, h))));
+    sealed = λ d h. subst (λ y. (sh d).own y ≡ false) (hole_before d h)
+        (subst (λ (z : Shape). z.own (bored d) ≡ false) (agree d h) (a.sealed d (omega (arith, h))));
     file_same = a.file_same;
     file_good = λ m. good_grows p n grown sh disagree 0 _ true (w.variables (OfFile m)) (omega arith) (a.file_good m);
     call_same = λ d x h i k.
@@ -212,7 +232,8 @@ module _ (p : Code) (sh : Shapes) (holes : ℕ → ℕ) (n : ℕ) (g : ℕ) (f :
         let k' : eqb x (bored d) ≡ false = subst (λ y. eqb x y ≡ false) (sym (hole_before d h)) k in
         let h' : d ≤ suc n = omega (arith, h) in
         subst (λ y. u.variables (OfCall d (new_number y x)) ≡ new_variable holes (w.variables (OfCall d x))) (hole_before d h)
-        (a.call_same d x h' i' k' ∙ variable_before d grown (entry_or no_slot (grown d).slots x).kind ((grown d).own x) (w.variables (OfCall d x)) h (a.call_good d x h' i' k'));
+        (a.call_same d x h' i' k' ∙ variable_before d grown (entry_or no_slot (grown d).slots x).kind ((grown d).own x) (w.variables (OfCall d x)) h
+        (a.call_good d x h' i' k'));
     call_good = λ d x h i k.
         let i' : x < length (grown d).slots = subst (λ (z : Shape). x < length z.slots) (sym (agree d h)) i in
         let k' : eqb x (bored d) ≡ false = subst (λ y. eqb x y ≡ false) (sym (hole_before d h)) k in

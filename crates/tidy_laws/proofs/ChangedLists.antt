@@ -32,7 +32,8 @@ zero_is e h = absurd (true≢false (sym h))
 pub reset_is : (g : ℕ) (x : Tree) → is_reset g x ≡ true → x ≡ reset g
 reset_is g (Evaluate (Typed (Some Int) (Assign (Var (H.Slot x)) e))) h =
     let k = both (eqb x g) (is_number 0 e) h in
-    ap (λ y. Evaluate (Typed (Some Int) (Assign (Var (H.Slot y)) e))) (eqb-true x g k.0) ∙ ap (λ e. Evaluate (Typed (Some Int) (Assign (Var (H.Slot g)) e))) (zero_is e k.1)
+    ap (λ y. Evaluate (Typed (Some Int) (Assign (Var (H.Slot y)) e))) (eqb-true x g k.0) ∙
+    ap (λ e. Evaluate (Typed (Some Int) (Assign (Var (H.Slot g)) e))) (zero_is e k.1)
 reset_is g x h = absurd (true≢false (sym h))
 
 abbrev declaration : ℕ → Tree
@@ -68,7 +69,8 @@ before_is g (Then x Nil) b h = at (is_reset g x) refl h
     at false e h = absurd (none_some h)
 before_is g (Then x (Then y ys)) b h = at (before_reset g (Then y ys)) h (before_is g (Then y ys))
   where
-    at : (o : Option Forest) → option_map (Then x) o ≡ Some b → ((c : Forest) → o ≡ Some c → Then y ys ≡ join c (one (reset g))) → Then x (Then y ys) ≡ join b (one (reset g))
+    at : (o : Option Forest) → option_map (Then x) o ≡ Some b → ((c : Forest) → o ≡ Some c → Then y ys ≡ join c (one (reset g))) →
+        Then x (Then y ys) ≡ join b (one (reset g))
     at (Some c) h k = ap (Then x) (k c refl) ∙ ap (λ b. join b (one (reset g))) (some_same h)
     at None h k = absurd (none_some h)
 
@@ -133,9 +135,11 @@ module _ (p : Code) (ss : List Slot) (start count : ℕ) where
     rest_items true Nil k l = i_nil false
     rest_items true (Then x xs) k l = at (is_declaration g x) refl l (rest_items true xs k.1)
       where
-        at : (y : Bool) → is_declaration g x ≡ y → list_lacks g (cond y xs (Then x (undeclared g xs))) ≡ true → (list_lacks g (undeclared g xs) ≡ true → Items p ss g false xs (renumbered_list g (undeclared g xs)))
+        at : (y : Bool) → is_declaration g x ≡ y → list_lacks g (cond y xs (Then x (undeclared g xs))) ≡ true →
+            (list_lacks g (undeclared g xs) ≡ true → Items p ss g false xs (renumbered_list g (undeclared g xs)))
             → Items p ss g false (Then x xs) (renumbered_list g (cond y xs (Then x (undeclared g xs))))
-        at true e l h = subst (λ x. Items p ss g false (Then x xs) (renumbered_list g xs)) (sym (declaration_is g x e)) (i_declared (plain_items p ss g false xs k.1 l))
+        at true e l h = subst (λ x. Items p ss g false (Then x xs) (renumbered_list g xs)) (sym (declaration_is g x e))
+            (i_declared (plain_items p ss g false xs k.1 l))
         at false e l h = let i = both (item_lacks g x) (list_lacks g (undeclared g xs)) l in i_then (plain_item p ss g false x k.0 i.0) (h i.1)
 
     -- a list whose first item is no declaration
@@ -144,18 +148,22 @@ module _ (p : Code) (ss : List Slot) (start count : ℕ) where
     first_stays false x xs e = refl
 
     -- where the first item was changed
-    pub then_made : (d : Bool) (x y : Tree) (xs : Forest) → is_declaration g y ≡ false → Everywhere K xs → (item_lacks g y ≡ true → MadeItem g x y) → list_lacks g (stripped d g (Then y xs)) ≡ true → Made d g (Then x xs) (Then y xs)
+    pub then_made : (d : Bool) (x y : Tree) (xs : Forest) → is_declaration g y ≡ false → Everywhere K xs → (item_lacks g y ≡ true → MadeItem g x y) →
+        list_lacks g (stripped d g (Then y xs)) ≡ true → Made d g (Then x xs) (Then y xs)
     then_made d x y xs e k h l =
         let l' = both (item_lacks g y) (list_lacks g (stripped d g xs)) (subst (λ z. list_lacks g z ≡ true) (first_stays d y xs e) l) in
         let m = h l'.0 in
         record {
           middle = Then m.middle xs;
           before = like_then m.before (likes_itself LeavesOne xs);
-          behind = subst (λ z. Items p ss g false (Then m.middle xs) (renumbered_list g z)) (sym (first_stays d y xs e)) (i_then m.behind (rest_items d xs k l'.1));
+          behind = subst (λ z. Items p ss g false (Then m.middle xs) (renumbered_list g z)) (sym (first_stays d y xs e))
+              (i_then m.behind (rest_items d xs k l'.1));
         }
 
     -- where a later one was
-    pub later_made : (d : Bool) (x : Tree) (xs ys : Forest) → EverywhereOf K x → ((d : Bool) → list_lacks g (stripped d g ys) ≡ true → Made d g xs ys) → list_lacks g (stripped d g (Then x ys)) ≡ true → Made d g (Then x xs) (Then x ys)
+    pub later_made : (d : Bool) (x : Tree) (xs ys : Forest) → EverywhereOf K x →
+        ((d : Bool) → list_lacks g (stripped d g ys) ≡ true → Made d g xs ys) → list_lacks g (stripped d g (Then x ys)) ≡ true →
+        Made d g (Then x xs) (Then x ys)
     later_made false x xs ys k h l =
         let i = both (item_lacks g x) (list_lacks g ys) l in
         let m = h false i.1 in
@@ -177,5 +185,6 @@ module _ (p : Code) (ss : List Slot) (start count : ℕ) where
             record {
               middle = Then x m.middle;
               before = like_then (like_itself LeavesOne x) m.before;
-              behind = subst (λ z. Items p ss g false (Then x m.middle) (renumbered_list g z)) (sym (ap (λ y. cond y ys (Then x (undeclared g ys))) e)) (i_then (plain_item p ss g false x k i.0) m.behind);
+              behind = subst (λ z. Items p ss g false (Then x m.middle) (renumbered_list g z))
+                  (sym (ap (λ y. cond y ys (Then x (undeclared g ys))) e)) (i_then (plain_item p ss g false x k i.0) m.behind);
             }

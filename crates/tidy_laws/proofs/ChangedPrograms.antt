@@ -24,19 +24,26 @@ sought r m f = bytes_eq f.name m && r (is_some f.body)
 same_sought : (r : Bool → Bool) (m : List ℕ) (f h : Function) → IsChangedFunction f h → sought r m h ≡ sought r m f
 same_sought r m f h i = ap (λ n. bytes_eq n m && r (is_some h.body)) i.name ∙ ap (λ b. bytes_eq f.name m && r b) i.body
 
-found : (r : Bool → Bool) (m : List ℕ) (ts us : List Top) → AreChangedTops ts us → MaybeChanged (function_in (λ f. r (is_some f.body)) m ts) (function_in (λ f. r (is_some f.body)) m us)
+found : (r : Bool → Bool) (m : List ℕ) (ts us : List Top) → AreChangedTops ts us →
+    MaybeChanged (function_in (λ f. r (is_some f.body)) m ts) (function_in (λ f. r (is_some f.body)) m us)
 found r m [] [] h = tt
 found r m (T.Function f ∷ ts) (T.Function g ∷ us) h =
-    subst (λ b. MaybeChanged (cond (sought r m f) (Some (function_tree f)) (function_in (λ f. r (is_some f.body)) m ts)) (cond b (Some (function_tree g)) (function_in (λ f. r (is_some f.body)) m us))) (sym (same_sought r m f g h.0))
-    (chosen (sought r m f) (function_tree f) (function_tree g) (function_in (λ f. r (is_some f.body)) m ts) (function_in (λ f. r (is_some f.body)) m us) h.0.tree (found r m ts us h.1))
+    subst (λ b. MaybeChanged (cond (sought r m f) (Some (function_tree f)) (function_in (λ f. r (is_some f.body)) m ts))
+    (cond b (Some (function_tree g)) (function_in (λ f. r (is_some f.body)) m us))) (sym (same_sought r m f g h.0))
+    (chosen (sought r m f) (function_tree f) (function_tree g) (function_in (λ f. r (is_some f.body)) m ts)
+    (function_in (λ f. r (is_some f.body)) m us) h.0.tree (found r m ts us h.1))
 found r m (T.Function f ∷ ts) (T.Include b ∷ us) h = absurd h.0
 found r m (T.Function f ∷ ts) (T.Enum b ∷ us) h = absurd h.0
 found r m (T.Function f ∷ ts) (T.Global b ∷ us) h = absurd h.0
 found r m (T.Function f ∷ ts) (T.Note b ∷ us) h = absurd h.0
-found r m (T.Include b ∷ ts) (y ∷ us) h = subst (λ y. MaybeChanged (function_in (λ f. r (is_some f.body)) m ts) (function_in (λ f. r (is_some f.body)) m (y ∷ us))) (sym h.0) (found r m ts us h.1)
-found r m (T.Enum b ∷ ts) (y ∷ us) h = subst (λ y. MaybeChanged (function_in (λ f. r (is_some f.body)) m ts) (function_in (λ f. r (is_some f.body)) m (y ∷ us))) (sym h.0) (found r m ts us h.1)
-found r m (T.Global b ∷ ts) (y ∷ us) h = subst (λ y. MaybeChanged (function_in (λ f. r (is_some f.body)) m ts) (function_in (λ f. r (is_some f.body)) m (y ∷ us))) (sym h.0) (found r m ts us h.1)
-found r m (T.Note b ∷ ts) (y ∷ us) h = subst (λ y. MaybeChanged (function_in (λ f. r (is_some f.body)) m ts) (function_in (λ f. r (is_some f.body)) m (y ∷ us))) (sym h.0) (found r m ts us h.1)
+found r m (T.Include b ∷ ts) (y ∷ us) h = subst (λ y. MaybeChanged (function_in (λ f. r (is_some f.body)) m ts)
+    (function_in (λ f. r (is_some f.body)) m (y ∷ us))) (sym h.0) (found r m ts us h.1)
+found r m (T.Enum b ∷ ts) (y ∷ us) h = subst (λ y. MaybeChanged (function_in (λ f. r (is_some f.body)) m ts)
+    (function_in (λ f. r (is_some f.body)) m (y ∷ us))) (sym h.0) (found r m ts us h.1)
+found r m (T.Global b ∷ ts) (y ∷ us) h = subst (λ y. MaybeChanged (function_in (λ f. r (is_some f.body)) m ts)
+    (function_in (λ f. r (is_some f.body)) m (y ∷ us))) (sym h.0) (found r m ts us h.1)
+found r m (T.Note b ∷ ts) (y ∷ us) h = subst (λ y. MaybeChanged (function_in (λ f. r (is_some f.body)) m ts)
+    (function_in (λ f. r (is_some f.body)) m (y ∷ us))) (sym h.0) (found r m ts us h.1)
 found r m [] (y ∷ us) h = absurd h
 found r m (x ∷ ts) [] h = absurd h
 
@@ -58,7 +65,8 @@ same_global m (T.Function f ∷ ts) (T.Global b ∷ us) h = absurd h.0
 same_global m (T.Function f ∷ ts) (T.Note b ∷ us) h = absurd h.0
 same_global m (T.Include b ∷ ts) (y ∷ us) h = ap (λ y. global_named m (y ∷ us)) h.0 ∙ same_global m ts us h.1
 same_global m (T.Enum b ∷ ts) (y ∷ us) h = ap (λ y. global_named m (y ∷ us)) h.0 ∙ same_global m ts us h.1
-same_global m (T.Global b ∷ ts) (y ∷ us) h = ap (λ y. global_named m (y ∷ us)) h.0 ∙ ap (cond (bytes_eq b.slot.name m) (initial_variable b)) (same_global m ts us h.1)
+same_global m (T.Global b ∷ ts) (y ∷ us) h = ap (λ y. global_named m (y ∷ us)) h.0 ∙ ap (cond (bytes_eq b.slot.name m) (initial_variable b))
+    (same_global m ts us h.1)
 same_global m (T.Note b ∷ ts) (y ∷ us) h = ap (λ y. global_named m (y ∷ us)) h.0 ∙ same_global m ts us h.1
 same_global m [] (y ∷ us) h = absurd h
 same_global m (x ∷ ts) [] h = absurd h
@@ -79,7 +87,8 @@ same_cells (x ∷ ts) [] h = absurd h
 
 pub programs_changed : (p q : Program) → AreChangedTops p.tops q.tops → IsChangedCode (code_of p) (code_of q)
 programs_changed p q h = record {
-  functions = λ m. first_changed (function_in (λ f. is_some f.body) m p.tops) (function_in (λ f. true) m p.tops) (function_in (λ f. is_some f.body) m q.tops) (function_in (λ f. true) m q.tops)
+  functions = λ m. first_changed (function_in (λ f. is_some f.body) m p.tops) (function_in (λ f. true) m p.tops)
+      (function_in (λ f. is_some f.body) m q.tops) (function_in (λ f. true) m q.tops)
       (found (λ b. b) m p.tops q.tops h) (found (λ b. true) m p.tops q.tops h);
   globals = λ i m. same_global m p.tops q.tops h i;
   cells = same_cells p.tops q.tops h;

@@ -57,9 +57,11 @@ module _ (p : Code) (ss : List Slot) (start count : ℕ) where
   broken_while : (g : ℕ) (t s : TestTree) (a : Forest) → Guarded g t s → EverywhereOf K (While t a) → Broken g (While t a) (While s (tailed g Break a))
   broken_while g t s a h k = at t s h.whole h.rest k
     where
-      at : (t s : TestTree) → t ≡ Source (Typed h.kind (Binary AndThen h.first h.second)) → s ≡ Source h.second → EverywhereOf K (While t a) → Broken g (While t a) (While s (tailed g Break a))
+      at : (t s : TestTree) → t ≡ Source (Typed h.kind (Binary AndThen h.first h.second)) → s ≡ Source h.second → EverywhereOf K (While t a) →
+          Broken g (While t a) (While s (tailed g Break a))
       at t s e f = subst (λ t. EverywhereOf K (While t a) → Broken g (While t a) (While s (tailed g Break a))) (sym e)
-          (subst (λ s. EverywhereOf K (While (Source (Typed h.kind (Binary AndThen h.first h.second))) a) → Broken g (While (Source (Typed h.kind (Binary AndThen h.first h.second))) a) (While s (tailed g Break a))) (sym f)
+          (subst (λ s. EverywhereOf K (While (Source (Typed h.kind (Binary AndThen h.first h.second))) a) →
+          Broken g (While (Source (Typed h.kind (Binary AndThen h.first h.second))) a) (While s (tailed g Break a))) (sym f)
           (λ k. record {
             middle = While (Source (Typed h.kind (Binary AndThen h.first h.second))) (leaves g by_break a);
             before = breaks_while (Source (Typed h.kind (Binary AndThen h.first h.second))) a h.off;
@@ -71,9 +73,11 @@ module _ (p : Code) (ss : List Slot) (start count : ℕ) where
   broken_do : (g : ℕ) (t s : TestTree) (a : Forest) → Guarded g t s → EverywhereOf K (Do a t) → Broken g (Do a t) (Do (tailed g Break a) s)
   broken_do g t s a h k = at t s h.whole h.rest k
     where
-      at : (t s : TestTree) → t ≡ Source (Typed h.kind (Binary AndThen h.first h.second)) → s ≡ Source h.second → EverywhereOf K (Do a t) → Broken g (Do a t) (Do (tailed g Break a) s)
+      at : (t s : TestTree) → t ≡ Source (Typed h.kind (Binary AndThen h.first h.second)) → s ≡ Source h.second → EverywhereOf K (Do a t) →
+          Broken g (Do a t) (Do (tailed g Break a) s)
       at t s e f = subst (λ t. EverywhereOf K (Do a t) → Broken g (Do a t) (Do (tailed g Break a) s)) (sym e)
-          (subst (λ s. EverywhereOf K (Do a (Source (Typed h.kind (Binary AndThen h.first h.second)))) → Broken g (Do a (Source (Typed h.kind (Binary AndThen h.first h.second)))) (Do (tailed g Break a) s)) (sym f)
+          (subst (λ s. EverywhereOf K (Do a (Source (Typed h.kind (Binary AndThen h.first h.second)))) →
+          Broken g (Do a (Source (Typed h.kind (Binary AndThen h.first h.second)))) (Do (tailed g Break a) s)) (sym f)
           (λ k. record {
             middle = Do (leaves g by_break a) (Source (Typed h.kind (Binary AndThen h.first h.second)));
             before = breaks_do (Source (Typed h.kind (Binary AndThen h.first h.second))) a h.off;
@@ -112,23 +116,29 @@ module _ (p : Code) (ss : List Slot) (start count : ℕ) where
       at false q e = absurd (none_some e)
 
   -- the list that begins with such a loop
-  broken_made : (d : Bool) (g n : ℕ) (x : Tree) (xs c : Forest) → EverywhereOf K x → Everywhere K xs → both_there (broken_loop g n x) (after_reset g xs) ≡ Some c → list_lacks g (stripped d g c) ≡ true → Made p ss start count d g (Then x xs) c
+  broken_made : (d : Bool) (g n : ℕ) (x : Tree) (xs c : Forest) → EverywhereOf K x → Everywhere K xs →
+      both_there (broken_loop g n x) (after_reset g xs) ≡ Some c → list_lacks g (stripped d g c) ≡ true → Made p ss start count d g (Then x xs) c
   broken_made d g n x xs c k ks e = at (broken_loop g n x) (after_reset g xs) refl refl e
     where
-      made : (y : Tree) (ys : Forest) → Broken g x y → xs ≡ Then (reset g) ys → list_lacks g (stripped d g (Then y ys)) ≡ true → Made p ss start count d g (Then x xs) (Then y ys)
+      made : (y : Tree) (ys : Forest) → Broken g x y → xs ≡ Then (reset g) ys → list_lacks g (stripped d g (Then y ys)) ≡ true →
+          Made p ss start count d g (Then x xs) (Then y ys)
       made y ys h q l =
-          let l' = both (item_lacks g y) (list_lacks g (stripped d g ys)) (subst (λ z. list_lacks g z ≡ true) (first_stays p ss start count g d y ys h.undeclaring) l) in
+          let l' = both (item_lacks g y) (list_lacks g (stripped d g ys))
+          (subst (λ z. list_lacks g z ≡ true) (first_stays p ss start count g d y ys h.undeclaring) l) in
           let kys = subst (Everywhere K) q ks in
           record {
             middle = Then h.middle xs;
             before = like_then (exchanged (g, h.before)) (likes_itself LeavesOne xs);
             behind = subst (λ z. Items p ss g false (Then h.middle z) (renumbered_list g (stripped d g (Then y ys)))) (sym q)
-                (subst (λ z. Items p ss g false (Then h.middle (Then (reset g) ys)) (renumbered_list g z)) (sym (first_stays p ss start count g d y ys h.undeclaring))
+                (subst (λ z. Items p ss g false (Then h.middle (Then (reset g) ys)) (renumbered_list g z))
+                (sym (first_stays p ss start count g d y ys h.undeclaring))
                 (i_stops (h.behind l'.0) (rest_items p ss start count g d ys kys.1 l'.1)));
           }
 
-      at : (o : Option Tree) (r : Option Forest) → broken_loop g n x ≡ o → after_reset g xs ≡ r → both_there o r ≡ Some c → list_lacks g (stripped d g c) ≡ true → Made p ss start count d g (Then x xs) c
-      at (Some y) (Some ys) q r e = subst (λ c. list_lacks g (stripped d g c) ≡ true → Made p ss start count d g (Then x xs) c) (some_same e) (made y ys (broken_is g n x y k q) (after_is g xs ys r))
+      at : (o : Option Tree) (r : Option Forest) → broken_loop g n x ≡ o → after_reset g xs ≡ r → both_there o r ≡ Some c →
+          list_lacks g (stripped d g c) ≡ true → Made p ss start count d g (Then x xs) c
+      at (Some y) (Some ys) q r e = subst (λ c. list_lacks g (stripped d g c) ≡ true → Made p ss start count d g (Then x xs) c) (some_same e)
+          (made y ys (broken_is g n x y k q) (after_is g xs ys r))
       at None r q i e = absurd (none_some e)
       at (Some y) None q i e = absurd (none_some e)
 
@@ -137,19 +147,23 @@ module _ (p : Code) (ss : List Slot) (start count : ℕ) where
   -- the body, and the one with its jumps
   record Continued (g : ℕ) (a b : Forest) : Type 0 where
     whole : a ≡ join b (one (reset g))
-    behind : list_lacks g (tailed g Continue b) ≡ true → Items p ss g false (join (leaves g (by_continue g) b) (one (reset g))) (renumbered_list g (tailed g Continue b))
+    behind : list_lacks g (tailed g Continue b) ≡ true → Items p ss g false (join (leaves g (by_continue g) b) (one (reset g)))
+        (renumbered_list g (tailed g Continue b))
 
   continued_is : (g : ℕ) (a b : Forest) → Everywhere K a → before_reset g a ≡ Some b → Continued g a b
   continued_is g a b k e = record {
     whole = before_is g a b e;
-    behind = λ l. reset_behind g (tail_items p ss g false false (λ e. absurd (true≢false (sym e))) b (before_last K b (reset g) (subst (Everywhere K) (before_is g a b e) k)) l);
+    behind = λ l. reset_behind g (tail_items p ss g false false (λ e. absurd (true≢false (sym e))) b
+        (before_last K b (reset g) (subst (Everywhere K) (before_is g a b e) k)) l);
   }
 
   abbrev Contained : ℕ → Tree → Tree → Type 0
   Contained g x y = (is_declaration g y ≡ false) × (item_lacks g y ≡ true → MadeItem p ss start count g x y)
 
   -- a loop by what is done with its body
-  loop_made : (g n : ℕ) (a : Forest) (loop : Forest → Tree) (y : Tree) → Everywhere K a → ((b : Forest) → Continued g a b → Contained g (loop a) (loop (tailed g Continue b))) → with_continues g n loop (before_reset g a) ≡ Some y → Contained g (loop a) y
+  loop_made : (g n : ℕ) (a : Forest) (loop : Forest → Tree) (y : Tree) → Everywhere K a →
+      ((b : Forest) → Continued g a b → Contained g (loop a) (loop (tailed g Continue b))) → with_continues g n loop (before_reset g a) ≡ Some y →
+      Contained g (loop a) y
   loop_made g n a loop y k h e = at (before_reset g a) refl e
     where
       low : (b : Forest) → Continued g a b → (z : Bool) → cond z (Some (loop (tailed g Continue b))) None ≡ Some y → Contained g (loop a) y
@@ -166,7 +180,11 @@ module _ (p : Code) (ss : List Slot) (start count : ℕ) where
         refl,
         (λ l. let i = both (test_lacks g t) (list_lacks g (tailed g Continue b)) l in record {
           middle = While t (join (leaves g (by_continue g) b) (one (reset g)));
-          before = exchanged (g, subst (λ z. Leaves g (While t z) (While t (join (leaves g (by_continue g) b) (one (reset g))))) (sym c.whole) (continues_while t b));
+          before = exchanged (
+            g,
+            subst (λ z. Leaves g (While t z) (While t (join (leaves g (by_continue g) b) (one (reset g))))) (sym c.whole)
+                (continues_while t b),
+          );
           behind = x_while false t k.0 i.0 (c.behind i.1);
         }),
       )) e
@@ -182,41 +200,54 @@ module _ (p : Code) (ss : List Slot) (start count : ℕ) where
   loop_is g n (For f t u a) y k e = loop_made g n a (For f t u) y k.2
       (λ b c. (refl, (λ l. for_made b c l))) e
     where
-      for_made : (b : Forest) → Continued g a b → item_lacks g (For f t u (tailed g Continue b)) ≡ true → MadeItem p ss start count g (For f t u a) (For f t u (tailed g Continue b))
+      for_made : (b : Forest) → Continued g a b → item_lacks g (For f t u (tailed g Continue b)) ≡ true →
+          MadeItem p ss start count g (For f t u a) (For f t u (tailed g Continue b))
       for_made b c l =
           let h = both (list_lacks g f) _ l in
           let i = both (option_lacks g t) _ h.1 in
           let j = both (option_lacks g u) (list_lacks g (tailed g Continue b)) i.1 in
           record {
             middle = For f t u (join (leaves g (by_continue g) b) (one (reset g)));
-            before = exchanged (g, subst (λ z. Leaves g (For f t u z) (For f t u (join (leaves g (by_continue g) b) (one (reset g))))) (sym c.whole) (continues_for f t u b));
+            before = exchanged (
+              g,
+              subst (λ z. Leaves g (For f t u z) (For f t u (join (leaves g (by_continue g) b) (one (reset g))))) (sym c.whole)
+                  (continues_for f t u b),
+            );
             behind = x_for false t u k.0.0 k.0.1 i.0 j.0 (plain_items p ss g false f k.1 h.0) (c.behind j.1);
           }
   loop_is g n x y k e = absurd (none_some e)
 
   -- the list that begins with such a loop
-  continued_made : (d : Bool) (g n : ℕ) (x : Tree) (xs c : Forest) → EverywhereOf K x → Everywhere K xs → option_map (λ y. Then y xs) (continued_loop g n x) ≡ Some c → list_lacks g (stripped d g c) ≡ true → Made p ss start count d g (Then x xs) c
+  continued_made : (d : Bool) (g n : ℕ) (x : Tree) (xs c : Forest) → EverywhereOf K x → Everywhere K xs →
+      option_map (λ y. Then y xs) (continued_loop g n x) ≡ Some c → list_lacks g (stripped d g c) ≡ true → Made p ss start count d g (Then x xs) c
   continued_made d g n x xs c k ks e = at (continued_loop g n x) refl e
     where
-      at : (o : Option Tree) → continued_loop g n x ≡ o → option_map (λ y. Then y xs) o ≡ Some c → list_lacks g (stripped d g c) ≡ true → Made p ss start count d g (Then x xs) c
+      at : (o : Option Tree) → continued_loop g n x ≡ o → option_map (λ y. Then y xs) o ≡ Some c → list_lacks g (stripped d g c) ≡ true →
+          Made p ss start count d g (Then x xs) c
       at (Some y) q e = let h = loop_is g n x y k q in
-          subst (λ c. list_lacks g (stripped d g c) ≡ true → Made p ss start count d g (Then x xs) c) (some_same e) (λ l. then_made p ss start count g d x y xs h.0 ks h.1 l)
+          subst (λ c. list_lacks g (stripped d g c) ≡ true → Made p ss start count d g (Then x xs) c) (some_same e)
+          (λ l. then_made p ss start count g d x y xs h.0 ks h.1 l)
       at None q e = absurd (none_some e)
 
   -- ---- all changes
 
-  here_made : (d : Bool) (level : ℕ) (x : Tree) (xs : Forest) → EverywhereOf K x → Everywhere K xs → Each (Makes p ss start count d (Then x xs)) (changed_here start count level x xs)
+  here_made : (d : Bool) (level : ℕ) (x : Tree) (xs : Forest) → EverywhereOf K x → Everywhere K xs →
+      Each (Makes p ss start count d (Then x xs)) (changed_here start count level x xs)
   here_made d level x xs k ks =
       each_both (Makes p ss start count d (Then x xs)) _ _
-      (each_for (Makes p ss start count d (Then x xs)) (λ g. both_there (broken_loop g (suc level) x) (after_reset g xs)) start count (λ g c l m e. ((l, m), broken_made d g (suc level) x xs c k ks e)))
-      (each_for (Makes p ss start count d (Then x xs)) (λ g. option_map (λ y. Then y xs) (continued_loop g (suc level) x)) start count (λ g c l m e. ((l, m), continued_made d g (suc level) x xs c k ks e)))
+      (each_for (Makes p ss start count d (Then x xs)) (λ g. both_there (broken_loop g (suc level) x) (after_reset g xs)) start count
+      (λ g c l m e. ((l, m), broken_made d g (suc level) x xs c k ks e)))
+      (each_for (Makes p ss start count d (Then x xs)) (λ g. option_map (λ y. Then y xs) (continued_loop g (suc level) x)) start count
+      (λ g c l m e. ((l, m), continued_made d g (suc level) x xs c k ks e)))
 
   -- where a later list of the same items was changed
-  later_lists : (x : Tree) (xs : Forest) → EverywhereOf K x → (d : Bool) (cs : List (ℕ × Forest)) → Each (Makes p ss start count true xs) cs → Each (Makes p ss start count false xs) cs → Each (Makes p ss start count d (Then x xs)) (around (Then x) cs)
+  later_lists : (x : Tree) (xs : Forest) → EverywhereOf K x → (d : Bool) (cs : List (ℕ × Forest)) → Each (Makes p ss start count true xs) cs →
+      Each (Makes p ss start count false xs) cs → Each (Makes p ss start count d (Then x xs)) (around (Then x) cs)
   later_lists x xs k d [] h i = tt
   later_lists x xs k d (c ∷ cs) h i = ((h.0.0, later_made p ss start count c.0 d x xs c.1 k (either h.0.1 i.0.1)), later_lists x xs k d cs h.1 i.1)
     where
-      either : (list_lacks c.0 (stripped true c.0 c.1) ≡ true → Made p ss start count true c.0 xs c.1) → (list_lacks c.0 c.1 ≡ true → Made p ss start count false c.0 xs c.1)
+      either : (list_lacks c.0 (stripped true c.0 c.1) ≡ true → Made p ss start count true c.0 xs c.1) →
+          (list_lacks c.0 c.1 ≡ true → Made p ss start count false c.0 xs c.1)
           → (d : Bool) → list_lacks c.0 (stripped d c.0 c.1) ≡ true → Made p ss start count d c.0 xs c.1
       either h i true = h
       either h i false = i
@@ -227,7 +258,8 @@ module _ (p : Code) (ss : List Slot) (start count : ℕ) where
     lists_made (Then x xs) k d level =
         each_both (Makes p ss start count d (Then x xs)) (changed_here start count level x xs) _ (here_made d level x xs k.0 k.1)
         (each_both (Makes p ss start count d (Then x xs)) _ _
-        (each_around (MakesItem p ss start count x) (Makes p ss start count d (Then x xs)) (λ y. Then y xs) (changed_items start count (suc level) x) (λ c h. (h.0, then_made p ss start count c.0 d x c.1 xs h.1 k.1 h.2)) (items_made x k.0 (suc level)))
+        (each_around (MakesItem p ss start count x) (Makes p ss start count d (Then x xs)) (λ y. Then y xs) (changed_items start count (suc level) x)
+        (λ c h. (h.0, then_made p ss start count c.0 d x c.1 xs h.1 k.1 h.2)) (items_made x k.0 (suc level)))
         (later_lists x xs k.0 d (changed_lists start count level xs) (lists_made xs k.1 true level) (lists_made xs k.1 false level)))
 
     items_made : (x : Tree) → EverywhereOf K x → (level : ℕ) → Each (MakesItem p ss start count x) (changed_items start count level x)
@@ -241,7 +273,11 @@ module _ (p : Code) (ss : List Slot) (start count : ℕ) where
               let i = both (test_lacks c.0 t) (_) l in
               let j = both (list_lacks c.0 c.1) (list_lacks c.0 b) i.1 in
               let m = h.1 j.0 in
-              record { middle = If t m.middle b; before = like_if t m.before (likes_itself LeavesOne b); behind = x_if t k.0 i.0 m.behind (plain_items p ss c.0 false b k.2 j.1) }),
+              record {
+                middle = If t m.middle b;
+                before = like_if t m.before (likes_itself LeavesOne b);
+                behind = x_if t k.0 i.0 m.behind (plain_items p ss c.0 false b k.2 j.1);
+              }),
         )) (lists_made a k.1 false level))
         (each_around (Makes p ss start count false b) (MakesItem p ss start count (If t a b)) (If t a) (changed_lists start count level b)
         (λ c h. (
@@ -251,7 +287,11 @@ module _ (p : Code) (ss : List Slot) (start count : ℕ) where
               let i = both (test_lacks c.0 t) (_) l in
               let j = both (list_lacks c.0 a) (list_lacks c.0 c.1) i.1 in
               let m = h.1 j.1 in
-              record { middle = If t a m.middle; before = like_if t (likes_itself LeavesOne a) m.before; behind = x_if t k.0 i.0 (plain_items p ss c.0 false a k.1 j.0) m.behind }),
+              record {
+                middle = If t a m.middle;
+                before = like_if t (likes_itself LeavesOne a) m.before;
+                behind = x_if t k.0 i.0 (plain_items p ss c.0 false a k.1 j.0) m.behind;
+              }),
         )) (lists_made b k.2 false level))
     items_made (While t a) k level =
         each_around (Makes p ss start count false a) (MakesItem p ss start count (While t a)) (While t) (changed_lists start count level a)
@@ -284,7 +324,11 @@ module _ (p : Code) (ss : List Slot) (start count : ℕ) where
               let j = both (option_lacks c.0 t) (_) i.1 in
               let n = both (option_lacks c.0 u) (list_lacks c.0 a) j.1 in
               let m = h.1 i.0 in
-              record { middle = For m.middle t u a; before = like_for t u m.before (likes_itself LeavesOne a); behind = x_for false t u k.0.0 k.0.1 j.0 n.0 m.behind (plain_items p ss c.0 false a k.2 n.1) }),
+              record {
+                middle = For m.middle t u a;
+                before = like_for t u m.before (likes_itself LeavesOne a);
+                behind = x_for false t u k.0.0 k.0.1 j.0 n.0 m.behind (plain_items p ss c.0 false a k.2 n.1);
+              }),
         )) (lists_made f k.1 false level))
         (each_around (Makes p ss start count false a) (MakesItem p ss start count (For f t u a)) (For f t u) (changed_lists start count level a)
         (λ c h. (
@@ -295,7 +339,11 @@ module _ (p : Code) (ss : List Slot) (start count : ℕ) where
               let j = both (option_lacks c.0 t) (_) i.1 in
               let n = both (option_lacks c.0 u) (list_lacks c.0 c.1) j.1 in
               let m = h.1 n.1 in
-              record { middle = For f t u m.middle; before = like_for t u (likes_itself LeavesOne f) m.before; behind = x_for false t u k.0.0 k.0.1 j.0 n.0 (plain_items p ss c.0 false f k.1 i.0) m.behind }),
+              record {
+                middle = For f t u m.middle;
+                before = like_for t u (likes_itself LeavesOne f) m.before;
+                behind = x_for false t u k.0.0 k.0.1 j.0 n.0 (plain_items p ss c.0 false f k.1 i.0) m.behind;
+              }),
         )) (lists_made a k.2 false level))
     items_made (Switch s b) k level =
         each_around (MakesSections p ss start count b) (MakesItem p ss start count (Switch s b)) (Switch s) (changed_sections start count level b)
@@ -309,7 +357,8 @@ module _ (p : Code) (ss : List Slot) (start count : ℕ) where
         )) (sections_made b k.1 level)
     items_made (Block a) k level =
         each_around (Makes p ss start count false a) (MakesItem p ss start count (Block a)) Block (changed_lists start count level a)
-        (λ c h. (h.0, refl, (λ l. let m = h.1 l in record { middle = Block m.middle; before = like_block m.before; behind = x_block m.behind }))) (lists_made a k.1 false level)
+        (λ c h. (h.0, refl, (λ l. let m = h.1 l in record { middle = Block m.middle; before = like_block m.before; behind = x_block m.behind })))
+        (lists_made a k.1 false level)
     items_made (Evaluate e) k level = tt
     items_made (Return e) k level = tt
     items_made (Local x es) k level = tt
@@ -326,20 +375,32 @@ module _ (p : Code) (ss : List Slot) (start count : ℕ) where
     sections_made : (s : Sections) → EverywhereIn K s → (level : ℕ) → Each (MakesSections p ss start count s) (changed_sections start count level s)
     sections_made NoSection k level = tt
     sections_made (Section cases default a ends s) k level =
-        each_both (MakesSections p ss start count (Section cases default a ends s)) (around (λ b. Section cases default b ends s) (changed_lists start count level a)) _
-        (each_around (Makes p ss start count false a) (MakesSections p ss start count (Section cases default a ends s)) (λ b. Section cases default b ends s) (changed_lists start count level a)
+        each_both (MakesSections p ss start count (Section cases default a ends s))
+        (around (λ b. Section cases default b ends s) (changed_lists start count level a)) _
+        (each_around (Makes p ss start count false a) (MakesSections p ss start count (Section cases default a ends s))
+        (λ b. Section cases default b ends s) (changed_lists start count level a)
         (λ c h. (
           h.0,
           (λ l.
               let i = both (list_lacks c.0 c.1) (sections_lack c.0 s) l in
               let m = h.1 i.0 in
-              record { middle = Section cases default m.middle ends s; before = like_section cases default ends m.before (like_sections_itself LeavesOne s); behind = p_more cases default ends m.behind (plain_parts p ss c.0 s k.1 i.1) }),
+              record {
+                middle = Section cases default m.middle ends s;
+                before = like_section cases default ends m.before (like_sections_itself LeavesOne s);
+                behind =
+                    p_more cases default ends m.behind (plain_parts p ss c.0 s k.1 i.1);
+              }),
         )) (lists_made a k.0 false level))
-        (each_around (MakesSections p ss start count s) (MakesSections p ss start count (Section cases default a ends s)) (Section cases default a ends) (changed_sections start count level s)
+        (each_around (MakesSections p ss start count s) (MakesSections p ss start count (Section cases default a ends s))
+        (Section cases default a ends) (changed_sections start count level s)
         (λ c h. (
           h.0,
           (λ l.
               let i = both (list_lacks c.0 a) (sections_lack c.0 c.1) l in
               let m = h.1 i.1 in
-              record { middle = Section cases default a ends m.middle; before = like_section cases default ends (likes_itself LeavesOne a) m.before; behind = p_more cases default ends (plain_items p ss c.0 false a k.0 i.0) m.behind }),
+              record {
+                middle = Section cases default a ends m.middle;
+                before = like_section cases default ends (likes_itself LeavesOne a) m.before;
+                behind = p_more cases default ends (plain_items p ss c.0 false a k.0 i.0) m.behind;
+              }),
         )) (sections_made s k.1 level))

@@ -41,7 +41,8 @@ module _ (p : Code) (sh : Shapes) (holes : ℕ → ℕ) (c : ℕ) where
   abbrev pub Ends : (Completion → Bool) → Meaning → Meaning → Type 0
   Ends at m n = (w u : World) → Apart p sh holes false c w u → Alike (Done at) (m w) (n u)
 
-  pub then_done : {B : Type 0} (at : Completion → Bool) (R : B → World → B → World → Type 0) (x y : Evaluation Completion) (f h : Completion → World → Evaluation B)
+  pub then_done : {B : Type 0} (at : Completion → Bool) (R : B → World → B → World → Type 0) (x y : Evaluation Completion)
+      (f h : Completion → World → Evaluation B)
       → Alike (Done at) x y → ((e : Completion) (w u : World) → Apart p sh holes (at e) c w u → Alike R (f e w) (h e u)) → Alike R (and_then x f) (and_then y h)
   then_done at R x y f h k l = bind_alike (Done at) R x y f h k (λ e w d u i. subst (λ z. Alike R (f e w) (h z u)) (sym i.0) (l e w u i.1))
 
@@ -72,28 +73,34 @@ module _ (p : Code) (sh : Shapes) (holes : ℕ → ℕ) (c : ℕ) where
 
   -- ---- lists
 
-  pub followed_ends : (b : Bool) (e : Completion) (m n : Meaning) → Ends (breaking b) m n → (w u : World) → Apart p sh holes (breaking b e) c w u → Alike (Done (breaking b)) (followed m e w) (followed n e u)
+  pub followed_ends : (b : Bool) (e : Completion) (m n : Meaning) → Ends (breaking b) m n → (w u : World) → Apart p sh holes (breaking b e) c w u →
+      Alike (Done (breaking b)) (followed m e w) (followed n e u)
   followed_ends b Normal m n h w u a = h w u a
   followed_ends b Broken m n h w u a = (refl, a)
   followed_ends b Continued m n h w u a = (refl, a)
   followed_ends b (Returned v) m n h w u a = (refl, a)
 
   pub seq_ends : (b : Bool) (x y m n : Meaning) → Ends (breaking b) x y → Ends (breaking b) m n → Ends (breaking b) (λ w. seq (x w) m) (λ w. seq (y w) n)
-  seq_ends b x y m n h k w u a = then_done (breaking b) (Done (breaking b)) (x w) (y u) (followed m) (followed n) (h w u a) (λ e w u a. followed_ends b e m n k w u a)
+  seq_ends b x y m n h k w u a = then_done (breaking b) (Done (breaking b)) (x w) (y u) (followed m) (followed n) (h w u a)
+      (λ e w u a. followed_ends b e m n k w u a)
 
   -- ---- loops
 
-  turned_ends : (e : Completion) (m n : Meaning) → Ends (breaking false) m n → (w u : World) → Apart p sh holes (breaking false e) c w u → Alike (Done (breaking false)) (turned m e w) (turned n e u)
+  turned_ends : (e : Completion) (m n : Meaning) → Ends (breaking false) m n → (w u : World) → Apart p sh holes (breaking false e) c w u →
+      Alike (Done (breaking false)) (turned m e w) (turned n e u)
   turned_ends Normal m n h w u a = h w u a
   turned_ends Broken m n h w u a = (refl, a)
   turned_ends Continued m n h w u a = h w u a
   turned_ends (Returned v) m n h w u a = (refl, a)
 
-  pub body_ends : (x y m n : Meaning) → Ends (breaking false) x y → Ends (breaking false) m n → Ends (breaking false) (λ w. body_then (x w) m) (λ w. body_then (y w) n)
-  body_ends x y m n h k w u a = then_done (breaking false) (Done (breaking false)) (x w) (y u) (turned m) (turned n) (h w u a) (λ e w u a. turned_ends e m n k w u a)
+  pub body_ends : (x y m n : Meaning) → Ends (breaking false) x y → Ends (breaking false) m n →
+      Ends (breaking false) (λ w. body_then (x w) m) (λ w. body_then (y w) n)
+  body_ends x y m n h k w u a = then_done (breaking false) (Done (breaking false)) (x w) (y u) (turned m) (turned n) (h w u a)
+      (λ e w u a. turned_ends e m n k w u a)
 
   -- a `break` of the body may leave the slot on
-  turned_stops : (e : Completion) (m n : Meaning) → Ends normally m n → (w u : World) → Apart p sh holes (breaking true e) c w u → Alike (Done normally) (turned m e w) (turned n e u)
+  turned_stops : (e : Completion) (m n : Meaning) → Ends normally m n → (w u : World) → Apart p sh holes (breaking true e) c w u →
+      Alike (Done normally) (turned m e w) (turned n e u)
   turned_stops Normal m n h w u a = h w u a
   turned_stops Broken m n h w u a = (refl, a)
   turned_stops Continued m n h w u a = h w u a
@@ -135,23 +142,29 @@ module _ (p : Code) (sh : Shapes) (holes : ℕ → ℕ) (c : ℕ) where
   end_ends true m n h w u a = (refl, a)
   end_ends false m n h w u a = h w u a
 
-  pub fall_ends : (m n : Meaning) (ends : Bool) (i j : Meaning) → Ends (breaking false) m n → Ends (breaking false) i j → Ends (breaking false) (fall m ends i) (fall n ends j)
+  pub fall_ends : (m n : Meaning) (ends : Bool) (i j : Meaning) → Ends (breaking false) m n → Ends (breaking false) i j →
+      Ends (breaking false) (fall m ends i) (fall n ends j)
   fall_ends m n ends i j h k = seq_ends false m n (unless_end ends i) (unless_end ends j) h (end_ends ends i j k)
 
   module _ (L M : LessFuel) where
     -- a test, then what it decides
-    pub decide_ends : (at : Completion → Bool) (f h : World → Evaluation Value) → Values p sh holes c L M None f h → (i j : Value → Meaning) → ((v : Value) → Ends at (i v) (j v)) → Ends at (λ w. and_then (f w) i) (λ w. and_then (h w) j)
+    pub decide_ends : (at : Completion → Bool) (f h : World → Evaluation Value) → Values p sh holes c L M None f h → (i j : Value → Meaning) →
+        ((v : Value) → Ends at (i v) (j v)) → Ends at (λ w. and_then (f w) i) (λ w. and_then (h w) j)
     decide_ends at f h k i j l w u a = then_number p sh holes c L M None (Done at) f h i j k (λ v w u s a. l v w u a) w u a
 
     module _ (calls : CallsAlike p sh holes c L M) where
-      pub test_alike : (t : TestTree) → KindedTest p (sh c).slots t → test_lacks (holes c) t ≡ true → Values p sh holes c L M None (eval_test L t) (eval_test M (renumbered_test (holes c) t))
-      test_alike (Source e) k l w u a = no_kind p sh holes c L M (kind_of e) (eval L false e) (eval M false (renumbered (holes c) e)) (value_alike p sh holes c L M calls e k.0 l false) w u a
+      pub test_alike : (t : TestTree) → KindedTest p (sh c).slots t → test_lacks (holes c) t ≡ true →
+          Values p sh holes c L M None (eval_test L t) (eval_test M (renumbered_test (holes c) t))
+      test_alike (Source e) k l w u a = no_kind p sh holes c L M (kind_of e) (eval L false e) (eval M false (renumbered (holes c) e))
+          (value_alike p sh holes c L M calls e k.0 l false) w u a
       test_alike (On i) k l w u a = ((tt, tt), refl, a)
       test_alike (Off i) k l w u a = ((tt, tt), refl, a)
       test_alike (AndOff i t) k l w u a = test_alike t k l w u a
       test_alike (OrOn i t) k l w u a = test_alike t k l w u a
 
-      pub selector_alike : (s : SelectorTree) → KindedSelector p (sh c).slots s → selector_lacks (holes c) s ≡ true → Values p sh holes c L M None (eval_selector L s) (eval_selector M (renumbered_selector (holes c) s))
-      selector_alike (Selects e) k l w u a = then_number p sh holes c L M (kind_of e) (Post p sh holes c (Num None)) (eval L false e) (eval M false (renumbered (holes c) e)) _ _ (value_alike p sh holes c L M calls e k l false)
+      pub selector_alike : (s : SelectorTree) → KindedSelector p (sh c).slots s → selector_lacks (holes c) s ≡ true →
+          Values p sh holes c L M None (eval_selector L s) (eval_selector M (renumbered_selector (holes c) s))
+      selector_alike (Selects e) k l w u a = then_number p sh holes c L M (kind_of e) (Post p sh holes c (Num None)) (eval L false e)
+          (eval M false (renumbered (holes c) e)) _ _ (value_alike p sh holes c L M calls e k l false)
           (λ v w u s a. ((tt, tt), ap (λ k. converted_value (promoted (operand_kind k)) v) (kind_stays (holes c) e), a)) w u a
       selector_alike (Pick i n s) k l w u a = selector_alike s k l w u a

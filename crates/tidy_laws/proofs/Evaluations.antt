@@ -11,7 +11,8 @@ Alike R (Quits n w) (Quits k u) = (k ≡ n) × (u.events ≡ w.events)
 Alike R (Spent w) (Spent u) = u.events ≡ w.events
 Alike R _ _ = ⊥
 
-pub bind_alike : {A B C D : Type 0} (R : A → World → B → World → Type 0) (S : C → World → D → World → Type 0) (x : Evaluation A) (y : Evaluation B) (f : A → World → Evaluation C) (g : B → World → Evaluation D)
+pub bind_alike : {A B C D : Type 0} (R : A → World → B → World → Type 0) (S : C → World → D → World → Type 0) (x : Evaluation A) (y : Evaluation B)
+    (f : A → World → Evaluation C) (g : B → World → Evaluation D)
     → Alike R x y → ((a : A) (w : World) (b : B) (u : World) → R a w b u → Alike S (f a w) (g b u)) → Alike S (and_then x f) (and_then y g)
 bind_alike R S (Yields a w) (Yields b u) f g h k = k a w b u h
 bind_alike R S (Faults t w) (Faults s u) f g h k = h
@@ -31,7 +32,8 @@ bind_alike R S (Spent w) (Faults s u) f g h k = absurd h
 bind_alike R S (Spent w) (Quits m u) f g h k = absurd h
 
 -- what is related more loosely
-pub looser : {A B : Type 0} (R S : A → World → B → World → Type 0) (x : Evaluation A) (y : Evaluation B) → ((a : A) (w : World) (b : B) (u : World) → R a w b u → S a w b u) → Alike R x y → Alike S x y
+pub looser : {A B : Type 0} (R S : A → World → B → World → Type 0) (x : Evaluation A) (y : Evaluation B) →
+    ((a : A) (w : World) (b : B) (u : World) → R a w b u → S a w b u) → Alike R x y → Alike S x y
 looser R S (Yields a w) (Yields b u) k h = k a w b u h
 looser R S (Faults t w) (Faults s u) k h = h
 looser R S (Quits n w) (Quits m u) k h = h

@@ -43,9 +43,11 @@ is_one true h = refl
 is_one false h = cc
 
 -- while the slot is off, `!g` is 1
-pub off_on : (L : LessFuel) (g : ℕ) (e : ExpressionTree) → is_off g e ≡ true → (d : Bool) (w : World) → is_on g w ≡ false → eval L d e w ≡ Yields (Integer (pos 1)) w
+pub off_on : (L : LessFuel) (g : ℕ) (e : ExpressionTree) → is_off g e ≡ true → (d : Bool) (w : World) → is_on g w ≡ false →
+    eval L d e w ≡ Yields (Integer (pos 1)) w
 off_on L g (Typed k (Unary Not e)) h d w off =
-    ap (λ x. and_then x (λ v u. Yields (Integer (truth (is_zero (integer v)))) u)) (read_is L g e h false w) ∙ ap (λ v. Yields v w) (is_one (is_zero (load (place (H.Slot g) w) w)) off)
+    ap (λ x. and_then x (λ v u. Yields (Integer (truth (is_zero (integer v)))) u)) (read_is L g e h false w) ∙
+    ap (λ v. Yields v w) (is_one (is_zero (load (place (H.Slot g) w) w)) off)
 off_on L g e h d w off = cc
 
 zero_of : (z : ℤ) → not (is_zero z) ≡ false → z ≡ pos 0
@@ -104,7 +106,8 @@ module _ (p : Code) (sh : Shapes) (holes : ℕ → ℕ) (c : ℕ) where
   apart_slot d x h e = other x (holes d) h (sym (ap slot_of e) ∙ ap holes (ap call_of e))
 
   -- the slot is set
-  pub set_apart : (on new : Bool) (z : ℤ) (w u : World) → (new ≡ false → converted Int z ≡ pos 0) → Apart p sh holes on c w u → Apart p sh holes new c (set_to z w) u
+  pub set_apart : (on new : Bool) (z : ℤ) (w u : World) → (new ≡ false → converted Int z ≡ pos 0) → Apart p sh holes on c w u →
+      Apart p sh holes new c (set_to z w) u
   set_apart on new z w u e a = record {
     calls = a.calls;
     same_calls = a.same_calls;
@@ -114,10 +117,13 @@ module _ (p : Code) (sh : Shapes) (holes : ℕ → ℕ) (c : ℕ) where
     events = a.events;
     sealed = a.sealed;
     file_same = λ m. a.file_same m ∙ sym (put_beside slot (OfFile m) v w.variables (λ i. true≢false (ap is_of_call i)));
-    file_good = λ m. subst (λ y. Good p sh 0 (kind_held (p.globals m)) true y) (sym (put_beside slot (OfFile m) v w.variables (λ i. true≢false (ap is_of_call i)))) (a.file_good m);
+    file_good = λ m. subst (λ y. Good p sh 0 (kind_held (p.globals m)) true y)
+        (sym (put_beside slot (OfFile m) v w.variables (λ i. true≢false (ap is_of_call i)))) (a.file_good m);
     call_same = λ d x h i k. a.call_same d x h i k ∙ ap (new_variable holes) (sym (put_beside slot (OfCall d x) v w.variables (apart_slot d x k)));
-    call_good = λ d x h i k. subst (λ y. Good p sh d (entry_or no_slot (sh d).slots x).kind ((sh d).own x) y) (sym (put_beside slot (OfCall d x) v w.variables (apart_slot d x k))) (a.call_good d x h i k);
-    older = λ d h. subst (IsFlag false) (sym (put_beside slot (OfCall d (holes d)) v w.variables (λ i. let q : c ≡ d = ap call_of i in omega (arith, q, h)))) (a.older d h);
+    call_good = λ d x h i k. subst (λ y. Good p sh d (entry_or no_slot (sh d).slots x).kind ((sh d).own x) y)
+        (sym (put_beside slot (OfCall d x) v w.variables (apart_slot d x k))) (a.call_good d x h i k);
+    older = λ d h. subst (IsFlag false) (sym (put_beside slot (OfCall d (holes d)) v w.variables
+        (λ i. let q : c ≡ d = ap call_of i in omega (arith, q, h)))) (a.older d h);
     newest = subst (IsFlag new) (sym (put_here slot v w.variables)) (flag_set on new z (w.variables slot) e a.newest);
   }
     where

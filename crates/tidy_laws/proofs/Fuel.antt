@@ -27,7 +27,8 @@ entry_grows : (f : FunctionTree) (v : Value) (w : World) → OutcomeGrows w.even
 entry_grows f v w = either (OutcomeGrows w.events) (lacks f v) (Traps Trap.NoValue w) (Exits (integer v) w) (grows_refl w.events) (grows_refl w.events)
 
 -- a body in the World of its call, then what its end leaves
-body_near : (s : Bool) (m n : Meaning) (leave : Completion → World → Outcome) → ((w : World) → Near s w (m w) (n w)) → ((c : Completion) (w : World) → OutcomeGrows w.events (leave c w))
+body_near : (s : Bool) (m n : Meaning) (leave : Completion → World → Outcome) → ((w : World) → Near s w (m w) (n w)) →
+    ((c : Completion) (w : World) → OutcomeGrows w.events (leave c w))
     → (w : World) (r : Result World Trap) → ResultGrows w r → Near s w (call_body m leave w r) (call_body n leave w r)
 body_near s m n leave h k w (Ok u) g = near_from s w u _ _ g (bind s u _ _ _ _ (h u) (λ c v. near_given s v (leave c v) (k c v)))
 body_near s m n leave h k w (Err t) g = near_refl s w _ (grows_refl w.events)
@@ -37,7 +38,8 @@ module _ (R : Tree → Tree → Type 0) (s : Bool) (L M : LessFuel) (less : Less
       → Near s w (called L d m f o vs w) (called M d m (record f { body = b }) b vs w)
   called_near d m f None None h vs w = near_given s w (call_without_body m f vs w) (without_body_grows m f vs w)
   called_near d m f (Some a) (Some b) h vs w =
-      body_near s (execs L a) (execs M b) (λ c w. leave_call d f (value_left m f c) w) (execs_near R s L M less swapped h) (λ c w. leave_grows d f (value_left m f c) w) w (push f vs w) (push_grows f vs w)
+      body_near s (execs L a) (execs M b) (λ c w. leave_call d f (value_left m f c) w) (execs_near R s L M less swapped h)
+      (λ c w. leave_grows d f (value_left m f c) w) w (push f vs w) (push_grows f vs w)
   called_near d m f None (Some b) h vs w = absurd h
   called_near d m f (Some a) None h vs w = absurd h
 
@@ -47,7 +49,8 @@ module _ (R : Tree → Tree → Type 0) (s : Bool) (L M : LessFuel) (less : Less
       subst (λ g. Near s w (called L d m (p.functions m) (p.functions m).body vs w) (called M d m g g.body vs w)) (sym f.same)
       (called_near d m (p.functions m) (p.functions m).body f.body f.like vs w)
 
-  items_near : (f : FunctionTree) (o b : Option Forest) → LikeBody R o b → Nearly s L M (execs L (items_of (record f { body = o }))) (execs M (items_of (record f { body = b })))
+  items_near : (f : FunctionTree) (o b : Option Forest) → LikeBody R o b →
+      Nearly s L M (execs L (items_of (record f { body = o }))) (execs M (items_of (record f { body = b })))
   items_near f None None h w = execs_near R s L M less swapped (likes_itself R Nil) w
   items_near f (Some a) (Some b) h w = execs_near R s L M less swapped h w
   items_near f None (Some b) h w = absurd h
@@ -57,12 +60,14 @@ module _ (R : Tree → Tree → Type 0) (s : Bool) (L M : LessFuel) (less : Less
   abbrev entry_of : LessFuel → List ℕ → FunctionTree → List ℤ → World → Evaluation Value
   entry_of K m f arguments w = call_body (execs K (items_of f)) (λ c w. leave_entry f (value_left m f c) w) w (push f (map Integer arguments) w)
 
-  pub entry_near : (p q : Code) → LikeCode R p q → (m : List ℕ) (arguments : List ℤ) (w : World) → Near s w (entry_call p L m arguments w) (entry_call q M m arguments w)
+  pub entry_near : (p q : Code) → LikeCode R p q → (m : List ℕ) (arguments : List ℤ) (w : World) →
+      Near s w (entry_call p L m arguments w) (entry_call q M m arguments w)
   entry_near p q like m arguments w =
       let h = like.functions m in
       let f = p.functions m in
       subst (λ g. Near s w (entry_of L m f arguments w) (entry_of M m g arguments w)) (sym h.same)
-      (body_near s (execs L (items_of f)) (execs M (items_of (record f { body = h.body }))) (λ c w. leave_entry f (value_left m f c) w) (items_near f f.body h.body h.like)
+      (body_near s (execs L (items_of f)) (execs M (items_of (record f { body = h.body }))) (λ c w. leave_entry f (value_left m f c) w)
+      (items_near f f.body h.body h.like)
       (λ c w. entry_grows f (value_left m f c) w) w (push f (map Integer arguments) w) (push_grows f (map Integer arguments) w))
 
 -- ---- every amount of fuel
@@ -73,7 +78,8 @@ fuel_of true n = n
 fuel_of false n = suc n
 
 module _ (R : Tree → Tree → Type 0) (p q : Code) (like : LikeCode R p q)
-    (swapped : (s : Bool) (n : ℕ) → LessNear R s (with_fuel p (fuel_of s n)) (with_fuel q n) → ExchangedNear R s (with_fuel p (fuel_of s n)) (with_fuel q n)) where
+    (swapped : (s : Bool) (n : ℕ) → LessNear R s (with_fuel p (fuel_of s n)) (with_fuel q n) →
+    ExchangedNear R s (with_fuel p (fuel_of s n)) (with_fuel q n)) where
   both : (n : ℕ) → LessNear R true (with_fuel p n) (with_fuel q n)
   both zero = record {
     again = λ x y h w. near_refl true w _ (grows_refl w.events);
@@ -145,11 +151,13 @@ module _ (R : Tree → Tree → Type 0) (p q : Code) (like : LikeCode R p q)
       forth = λ n. (
         n,
         subst (λ x. Covers (stands (old_run n)) x) (sym (new_same n))
-            (covers (old_run n) (new_run n) (entry_near R true (with_fuel p n) (with_fuel q n) (both n) (swapped true n (both n)) p q like m arguments (begun p.globals p.cells)).met),
+            (covers (old_run n) (new_run n) (entry_near R true (with_fuel p n) (with_fuel q n) (both n) (swapped true n (both n)) p q like m arguments
+            (begun p.globals p.cells)).met),
       );
       back = λ n. (
         suc n,
         subst (λ x. Covers x (stands (old_run (suc n)))) (sym (new_same n))
-            (covers (new_run n) (old_run (suc n)) (entry_near R false (with_fuel p (suc n)) (with_fuel q n) (more n) (swapped false n (more n)) p q like m arguments (begun p.globals p.cells)).met),
+            (covers (new_run n) (old_run (suc n)) (entry_near R false (with_fuel p (suc n)) (with_fuel q n) (more n) (swapped false n (more n)) p q
+            like m arguments (begun p.globals p.cells)).met),
       );
     }

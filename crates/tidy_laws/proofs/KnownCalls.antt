@@ -34,9 +34,11 @@ module _ (holes : ℕ → ℕ) where
   either_same false w x y z h k = k
 
   -- an argument that is written, then what follows it
-  written : (h : ℤ → List ℕ) (cs : List ℕ) (vs : List Value) → printed InText cs (images (later vs)) ≡ printed InText cs (later vs) → h (next (images vs)) ++ printed InText cs (later (images vs)) ≡ h (next vs) ++ printed InText cs (later vs)
+  written : (h : ℤ → List ℕ) (cs : List ℕ) (vs : List Value) → printed InText cs (images (later vs)) ≡ printed InText cs (later vs) →
+      h (next (images vs)) ++ printed InText cs (later (images vs)) ≡ h (next vs) ++ printed InText cs (later vs)
   written h cs vs k =
-      ap (λ n. h n ++ printed InText cs (later (images vs))) (next_stays vs) ∙ ap (λ ys. h (next vs) ++ printed InText cs ys) (later_stays vs) ∙ ap (λ z. h (next vs) ++ z) k
+      ap (λ n. h n ++ printed InText cs (later (images vs))) (next_stays vs) ∙ ap (λ ys. h (next vs) ++ printed InText cs ys) (later_stays vs) ∙
+      ap (λ z. h (next vs) ++ z) k
 
   printed_stays : (r : Reading) (bs : List ℕ) (vs : List Value) → printed r bs (images vs) ≡ printed r bs vs
   printed_stays r [] vs = refl
@@ -49,7 +51,8 @@ module _ (holes : ℕ → ℕ) where
       (either_same (c == 120) _ _ _ _ (written in_hexadecimal cs vs (printed_stays InText cs (later vs)))
       (written (λ n. residue UChar n ∷ []) cs vs (printed_stays InText cs (later vs)))))))
   printed_stays AfterL (c ∷ cs) vs =
-      either_same (c == 100) _ _ _ _ (written (in_decimal Long) cs vs (printed_stays InText cs (later vs))) (written (in_decimal ULong) cs vs (printed_stays InText cs (later vs)))
+      either_same (c == 100) _ _ _ _ (written (in_decimal Long) cs vs (printed_stays InText cs (later vs)))
+      (written (in_decimal ULong) cs vs (printed_stays InText cs (later vs)))
 
   bytes_stay : (vs : List Value) → printed_bytes (images vs) ≡ printed_bytes vs
   bytes_stay (Format bs ∷ vs) = printed_stays InText bs vs
@@ -62,7 +65,8 @@ module _ (holes : ℕ → ℕ) where
   arguments_stay : (ss : List Slot) (vs : List Value) → converted_arguments ss (images vs) ≡ converted_arguments ss vs
   arguments_stay [] vs = refl
   arguments_stay (s ∷ ss) [] = refl
-  arguments_stay (s ∷ ss) (v ∷ vs) = ap (λ n. converted s.kind n ∷ converted_arguments ss (images vs)) (integer_stays v) ∙ ap (λ ns. converted s.kind (integer v) ∷ ns) (arguments_stay ss vs)
+  arguments_stay (s ∷ ss) (v ∷ vs) = ap (λ n. converted s.kind n ∷ converted_arguments ss (images vs)) (integer_stays v) ∙
+      ap (λ ns. converted s.kind (integer v) ∷ ns) (arguments_stay ss vs)
 
   pub without_body_stays : (m : List ℕ) (f : FunctionTree) (vs : List Value) (w : World) → call_without_body m f (images vs) w ≡ call_without_body m f vs w
   without_body_stays m f vs w =

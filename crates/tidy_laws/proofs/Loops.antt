@@ -47,22 +47,27 @@ module _ (R : Tree → Tree → Type 0) (g : ℕ) (into : (x y : Tree) → Leave
     while_near t a e w =
         let b = leaves g by_break a in
         bind s w _ _ _ _ (test_near s L M less.calls t w)
-        (λ v u. near_chosen s L M (holds v) (λ w. body_then (execs L a w) (L.again (While t a))) nothing (λ w. body_then (execs M b w) (M.again (While t b))) nothing
-        (λ w. broken_near (L.again (While t a)) (M.again (While t b)) (less.again (While t a) (While t b) (exchanged (into _ _ (breaks_while t a e)))) (stopped t a e)
+        (λ v u. near_chosen s L M (holds v) (λ w. body_then (execs L a w) (L.again (While t a))) nothing
+        (λ w. body_then (execs M b w) (M.again (While t b))) nothing
+        (λ w. broken_near (L.again (While t a)) (M.again (While t b)) (less.again (While t a) (While t b) (exchanged (into _ _ (breaks_while t a e))))
+        (stopped t a e)
         w (execs L a w) (execs M a w) (execs M b w) (itself_near R s L M less a w) (list_left M g by_break (break_escapes M g) a w))
         (λ w. near_yields s w _) u)
 
     do_ended : (t : TestTree) (a : Forest) → stops g t ≡ true → (w : World) → is_on g w ≡ true
         → Near s w (and_then (eval_test L t w) (λ v w. chosen (holds v) (L.again (Do a t)) nothing w)) (Yields Normal w)
     do_ended t a e w on =
-        subst (λ z. Near s w z (Yields Normal w)) (sym (ap (λ z. and_then z (λ v w. chosen (holds v) (L.again (Do a t)) nothing w)) (stop_is L g t e w on))) (near_yields s w Normal)
+        subst (λ z. Near s w z (Yields Normal w))
+        (sym (ap (λ z. and_then z (λ v w. chosen (holds v) (L.again (Do a t)) nothing w)) (stop_is L g t e w on))) (near_yields s w Normal)
 
     do_left_near : (t : TestTree) (a : Forest) → stops g t ≡ true → Nearly s L M (exec L (Do a t)) (exec M (Do (leaves g by_break a) t))
     do_left_near t a e w =
         let b = leaves g by_break a in
-        broken_near (λ w. and_then (eval_test L t w) (λ v w. chosen (holds v) (L.again (Do a t)) nothing w)) (λ w. and_then (eval_test M t w) (λ v w. chosen (holds v) (M.again (Do b t)) nothing w))
+        broken_near (λ w. and_then (eval_test L t w) (λ v w. chosen (holds v) (L.again (Do a t)) nothing w))
+        (λ w. and_then (eval_test M t w) (λ v w. chosen (holds v) (M.again (Do b t)) nothing w))
         (λ u. bind s u _ _ _ _ (test_near s L M less.calls t u)
-        (λ v x. near_chosen s L M (holds v) (L.again (Do a t)) nothing (M.again (Do b t)) nothing (less.again (Do a t) (Do b t) (exchanged (into _ _ (breaks_do t a e)))) (λ w. near_yields s w _) x))
+        (λ v x. near_chosen s L M (holds v) (L.again (Do a t)) nothing (M.again (Do b t)) nothing
+        (less.again (Do a t) (Do b t) (exchanged (into _ _ (breaks_do t a e)))) (λ w. near_yields s w _) x))
         (do_ended t a e)
         w (execs L a w) (execs M a w) (execs M b w) (itself_near R s L M less a w) (list_left M g by_break (break_escapes M g) a w)
 
@@ -77,11 +82,13 @@ module _ (R : Tree → Tree → Type 0) (g : ℕ) (into : (x y : Tree) → Leave
     continued_near m n near w x y z h q =
         let r = execs L (one (reset g)) in
         let r' = execs M (one (reset g)) in
-        let base = bind s w (seq x r) (seq y r') (turned m) (turned n) (bind s w x y (followed r) (followed r') h (λ c u. near_followed R s L M c r r' (itself_near R s L M less (one (reset g))) u))
+        let base = bind s w (seq x r) (seq y r') (turned m) (turned n)
+        (bind s w x y (followed r) (followed r') h (λ c u. near_followed R s L M c r r' (itself_near R s L M less (one (reset g))) u))
         (λ c u. near_turned R s L M c m n near u) in
         elim q as (λ _. Near s w (body_then (seq x r) m) (body_then (seq z r') n)) [
           | inl e ↦ subst (λ z. Near s w (body_then (seq x r) m) (body_then (seq z r') n)) (sym e) base
-          | inr p ↦ subst (λ z. Near s w (body_then (seq x r) m) (body_then (seq z r') n)) (sym p.3) (subst (λ y. Near s w (body_then (seq x r) m) (body_then (seq y r') n)) p.1 base)
+          | inr p ↦ subst (λ z. Near s w (body_then (seq x r) m) (body_then (seq z r') n)) (sym p.3)
+              (subst (λ y. Near s w (body_then (seq x r) m) (body_then (seq y r') n)) p.1 base)
         ]
 
     -- such a body, as a list
@@ -91,34 +98,41 @@ module _ (R : Tree → Tree → Type 0) (g : ℕ) (into : (x y : Tree) → Leave
         let b = leaves g (by_continue g) a in
         subst (λ x. Near s w (body_then x m) (body_then (execs M (zero_last b) w) n)) (sym (join_is L a (one (reset g)) w))
         (subst (λ z. Near s w (body_then (seq (execs L a w) (execs L (one (reset g)))) m) (body_then z n)) (sym (join_is M b (one (reset g)) w))
-        (continued_near m n near w (execs L a w) (execs M a w) (execs M b w) (itself_near R s L M less a w) (list_left M g (by_continue g) (continue_escapes M g) a w)))
+        (continued_near m n near w (execs L a w) (execs M a w) (execs M b w) (itself_near R s L M less a w)
+        (list_left M g (by_continue g) (continue_escapes M g) a w)))
 
     while_zero : (t : TestTree) (a : Forest) → Nearly s L M (exec L (While t (zero_last a))) (exec M (While t (zero_last (leaves g (by_continue g) a))))
     while_zero t a w =
         let x = While t (zero_last a) in
         let y = While t (zero_last (leaves g (by_continue g) a)) in
         bind s w _ _ _ _ (test_near s L M less.calls t w)
-        (λ v u. near_chosen s L M (holds v) (λ w. body_then (execs L (zero_last a) w) (L.again x)) nothing (λ w. body_then (execs M (zero_last (leaves g (by_continue g) a)) w) (M.again y)) nothing
+        (λ v u. near_chosen s L M (holds v) (λ w. body_then (execs L (zero_last a) w) (L.again x)) nothing
+        (λ w. body_then (execs M (zero_last (leaves g (by_continue g) a)) w) (M.again y)) nothing
         (turn_near a (L.again x) (M.again y) (less.again x y (exchanged (into _ _ (continues_while t a))))) (λ w. near_yields s w _) u)
 
     do_zero : (t : TestTree) (a : Forest) → Nearly s L M (exec L (Do (zero_last a) t)) (exec M (Do (zero_last (leaves g (by_continue g) a)) t))
     do_zero t a w =
         let x = Do (zero_last a) t in
         let y = Do (zero_last (leaves g (by_continue g) a)) t in
-        turn_near a (λ w. and_then (eval_test L t w) (λ v w. chosen (holds v) (L.again x) nothing w)) (λ w. and_then (eval_test M t w) (λ v w. chosen (holds v) (M.again y) nothing w))
+        turn_near a (λ w. and_then (eval_test L t w) (λ v w. chosen (holds v) (L.again x) nothing w))
+        (λ w. and_then (eval_test M t w) (λ v w. chosen (holds v) (M.again y) nothing w))
         (λ u. bind s u _ _ _ _ (test_near s L M less.calls t u)
-        (λ v i. near_chosen s L M (holds v) (L.again x) nothing (M.again y) nothing (less.again x y (exchanged (into _ _ (continues_do t a)))) (λ w. near_yields s w _) i)) w
+        (λ v i. near_chosen s L M (holds v) (L.again x) nothing (M.again y) nothing (less.again x y (exchanged (into _ _ (continues_do t a))))
+        (λ w. near_yields s w _) i)) w
 
     for_zero : (t u : Option ExpressionTree) (a : Forest) → Nearly s L M (for_turn L t u (zero_last a) (execs L (zero_last a)))
         (for_turn M t u (zero_last (leaves g (by_continue g) a)) (execs M (zero_last (leaves g (by_continue g) a))))
     for_zero None u a w =
         let b = zero_last (leaves g (by_continue g) a) in
-        turn_near a (third_part L None u (zero_last a)) (third_part M None u b) (third_near R s L M less None u (zero_last a) b (exchanged (into _ _ (continues_for Nil None u a)))) w
+        turn_near a (third_part L None u (zero_last a)) (third_part M None u b)
+        (third_near R s L M less None u (zero_last a) b (exchanged (into _ _ (continues_for Nil None u a)))) w
     for_zero (Some e) u a w =
         let b = zero_last (leaves g (by_continue g) a) in
         bind s w _ _ _ _ (eval_near s L M less.calls e false w)
-        (λ v x. near_chosen s L M (holds v) (λ w. body_then (execs L (zero_last a) w) (third_part L (Some e) u (zero_last a))) nothing (λ w. body_then (execs M b w) (third_part M (Some e) u b)) nothing
-        (turn_near a (third_part L (Some e) u (zero_last a)) (third_part M (Some e) u b) (third_near R s L M less (Some e) u (zero_last a) b (exchanged (into _ _ (continues_for Nil (Some e) u a)))))
+        (λ v x. near_chosen s L M (holds v) (λ w. body_then (execs L (zero_last a) w) (third_part L (Some e) u (zero_last a))) nothing
+        (λ w. body_then (execs M b w) (third_part M (Some e) u b)) nothing
+        (turn_near a (third_part L (Some e) u (zero_last a)) (third_part M (Some e) u b)
+        (third_near R s L M less (Some e) u (zero_last a) b (exchanged (into _ _ (continues_for Nil (Some e) u a)))))
         (λ w. near_yields s w _) x)
 
     -- ---- each exchanged item runs alike

@@ -29,13 +29,18 @@ module _ (start count : ℕ) where
     lists_reach Nil level = tt
     lists_reach (Then x xs) level =
         each_both Reach (changed_here start count level x xs) _ (here_reach level x xs)
-        (each_both Reach _ _ (around_reach (λ y. Then y xs) (changed_items start count (suc level) x) (items_reach x (suc level))) (around_reach (Then x) (changed_lists start count level xs) (lists_reach xs level)))
+        (each_both Reach _ _ (around_reach (λ y. Then y xs) (changed_items start count (suc level) x) (items_reach x (suc level)))
+        (around_reach (Then x) (changed_lists start count level xs) (lists_reach xs level)))
 
     items_reach : (x : Tree) (level : ℕ) → Each Reach (changed_items start count level x)
-    items_reach (If t a b) level = each_both Reach (around (λ c. If t c b) (changed_lists start count level a)) _ (around_reach (λ c. If t c b) (changed_lists start count level a) (lists_reach a level)) (around_reach (If t a) (changed_lists start count level b) (lists_reach b level))
+    items_reach (If t a b) level = each_both Reach (around (λ c. If t c b) (changed_lists start count level a))
+        _ (around_reach (λ c. If t c b) (changed_lists start count level a) (lists_reach a level))
+        (around_reach (If t a) (changed_lists start count level b) (lists_reach b level))
     items_reach (While t a) level = around_reach (While t) (changed_lists start count level a) (lists_reach a level)
     items_reach (Do a t) level = around_reach (λ c. Do c t) (changed_lists start count level a) (lists_reach a level)
-    items_reach (For f t u a) level = each_both Reach (around (λ c. For c t u a) (changed_lists start count level f)) _ (around_reach (λ c. For c t u a) (changed_lists start count level f) (lists_reach f level)) (around_reach (For f t u) (changed_lists start count level a) (lists_reach a level))
+    items_reach (For f t u a) level = each_both Reach (around (λ c. For c t u a) (changed_lists start count level f))
+        _ (around_reach (λ c. For c t u a) (changed_lists start count level f) (lists_reach f level))
+        (around_reach (For f t u) (changed_lists start count level a) (lists_reach a level))
     items_reach (Switch s b) level = around_reach (Switch s) (changed_sections start count level b) (sections_reach b level)
     items_reach (Block a) level = around_reach Block (changed_lists start count level a) (lists_reach a level)
     items_reach (Evaluate e) level = tt
@@ -55,7 +60,8 @@ module _ (start count : ℕ) where
     sections_reach NoSection level = tt
     sections_reach (Section cases default a ends s) level =
         each_both Reach (around (λ b. Section cases default b ends s) (changed_lists start count level a)) _
-        (around_reach (λ b. Section cases default b ends s) (changed_lists start count level a) (lists_reach a level)) (around_reach (Section cases default a ends) (changed_sections start count level s) (sections_reach s level))
+        (around_reach (λ b. Section cases default b ends s) (changed_lists start count level a) (lists_reach a level))
+        (around_reach (Section cases default a ends) (changed_sections start count level s) (sections_reach s level))
 
 pub all_of : {A : Type 0} (P : A → Type 0) (cs : List A) → Each P cs → All P cs
 all_of P [] h = All-nil P
@@ -65,7 +71,8 @@ pub no_element : {A : Type 0} (c : A) → Contains [] c → ⊥
 no_element c h = let i = h.1 in omega (arith, i)
 
 -- what holds of all changes holds of one that applies, which is allowed
-pub of_change : (P : ℕ × Forest → Type 0) (f : FunctionTree) (a : Forest) → Each P (changed_lists f.params (length f.slots - f.params) 1 a) → (c : ℕ × Forest) → Contains (changes f a) c → P c × (is_allowed f.slots c ≡ true)
+pub of_change : (P : ℕ × Forest → Type 0) (f : FunctionTree) (a : Forest) → Each P (changed_lists f.params (length f.slots - f.params) 1 a) →
+    (c : ℕ × Forest) → Contains (changes f a) c → P c × (is_allowed f.slots c ≡ true)
 of_change P f a h c k =
     let cs = changed_lists f.params (length f.slots - f.params) 1 a in (
       All-contains P (changes f a) c (All-filter (is_allowed f.slots) P cs (all_of P cs h)) k,
@@ -108,7 +115,8 @@ over_after zero f h = at (changes_of f) refl
     at (c ∷ cs) e = let i = fewer f c (subst (λ ds. Contains ds c) (sym e) (first_among c cs)) in absurd (omega (arith, i, h))
 over_after (suc n) f h = at (changes_of f) refl (over_after n)
   where
-    at : (cs : List (ℕ × Forest)) → changes_of f ≡ cs → ((f : FunctionTree) → length f.slots ≤ n → changes_of (changed_times n f) ≡ []) → changes_of (changed_times n (changed_once f)) ≡ []
+    at : (cs : List (ℕ × Forest)) → changes_of f ≡ cs → ((f : FunctionTree) → length f.slots ≤ n → changes_of (changed_times n f) ≡ []) →
+        changes_of (changed_times n (changed_once f)) ≡ []
     at [] e k = ap (λ ds. changes_of (changed_times n (changed_first f ds))) e ∙ ap changes_of (stays n f e) ∙ e
     at (c ∷ cs) e k =
         let i = fewer f c (subst (λ ds. Contains ds c) (sym e) (first_among c cs)) in

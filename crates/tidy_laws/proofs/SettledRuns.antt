@@ -73,7 +73,8 @@ numbers_stay : (holes : ℕ → ℕ) (ns : List ℤ) → map (new_lending holes)
 numbers_stay holes [] = refl
 numbers_stay holes (n ∷ ns) = ap (λ z. Integer n ∷ z) (numbers_stay holes ns)
 
-items_settled : (p : Code) (f : FunctionTree) (g : ℕ) (o b : Option Forest) → SettledBody p f g o b → Items p f.slots g false (items_of (record f { body = o })) (items_of (record f { body = b }))
+items_settled : (p : Code) (f : FunctionTree) (g : ℕ) (o b : Option Forest) → SettledBody p f g o b →
+    Items p f.slots g false (items_of (record f { body = o })) (items_of (record f { body = b }))
 items_settled p f g None None h = i_nil false
 items_settled p f g (Some a) (Some c) h = h
 items_settled p f g None (Some c) h = absurd h
@@ -87,13 +88,21 @@ abbrev no_holes : ℕ → ℕ
 no_holes d = 0
 
 module _ (k p q : Code) (s : SettledCode k p q) where
-  call_alike : (L M : LessFuel) → Less k L M → (sh : Shapes) (holes : ℕ → ℕ) (c : ℕ) (d : Bool) (m : List ℕ) (vs : List Value) (w u : World) → AreArguments k sh c (k.functions m) vs → Apart k sh holes false c w u
+  call_alike : (L M : LessFuel) → Less k L M → (sh : Shapes) (holes : ℕ → ℕ) (c : ℕ) (d : Bool) (m : List ℕ) (vs : List Value) (w u : World) →
+      AreArguments k sh c (k.functions m) vs → Apart k sh holes false c w u
       → Alike (Post k sh holes c (Num (call_kind k m))) (call p L d m vs w) (call q M d m (map (new_lending holes) vs) u)
   call_alike L M less sh holes c d m vs w u are a =
       let f = s.functions m in
-      let are' : AreArguments k sh c (p.functions m) vs = record { each = subst (λ ss. (x : ℕ) → HasSort k sh c (ForSlot (entry_or no_slot ss x).kind) (entry_or Missing vs x)) (sym (s.slots m)) are.each } in
-      subst (λ h. Alike (Post k sh holes c (Num (call_kind k m))) (called L d m (p.functions m) (p.functions m).body vs w) (called M d m h h.body (map (new_lending holes) vs) u)) (sym f.same)
-      (subst (λ j. Alike (Post k sh holes c (Num j)) (called L d m (p.functions m) (p.functions m).body vs w) (called M d m (record (p.functions m) { slots = without (s.hole m) (p.functions m).slots; body = f.body }) f.body (map (new_lending holes) vs) u)) (s.calls m)
+      let are' : AreArguments k sh c (p.functions m) vs =
+      record {
+        each = subst (λ ss. (x : ℕ) → HasSort k sh c (ForSlot (entry_or no_slot ss x).kind) (entry_or Missing vs x)) (sym (s.slots m))
+            are.each;
+      } in
+      subst (λ h. Alike (Post k sh holes c (Num (call_kind k m))) (called L d m (p.functions m) (p.functions m).body vs w)
+      (called M d m h h.body (map (new_lending holes) vs) u)) (sym f.same)
+      (subst (λ j. Alike (Post k sh holes c (Num j)) (called L d m (p.functions m) (p.functions m).body vs w)
+      (called M d m (record (p.functions m) { slots = without (s.hole m) (p.functions m).slots; body = f.body }) f.body
+      (map (new_lending holes) vs) u)) (s.calls m)
       (called_alike k L M less sh holes c m (p.functions m) (s.hole m) f.may d (p.functions m).body f.body f.settled vs w u are' a))
 
   -- with the same fuel
@@ -129,7 +138,8 @@ module _ (k p q : Code) (s : SettledCode k p q) where
       events = refl;
       sealed = λ d h. refl;
       file_same = λ m. ap (λ (gs : List ℕ → Variable). gs m) s.globals;
-      file_good = λ m. subst (λ (gs : List ℕ → Variable). Good k no_shapes 0 (kind_held (k.globals m)) true (gs m)) (sym s.same_globals) (good_global (k.globals m) (s.numbers m));
+      file_good = λ m. subst (λ (gs : List ℕ → Variable). Good k no_shapes 0 (kind_held (k.globals m)) true (gs m)) (sym s.same_globals)
+          (good_global (k.globals m) (s.numbers m));
       call_same = λ d x h i k. absurd (omega (arith, i));
       call_good = λ d x h i k. absurd (omega (arith, i));
       older = λ d h. absurd (omega (arith, h));
@@ -139,14 +149,18 @@ module _ (k p q : Code) (s : SettledCode k p q) where
     abbrev entered : Code → LessFuel → List Value → FunctionTree → World → Evaluation Value
     entered r K vs f w = call_body (execs K (items_of f)) (λ c w. leave_entry f (value_left m f c) w) w (push f vs w)
 
-    end_alike : (f h : FunctionTree) → h.result ≡ f.result → (x : Value) (w u : World) → u.events ≡ w.events → Alike Ending (given (leave_entry f x w)) (given (leave_entry h x u))
-    end_alike f h r x w u e = subst (λ k. Alike Ending (given (leave_entry f x w)) (given (leave_entry (record f { result = k }) x u))) (sym r) (cases (lacks f x))
+    end_alike : (f h : FunctionTree) → h.result ≡ f.result → (x : Value) (w u : World) → u.events ≡ w.events →
+        Alike Ending (given (leave_entry f x w)) (given (leave_entry h x u))
+    end_alike f h r x w u e = subst (λ k. Alike Ending (given (leave_entry f x w)) (given (leave_entry (record f { result = k }) x u))) (sym r)
+        (cases (lacks f x))
       where
-        cases : (b : Bool) → Alike Ending (given (cond b (Traps Trap.NoValue w) (Exits (integer x) w))) (given (cond b (Traps Trap.NoValue u) (Exits (integer x) u)))
+        cases : (b : Bool) → Alike Ending (given (cond b (Traps Trap.NoValue w) (Exits (integer x) w)))
+            (given (cond b (Traps Trap.NoValue u) (Exits (integer x) u)))
         cases true = (refl, e)
         cases false = (refl, e)
 
-    entry_alike : (n : ℕ) → Alike Ending (entry_call p (with_fuel p n) m arguments (world_at_start p input answers)) (entry_call q (with_fuel q n) m arguments (world_at_start q input answers))
+    entry_alike : (n : ℕ) → Alike Ending (entry_call p (with_fuel p n) m arguments (world_at_start p input answers))
+        (entry_call q (with_fuel q n) m arguments (world_at_start q input answers))
     entry_alike n =
         let L = with_fuel p n in
         let M = with_fuel q n in
@@ -158,11 +172,15 @@ module _ (k p q : Code) (s : SettledCode k p q) where
         let sh = shapes k L M (less_of n) no_shapes no_holes 0 m f g h.may vs are in
         let gone' = gone k L M (less_of n) no_shapes no_holes 0 m f g h.may vs are in
         subst (λ k. Alike Ending (entered p L vs f (world_at_start p input answers)) (entered q M vs k (world_at_start q input answers))) (sym h.same)
-        (body_alike k sh gone' 1 Ending (execs L (items_of f)) (execs M (items_of (record f { body = h.body }))) (λ c w. leave_entry f (value_left m f c) w) (λ c w. leave_entry f (value_left m f c) w)
-        (inside k L M (less_of n) no_shapes no_holes 0 m f g h.may vs are (items_of f) (items_of (record f { body = h.body })) (items_settled k f g f.body h.body h.settled))
+        (body_alike k sh gone' 1 Ending (execs L (items_of f)) (execs M (items_of (record f { body = h.body })))
+        (λ c w. leave_entry f (value_left m f c) w) (λ c w. leave_entry f (value_left m f c) w)
+        (inside k L M (less_of n) no_shapes no_holes 0 m f g h.may vs are (items_of f) (items_of (record f { body = h.body }))
+        (items_settled k f g f.body h.body h.settled))
         (λ e w u a. end_alike f f refl (value_left m f e) w u a.events)
-        (world_at_start p input answers) (world_at_start q input answers) refl (push f vs (world_at_start p input answers)) (push (narrowed g f) vs (world_at_start q input answers))
-        (subst (λ ys. Entered k sh gone' 1 (push f vs (world_at_start p input answers)) (push (narrowed g f) ys (world_at_start q input answers))) (numbers_stay no_holes arguments)
+        (world_at_start p input answers) (world_at_start q input answers) refl (push f vs (world_at_start p input answers))
+        (push (narrowed g f) vs (world_at_start q input answers))
+        (subst (λ ys. Entered k sh gone' 1 (push f vs (world_at_start p input answers)) (push (narrowed g f) ys (world_at_start q input answers)))
+        (numbers_stay no_holes arguments)
         (push_same k L M (less_of n) no_shapes no_holes 0 m f g h.may vs are (world_at_start p input answers) (world_at_start q input answers) start_apart)))
 
     pub settled_run : AreSameRuns (structural_run p m arguments input answers) (structural_run q m arguments input answers)

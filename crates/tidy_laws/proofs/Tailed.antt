@@ -42,9 +42,11 @@ number_stays g m (Typed (Some Int) (Number (pos n))) = refl
 number_stays g m e = refl
 
 pub leaving_renumbered : (g : ℕ) (leave : Bool) (e : ExpressionTree) → renumbered_item g (leaving (jump_by leave) e) ≡ leaving (jump_by leave) (renumbered g e)
-leaving_renumbered g leave e = at leave (is_number 1 e) ∙ ap (λ b. cond b (jump_by leave) (If (Source (renumbered g e)) (one (jump_by leave)) Nil)) (sym (number_stays g 1 e))
+leaving_renumbered g leave e = at leave (is_number 1 e) ∙ ap (λ b. cond b (jump_by leave) (If (Source (renumbered g e)) (one (jump_by leave)) Nil))
+    (sym (number_stays g 1 e))
   where
-    at : (leave b : Bool) → renumbered_item g (cond b (jump_by leave) (If (Source e) (one (jump_by leave)) Nil)) ≡ cond b (jump_by leave) (If (Source (renumbered g e)) (one (jump_by leave)) Nil)
+    at : (leave b : Bool) → renumbered_item g (cond b (jump_by leave) (If (Source e) (one (jump_by leave)) Nil)) ≡ cond b (jump_by leave)
+        (If (Source (renumbered g e)) (one (jump_by leave)) Nil)
     at true true = refl
     at true false = refl
     at false true = refl
@@ -95,18 +97,21 @@ module _ (p : Code) (ss : List Slot) (g : ℕ) where
 
     pub plain_parts : (c : Sections) → EverywhereIn K c → sections_lack g c ≡ true → Parts p ss g c (renumbered_sections g c)
     plain_parts NoSection k l = p_none
-    plain_parts (Section cases default a ends c) k l = let h = both (list_lacks g a) (sections_lack g c) l in p_more cases default ends (plain_items false a k.0 h.0) (plain_parts c k.1 h.1)
+    plain_parts (Section cases default a ends c) k l = let h = both (list_lacks g a) (sections_lack g c) l in
+        p_more cases default ends (plain_items false a k.0 h.0) (plain_parts c k.1 h.1)
 
   -- ---- lists in which checks give way
 
   -- a check, by what its list becomes
-  given_items : (b : Bool) (e : ExpressionTree) (a c xs ys : Forest) → is_off g e ≡ true → (list_lacks g c ≡ true → Items p ss g b a (renumbered_list g c)) → Items p ss g b xs ys → (y : Bool)
+  given_items : (b : Bool) (e : ExpressionTree) (a c xs ys : Forest) → is_off g e ≡ true →
+      (list_lacks g c ≡ true → Items p ss g b a (renumbered_list g c)) → Items p ss g b xs ys → (y : Bool)
       → list_lacks g (cond y (one (Block c)) c) ≡ true → Items p ss g b (Then (If (Source e) a Nil) xs) (join (renumbered_list g (cond y (one (Block c)) c)) ys)
   given_items b e a c xs ys o h k true l = i_then (x_checked e o (h (both (list_lacks g c) true l).0)) k
   given_items b e a c xs ys o h k false l = i_given e o (h l) k
 
   -- an item before others
-  plain_before : (b : Bool) (x : Tree) → EverywhereOf K x → (xs ys : Forest) → list_lacks g (one x) ≡ true → Items p ss g b xs ys → Items p ss g b (Then x xs) (join (renumbered_list g (one x)) ys)
+  plain_before : (b : Bool) (x : Tree) → EverywhereOf K x → (xs ys : Forest) → list_lacks g (one x) ≡ true → Items p ss g b xs ys →
+      Items p ss g b (Then x xs) (join (renumbered_list g (one x)) ys)
   plain_before b x k xs ys l h = i_then (plain_item b x k (both (item_lacks g x) true l).0) h
 
   -- what is known of a list of which c is made
@@ -114,7 +119,8 @@ module _ (p : Code) (ss : List Slot) (g : ℕ) where
   Becomes b a c = list_lacks g c ≡ true → Items p ss g b a (renumbered_list g c)
 
   -- an `if` that is no check
-  if_then : (b : Bool) (t : TestTree) (a d c e : Forest) → K (If t a d) → Becomes b a c → Becomes b d e → (xs ys : Forest) → list_lacks g (one (If t c e)) ≡ true → Items p ss g b xs ys
+  if_then : (b : Bool) (t : TestTree) (a d c e : Forest) → K (If t a d) → Becomes b a c → Becomes b d e → (xs ys : Forest) →
+      list_lacks g (one (If t c e)) ≡ true → Items p ss g b xs ys
       → Items p ss g b (Then (If t a d) xs) (join (renumbered_list g (one (If t c e))) ys)
   if_then b t a d c e k ha hd xs ys l h =
       let m = both (test_lacks g t && (list_lacks g c && list_lacks g e)) true l in
@@ -123,7 +129,8 @@ module _ (p : Code) (ss : List Slot) (g : ℕ) where
       i_then (x_if t k i.0 (ha j.0) (hd j.1)) h
 
   -- one that may be a check
-  check_then : (b y : Bool) (e : ExpressionTree) (a c : Forest) → K (If (Source e) a Nil) → Becomes b a c → is_off g e ≡ y → (xs ys : Forest) → list_lacks g (unchecked y (Source e) c Nil) ≡ true → Items p ss g b xs ys
+  check_then : (b y : Bool) (e : ExpressionTree) (a c : Forest) → K (If (Source e) a Nil) → Becomes b a c → is_off g e ≡ y → (xs ys : Forest) →
+      list_lacks g (unchecked y (Source e) c Nil) ≡ true → Items p ss g b xs ys
       → Items p ss g b (Then (If (Source e) a Nil) xs) (join (renumbered_list g (unchecked y (Source e) c Nil)) ys)
   check_then b true e a c k ha o xs ys l h = given_items b e a c xs ys o ha h (has_local c) l
   check_then b false e a c k ha o xs ys l h = if_then b (Source e) a Nil c Nil k ha (λ l. i_nil b) xs ys l h
@@ -133,10 +140,12 @@ module _ (p : Code) (ss : List Slot) (g : ℕ) where
     inner_items b Nil k l = i_nil b
     inner_items b (Then x xs) k l =
         let h = both_lists g (inner_item g x) (inner g xs) l in
-        subst (Items p ss g b (Then x xs)) (sym (renumbered_join g (inner_item g x) (inner g xs))) (inner_then b x k.0 xs (renumbered_list g (inner g xs)) h.0 (inner_items b xs k.1 h.1))
+        subst (Items p ss g b (Then x xs)) (sym (renumbered_join g (inner_item g x) (inner g xs)))
+        (inner_then b x k.0 xs (renumbered_list g (inner g xs)) h.0 (inner_items b xs k.1 h.1))
 
     -- an item that is at no tail, before others
-    inner_then : (b : Bool) (x : Tree) → EverywhereOf K x → (xs ys : Forest) → list_lacks g (inner_item g x) ≡ true → Items p ss g b xs ys → Items p ss g b (Then x xs) (join (renumbered_list g (inner_item g x)) ys)
+    inner_then : (b : Bool) (x : Tree) → EverywhereOf K x → (xs ys : Forest) → list_lacks g (inner_item g x) ≡ true → Items p ss g b xs ys →
+        Items p ss g b (Then x xs) (join (renumbered_list g (inner_item g x)) ys)
     inner_then b (If (Source e) a Nil) k xs ys l h = check_then b (is_off g e) e a (inner g a) k.0 (inner_items b a k.1) refl xs ys l h
     inner_then b (If t a d) k xs ys l h = if_then b t a d (inner g a) (inner g d) k.0 (inner_items b a k.1) (inner_items b d k.2) xs ys l h
     inner_then b (While t a) k xs ys l h =
@@ -173,7 +182,8 @@ module _ (p : Code) (ss : List Slot) (g : ℕ) where
 
     inner_parts : (c : Sections) → EverywhereIn K c → sections_lack g (inner_sections g c) ≡ true → Parts p ss g c (renumbered_sections g (inner_sections g c))
     inner_parts NoSection k l = p_none
-    inner_parts (Section cases default a ends c) k l = let h = both (list_lacks g (inner g a)) (sections_lack g (inner_sections g c)) l in p_more cases default ends (inner_items false a k.0 h.0) (inner_parts c k.1 h.1)
+    inner_parts (Section cases default a ends c) k l = let h = both (list_lacks g (inner g a)) (sections_lack g (inner_sections g c)) l in
+        p_more cases default ends (inner_items false a k.0 h.0) (inner_parts c k.1 h.1)
 
   -- ---- lists at a tail
 
@@ -185,28 +195,39 @@ module _ (p : Code) (ss : List Slot) (g : ℕ) where
     by = left_by g leave
 
     -- a set of the slot, by whether it is one of a narrow value that doesn't name the slot
-    set_value_then : (k : Option IntKind) (v : ExpressionTree) → Kinded p ss (Typed k (Assign (Var (H.Slot g)) v)) → (y z : Bool) → is_narrow_expression v ≡ y → lacks g v ≡ z → (xs ys : Forest)
+    set_value_then : (k : Option IntKind) (v : ExpressionTree) → Kinded p ss (Typed k (Assign (Var (H.Slot g)) v)) → (y z : Bool) →
+        is_narrow_expression v ≡ y → lacks g v ≡ z → (xs ys : Forest)
         → list_lacks g (one (set_or jump (Typed k (Assign (Var (H.Slot g)) v)) (cond (y && z) (Some v) None))) ≡ true → Items p ss g b xs ys
-        → Items p ss g b (Then (Evaluate (Typed k (Assign (Var (H.Slot g)) v))) (Then (leave_if g by) xs)) (join (renumbered_list g (one (set_or jump (Typed k (Assign (Var (H.Slot g)) v)) (cond (y && z) (Some v) None)))) ys)
+        → Items p ss g b (Then (Evaluate (Typed k (Assign (Var (H.Slot g)) v))) (Then (leave_if g by) xs))
+        (join (renumbered_list g (one (set_or jump (Typed k (Assign (Var (H.Slot g)) v)) (cond (y && z) (Some v) None)))) ys)
     set_value_then _ v (k_assign _ a i j) true true n m xs ys l h =
-        subst (λ x. Items p ss g b (Then (Evaluate (Typed (Some (place_kind p ss (Var (H.Slot g)))) (Assign (Var (H.Slot g)) v))) (Then (leave_if g by) xs)) (Then x ys)) (sym (leaving_renumbered g leave v))
+        subst (λ x. Items p ss g b (Then (Evaluate (Typed (Some (place_kind p ss (Var (H.Slot g)))) (Assign (Var (H.Slot g)) v)))
+        (Then (leave_if g by) xs)) (Then x ys)) (sym (leaving_renumbered g leave v))
         (i_sets leave (Some (place_kind p ss (Var (H.Slot g)))) v may j m n h)
     set_value_then k v c true false n m xs ys l h = absurd (named (eqb g g) (lacks g v) true (eq-eqb g g refl) l)
     set_value_then k v c false z n m xs ys l h = absurd (named (eqb g g) (lacks g v) true (eq-eqb g g refl) l)
 
     -- an assignment to a slot
-    assign_then : (k : Option IntKind) (x : ℕ) (v : ExpressionTree) → Kinded p ss (Typed k (Assign (Var (H.Slot x)) v)) → (y : Bool) → eqb x g ≡ y → (xs ys : Forest)
-        → list_lacks g (one (set_or jump (Typed k (Assign (Var (H.Slot x)) v)) (cond (y && (is_narrow_expression v && lacks g v)) (Some v) None))) ≡ true → Items p ss g b xs ys
-        → Items p ss g b (cond y (Then (Evaluate (Typed k (Assign (Var (H.Slot x)) v))) (Then (leave_if g by) xs)) (Then (Evaluate (Typed k (Assign (Var (H.Slot x)) v))) xs))
-        (join (renumbered_list g (one (set_or jump (Typed k (Assign (Var (H.Slot x)) v)) (cond (y && (is_narrow_expression v && lacks g v)) (Some v) None)))) ys)
+    assign_then : (k : Option IntKind) (x : ℕ) (v : ExpressionTree) → Kinded p ss (Typed k (Assign (Var (H.Slot x)) v)) → (y : Bool) → eqb x g ≡ y →
+        (xs ys : Forest)
+        → list_lacks g (one (set_or jump (Typed k (Assign (Var (H.Slot x)) v))
+        (cond (y && (is_narrow_expression v && lacks g v)) (Some v) None))) ≡ true → Items p ss g b xs ys
+        → Items p ss g b (cond y (Then (Evaluate (Typed k (Assign (Var (H.Slot x)) v))) (Then (leave_if g by) xs))
+        (Then (Evaluate (Typed k (Assign (Var (H.Slot x)) v))) xs))
+        (join (renumbered_list g (one (set_or jump (Typed k (Assign (Var (H.Slot x)) v))
+        (cond (y && (is_narrow_expression v && lacks g v)) (Some v) None)))) ys)
     assign_then k x v c true e xs ys l h = at x (sym (eqb-true x g e)) c l
       where
         at : (x : ℕ) → g ≡ x → Kinded p ss (Typed k (Assign (Var (H.Slot x)) v))
             → list_lacks g (one (set_or jump (Typed k (Assign (Var (H.Slot x)) v)) (cond (is_narrow_expression v && lacks g v) (Some v) None))) ≡ true
-            → Items p ss g b (Then (Evaluate (Typed k (Assign (Var (H.Slot x)) v))) (Then (leave_if g by) xs)) (join (renumbered_list g (one (set_or jump (Typed k (Assign (Var (H.Slot x)) v)) (cond (is_narrow_expression v && lacks g v) (Some v) None)))) ys)
+            → Items p ss g b (Then (Evaluate (Typed k (Assign (Var (H.Slot x)) v))) (Then (leave_if g by) xs))
+            (join (renumbered_list g
+            (one (set_or jump (Typed k (Assign (Var (H.Slot x)) v)) (cond (is_narrow_expression v && lacks g v) (Some v) None)))) ys)
         at x e = subst (λ x. Kinded p ss (Typed k (Assign (Var (H.Slot x)) v))
             → list_lacks g (one (set_or jump (Typed k (Assign (Var (H.Slot x)) v)) (cond (is_narrow_expression v && lacks g v) (Some v) None))) ≡ true
-            → Items p ss g b (Then (Evaluate (Typed k (Assign (Var (H.Slot x)) v))) (Then (leave_if g by) xs)) (join (renumbered_list g (one (set_or jump (Typed k (Assign (Var (H.Slot x)) v)) (cond (is_narrow_expression v && lacks g v) (Some v) None)))) ys)) e
+            → Items p ss g b (Then (Evaluate (Typed k (Assign (Var (H.Slot x)) v))) (Then (leave_if g by) xs))
+            (join (renumbered_list g
+            (one (set_or jump (Typed k (Assign (Var (H.Slot x)) v)) (cond (is_narrow_expression v && lacks g v) (Some v) None)))) ys)) e
             (λ c l. set_value_then k v c (is_narrow_expression v) (lacks g v) refl refl xs ys l h)
     assign_then k x v c false e xs ys l h = plain_before b (Evaluate (Typed k (Assign (Var (H.Slot x)) v))) c xs ys l h
 
@@ -216,7 +237,8 @@ module _ (p : Code) (ss : List Slot) (g : ℕ) where
     evaluate_then e c xs ys l h = plain_before b (Evaluate e) c xs ys l h
 
     mutual
-      pub tail_items : (a : Forest) → Everywhere K a → list_lacks g (tailed g jump a) ≡ true → Items p ss g b (leaves g by a) (renumbered_list g (tailed g jump a))
+      pub tail_items : (a : Forest) → Everywhere K a → list_lacks g (tailed g jump a) ≡ true →
+          Items p ss g b (leaves g by a) (renumbered_list g (tailed g jump a))
       tail_items Nil k l = i_nil b
       tail_items (Then x xs) k l =
           let y = is_end g xs in
@@ -224,10 +246,12 @@ module _ (p : Code) (ss : List Slot) (g : ℕ) where
           subst (Items p ss g b (leaves g by (Then x xs))) (sym (renumbered_join g (cond y (tailed_item g jump x) (inner_item g x)) (tailed g jump xs)))
           (tail_then y x k.0 (leaves g by xs) (renumbered_list g (tailed g jump xs)) h.0 (tail_items xs k.1 h.1))
 
-      tail_then : (y : Bool) (x : Tree) → EverywhereOf K x → (xs ys : Forest) → list_lacks g (cond y (tailed_item g jump x) (inner_item g x)) ≡ true → Items p ss g b xs ys
+      tail_then : (y : Bool) (x : Tree) → EverywhereOf K x → (xs ys : Forest) → list_lacks g (cond y (tailed_item g jump x) (inner_item g x)) ≡ true →
+          Items p ss g b xs ys
           → Items p ss g b (cond y (placed g by x xs) (Then x xs)) (join (renumbered_list g (cond y (tailed_item g jump x) (inner_item g x))) ys)
       tail_then false x k xs ys l h = inner_then b x k xs ys l h
       tail_then true (Evaluate e) k xs ys l h = evaluate_then e k xs ys l h
       tail_then true (If (Source e) a Nil) k xs ys l h = check_then b (is_off g e) e (leaves g by a) (tailed g jump a) k.0 (tail_items a k.1) refl xs ys l h
-      tail_then true (If t a d) k xs ys l h = if_then b t (leaves g by a) (leaves g by d) (tailed g jump a) (tailed g jump d) k.0 (tail_items a k.1) (tail_items d k.2) xs ys l h
+      tail_then true (If t a d) k xs ys l h = if_then b t (leaves g by a) (leaves g by d) (tailed g jump a) (tailed g jump d) k.0 (tail_items a k.1)
+          (tail_items d k.2) xs ys l h
       tail_then true x k xs ys l h = inner_then b x k xs ys l h

@@ -27,7 +27,8 @@ not_zero true h = cc
 not_zero false h = refl
 
 -- while the slot is on, `!g` is 0
-pub off_is : (L : LessFuel) (g : ℕ) (e : ExpressionTree) → is_off g e ≡ true → (d : Bool) (w : World) → is_on g w ≡ true → eval L d e w ≡ Yields (Integer (pos 0)) w
+pub off_is : (L : LessFuel) (g : ℕ) (e : ExpressionTree) → is_off g e ≡ true → (d : Bool) (w : World) → is_on g w ≡ true →
+    eval L d e w ≡ Yields (Integer (pos 0)) w
 off_is L g (Typed k (Unary Not e)) h d w on =
     ap (λ x. and_then x (λ v u. Yields (Integer (truth (is_zero (integer v)))) u)) (read_is L g e h false w)
     ∙ ap (λ v. Yields v w) (not_zero (is_zero (load (place (H.Slot g) w) w)) on)
@@ -68,13 +69,15 @@ module _ (L : LessFuel) (g : ℕ) (l : Forest) where
   left_seq (Quits k w) m n h = inl refl
   left_seq (Spent w) m n h = inl refl
 
-  left_bind : {A : Type 0} (e : Evaluation A) (m n : A → World → Evaluation Completion) → ((a : A) (w : World) → Left (m a w) (n a w)) → Left (and_then e m) (and_then e n)
+  left_bind : {A : Type 0} (e : Evaluation A) (m n : A → World → Evaluation Completion) → ((a : A) (w : World) → Left (m a w) (n a w)) →
+      Left (and_then e m) (and_then e n)
   left_bind (Yields a w) m n h = h a w
   left_bind (Faults t w) m n h = inl refl
   left_bind (Quits k w) m n h = inl refl
   left_bind (Spent w) m n h = inl refl
 
-  left_chosen : (y : Bool) (a b c d : Meaning) → ((w : World) → Left (a w) (c w)) → ((w : World) → Left (b w) (d w)) → (w : World) → Left (chosen y a b w) (chosen y c d w)
+  left_chosen : (y : Bool) (a b c d : Meaning) → ((w : World) → Left (a w) (c w)) → ((w : World) → Left (b w) (d w)) → (w : World) →
+      Left (chosen y a b w) (chosen y c d w)
   left_chosen true a b c d h k w = h w
   left_chosen false a b c d h k w = k w
 
@@ -98,7 +101,8 @@ module _ (L : LessFuel) (g : ℕ) (l : Forest) where
 
     left_set : (y : Bool) (e : ExpressionTree) (xs rest : Forest) → is_end g xs ≡ true → ((w : World) → Left (execs L xs w) (execs L rest w)) → (w : World)
         → Left (seq (exec L (Evaluate e) w) (execs L xs)) (execs L (cond y (Then (Evaluate e) (Then (leave_if g l) rest)) (Then (Evaluate e) rest)) w)
-    left_set true e xs rest q h w = left_seq (exec L (Evaluate e) w) (execs L xs) (execs L (Then (leave_if g l) rest)) (λ u. left_if (is_on g u) u refl xs rest q h)
+    left_set true e xs rest q h w = left_seq (exec L (Evaluate e) w) (execs L xs) (execs L (Then (leave_if g l) rest))
+        (λ u. left_if (is_on g u) u refl xs rest q h)
     left_set false e xs rest q h w = left_seq (exec L (Evaluate e) w) (execs L xs) (execs L rest) h
 
     mutual
@@ -112,7 +116,8 @@ module _ (L : LessFuel) (g : ℕ) (l : Forest) where
       item_left false x xs e h w = left_seq (exec L x w) (execs L xs) (execs L (leaves g l xs)) h
       item_left true (Evaluate c) xs e h w = left_set (is_set g c) c xs (leaves g l xs) e h w
       item_left true (If t a b) xs e h w = left_end xs (leaves g l xs) e h _ _
-          (left_bind (eval_test L t w) _ _ (λ v u. left_chosen (holds v) (execs L a) (execs L b) (execs L (leaves g l a)) (execs L (leaves g l b)) (list_left a) (list_left b) u))
+          (left_bind (eval_test L t w) _ _ (λ v u. left_chosen (holds v) (execs L a) (execs L b) (execs L (leaves g l a)) (execs L (leaves g l b))
+          (list_left a) (list_left b) u))
       item_left true x xs e h w = left_seq (exec L x w) (execs L xs) (execs L (leaves g l xs)) h
 
 -- `break` and `g = 0; continue` are followed by nothing

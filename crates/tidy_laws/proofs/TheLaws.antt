@@ -75,7 +75,8 @@ like_same : (o : Option Forest) → LikeBody LeavesOne o o
 like_same None = tt
 like_same (Some a) = likes_itself LeavesOne a
 
-stays_settled : (k : Code) (f : FunctionTree) (o : Option Forest) → Everywhere (KindedItem k f.slots) (option_map_or (λ a. a) o Nil) → SettledBody k (record f { body = o }) (length f.slots) o o
+stays_settled : (k : Code) (f : FunctionTree) (o : Option Forest) → Everywhere (KindedItem k f.slots) (option_map_or (λ a. a) o Nil) →
+    SettledBody k (record f { body = o }) (length f.slots) o o
 stays_settled k f None h = without_end f.slots
 stays_settled k f (Some a) h =
     let i = items_free k f.slots a h in
@@ -94,13 +95,16 @@ stays_steps k f l h = record {
   };
 }
 
-changed_steps : (k : Code) (f : FunctionTree) (c : ℕ × Forest) → Contains (changes_of f) c → Everywhere (KindedItem k f.slots) (items_of f) → Steps k f (changed f c)
+changed_steps : (k : Code) (f : FunctionTree) (c : ℕ × Forest) → Contains (changes_of f) c → Everywhere (KindedItem k f.slots) (items_of f) →
+    Steps k f (changed f c)
 changed_steps k f c i h = at f.body i h
   where
-    at : (o : Option Forest) → Contains (option_map_or (changes f) o []) c → Everywhere (KindedItem k f.slots) (option_map_or (λ a. a) o Nil) → Steps k (record f { body = o }) (changed f c)
+    at : (o : Option Forest) → Contains (option_map_or (changes f) o []) c → Everywhere (KindedItem k f.slots) (option_map_or (λ a. a) o Nil) →
+        Steps k (record f { body = o }) (changed f c)
     at None i h = absurd (no_element c i)
     at (Some a) i h =
-        let m = of_change (Makes k f.slots f.params (length f.slots - f.params) true a) f a (lists_made k f.slots f.params (length f.slots - f.params) a h true 1) c i in
+        let m = of_change (Makes k f.slots f.params (length f.slots - f.params) true a) f a
+        (lists_made k f.slots f.params (length f.slots - f.params) a h true 1) c i in
         let l = both (is_flag (entry_or no_slot f.slots c.0)) (declares c.0 c.1 && list_lacks c.0 (undeclared c.0 c.1)) m.1 in
         let flag = flag_is (entry_or no_slot f.slots c.0) l.0 in
         let made = m.0.1 (both (declares c.0 c.1) (list_lacks c.0 (undeclared c.0 c.1)) l.1).1 in
@@ -174,13 +178,18 @@ module _ (p q : Code) (kinds : HasKinds p) (c : IsChangedCode p q) where
 
   runs : RunTheSame p q
   runs m arguments input answers =
-      same_runs_trans (structural_run p m arguments input answers) (structural_run between m arguments input answers) (structural_run q m arguments input answers)
+      same_runs_trans (structural_run p m arguments input answers) (structural_run between m arguments input answers)
+      (structural_run q m arguments input answers)
       (leaving_law.leaves p between like m arguments input answers) (settled_law.settled p between q settled m arguments input answers)
 
   entries : (m : List ℕ) (arguments : List ℤ) → IsEntry p m arguments ↔ IsEntry q m arguments
   entries m arguments =
       let s = same_front (p.functions m) (q.functions m) (c.functions m) in (
-        (λ e. record { defined = s.forth e.defined; numbers = subst (All (λ (s : Slot). IsNone s.cells)) (sym s.front) e.numbers; given = e.given ∙ sym s.params }),
+        (λ e. record {
+          defined = s.forth e.defined;
+          numbers = subst (All (λ (s : Slot). IsNone s.cells)) (sym s.front) e.numbers;
+          given = e.given ∙ sym s.params;
+        }),
         (λ e. record { defined = s.back e.defined; numbers = subst (All (λ (s : Slot). IsNone s.cells)) s.front e.numbers; given = e.given ∙ s.params }),
       )
 
@@ -188,19 +197,24 @@ module _ (p q : Code) (kinds : HasKinds p) (c : IsChangedCode p q) where
   alike = record { entries = entries; runs = λ m arguments e input answers. runs m arguments input answers }
 
 same_alike : (p : Code) → BehaveAlike p p
-same_alike p = record { entries = λ m arguments. ((λ e. e), (λ e. e)); runs = λ m arguments e input answers. same_runs_refl (structural_run p m arguments input answers) }
+same_alike p = record {
+  entries = λ m arguments. ((λ e. e), (λ e. e));
+  runs = λ m arguments e input answers. same_runs_refl (structural_run p m arguments input answers);
+}
 
 then_alike : (p q r : Code) → BehaveAlike p q → BehaveAlike q r → BehaveAlike p r
 then_alike p q r h k = record {
   entries = λ m arguments. ((λ e. (k.entries m arguments).0 ((h.entries m arguments).0 e)), (λ e. (h.entries m arguments).1 ((k.entries m arguments).1 e)));
-  runs = λ m arguments e input answers. same_runs_trans (structural_run p m arguments input answers) (structural_run q m arguments input answers) (structural_run r m arguments input answers)
+  runs = λ m arguments e input answers. same_runs_trans (structural_run p m arguments input answers) (structural_run q m arguments input answers)
+      (structural_run r m arguments input answers)
       (h.runs m arguments e input answers) (k.runs m arguments ((h.entries m arguments).0 e) input answers);
 }
 
 several : (n : ℕ) (p : ℕ → Code) → ((i : ℕ) → i < n → HasKinds (p i)) → ((i : ℕ) → i < n → IsChangedCode (p i) (p (suc i))) → BehaveAlike (p 0) (p n)
 several zero p h k = same_alike (p 0)
 several (suc n) p h k =
-    then_alike (p 0) (p n) (p (suc n)) (several n p (λ i l. h i (omega (arith, l))) (λ i l. k i (omega (arith, l)))) (alike (p n) (p (suc n)) (h n (omega arith)) (k n (omega arith)))
+    then_alike (p 0) (p n) (p (suc n)) (several n p (λ i l. h i (omega (arith, l))) (λ i l. k i (omega (arith, l))))
+    (alike (p n) (p (suc n)) (h n (omega arith)) (k n (omega arith)))
 
 -- ---- sections
 
@@ -220,20 +234,25 @@ tidied_alike p h =
     record {
       entries = same.entries;
       runs = λ m arguments e input answers.
-          same_runs_trans (structural_run p m arguments input answers) (jump_run p m arguments input answers) (structural_run (tidy_code p) m arguments input answers)
-          (same_runs_sym (jump_run p m arguments input answers) (structural_run p m arguments input answers) ((meanings_agree_law.of_codes p h).runs m arguments input answers))
-          (same_runs_trans (jump_run p m arguments input answers) (jump_run (tidy_code p) m arguments input answers) (structural_run (tidy_code p) m arguments input answers)
+          same_runs_trans (structural_run p m arguments input answers) (jump_run p m arguments input answers)
+          (structural_run (tidy_code p) m arguments input answers)
+          (same_runs_sym (jump_run p m arguments input answers) (structural_run p m arguments input answers)
+          ((meanings_agree_law.of_codes p h).runs m arguments input answers))
+          (same_runs_trans (jump_run p m arguments input answers) (jump_run (tidy_code p) m arguments input answers)
+          (structural_run (tidy_code p) m arguments input answers)
           (same.runs m arguments e input answers) ((meanings_agree_law.of_codes (tidy_code p) tidied).runs m arguments input answers));
     }
   where
-    tidied_items : (o : Option Forest) → Everywhere IsStructured (option_map_or (λ a. a) o Nil) → Everywhere IsStructured (option_map_or (λ a. a) (option_map tidy o) Nil)
+    tidied_items : (o : Option Forest) → Everywhere IsStructured (option_map_or (λ a. a) o Nil) →
+        Everywhere IsStructured (option_map_or (λ a. a) (option_map tidy o) Nil)
     tidied_items None h = h
     tidied_items (Some a) h = tidy_everywhere IsStructured structured_tidied a h
 
     tidied : IsCodeStructured (tidy_code p)
     tidied m = tidied_items (p.functions m).body (h m)
 
-sections : (n : ℕ) (p : ℕ → Code) → ((i : ℕ) → i < n → HasKinds (p i)) → ((i : ℕ) → i < n → IsChangedCode (p i) (p (suc i))) → IsCodeStructured (p n) → BehaveAlike (p 0) (tidy_code (p n))
+sections : (n : ℕ) (p : ℕ → Code) → ((i : ℕ) → i < n → HasKinds (p i)) → ((i : ℕ) → i < n → IsChangedCode (p i) (p (suc i))) →
+    IsCodeStructured (p n) → BehaveAlike (p 0) (tidy_code (p n))
 sections n p h k s = then_alike (p 0) (p n) (tidy_code (p n)) (several n p h k) (tidied_alike (p n) s)
 
 first_change : (f : FunctionTree) → IsChanged f (changed_once f)

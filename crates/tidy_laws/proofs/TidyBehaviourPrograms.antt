@@ -31,7 +31,8 @@ entries_in k [] i = zero_in_range k
 entries_in k (e ∷ es) zero = converted-in_range k (constant_or_zero e)
 entries_in k (e ∷ es) (suc i) = entries_in k es i
 
-initial_in : (k : IntKind) (o : Option (List Expression)) (i : ℕ) → IsInRange k (entry_or (pos 0) (option_map_or (λ es. map (λ e. converted k (constant_or_zero e)) (expression_trees es)) o []) i)
+initial_in : (k : IntKind) (o : Option (List Expression)) (i : ℕ) → IsInRange k
+    (entry_or (pos 0) (option_map_or (λ es. map (λ e. converted k (constant_or_zero e)) (expression_trees es)) o []) i)
 initial_in k None i = zero_in_range k
 initial_in k (Some es) i = entries_in k (expression_trees es) i
 
@@ -41,7 +42,8 @@ chosen_variable false x y h g = g
 
 globals_in : (m : List ℕ) (ts : List Top) → HoldsInKind (global_named m ts)
 globals_in m [] = λ i. zero_in_range Int
-globals_in m (T.Global g ∷ ts) = chosen_variable (bytes_eq g.slot.name m) (initial_variable g) (global_named m ts) (initial_in g.slot.kind g.init) (globals_in m ts)
+globals_in m (T.Global g ∷ ts) = chosen_variable (bytes_eq g.slot.name m) (initial_variable g) (global_named m ts) (initial_in g.slot.kind g.init)
+    (globals_in m ts)
 globals_in m (T.Function f ∷ ts) = globals_in m ts
 globals_in m (T.Include b ∷ ts) = globals_in m ts
 globals_in m (T.Enum es ∷ ts) = globals_in m ts
@@ -61,7 +63,8 @@ module _ (p : Code) where
   of_function : (f : Function) → FunctionHasKinds p f → Kinds (function_tree f)
   of_function f h = record { items = at f.body h.items; parameters = h.parameters }
     where
-      at : (o : Option (List Item)) → Everywhere (KindedItem p f.slots) (option_map_or trees_of o Nil) → Everywhere (KindedItem p f.slots) (option_map_or (λ a. a) (option_map trees_of o) Nil)
+      at : (o : Option (List Item)) → Everywhere (KindedItem p f.slots) (option_map_or trees_of o Nil) →
+          Everywhere (KindedItem p f.slots) (option_map_or (λ a. a) (option_map trees_of o) Nil)
       at None h = h
       at (Some a) h = h
 
@@ -83,9 +86,14 @@ module _ (p : Code) where
   first_found None None h k = record { items = tt; parameters = omega arith }
 
   named : (m : List ℕ) (ts : List Top) → AllByRecursion (TopHasKinds p) ts → Kinds (function_named m ts)
-  named m ts h = first_found (function_in (λ f. is_some f.body) m ts) (function_in (λ f. true) m ts) (found (λ f. is_some f.body) m ts h) (found (λ f. true) m ts h)
+  named m ts h = first_found (function_in (λ f. is_some f.body) m ts) (function_in (λ f. true) m ts) (found (λ f. is_some f.body) m ts h)
+      (found (λ f. true) m ts h)
 
 pub program_kinds : (p : Program) → All (TopHasKinds (code_of p)) p.tops → HasKinds (code_of p)
 program_kinds p h =
     let k = recursion_from_All (TopHasKinds (code_of p)) p.tops h in
-    record { items = λ m. (named (code_of p) m p.tops k).items; parameters = λ m. (named (code_of p) m p.tops k).parameters; numbers = λ m. globals_in m p.tops }
+    record {
+      items = λ m. (named (code_of p) m p.tops k).items;
+      parameters = λ m. (named (code_of p) m p.tops k).parameters;
+      numbers = λ m. globals_in m p.tops;
+    }

@@ -61,7 +61,8 @@ same_entry g x ss h = at (nat_lt g x) refl
 
     at : (b : Bool) → nat_lt g x ≡ b → entry_or no_slot (without g ss) (new_number g x) ≡ entry_or no_slot ss x
     at true i = ap (entry_or no_slot (without g ss)) (number_behind g x i) ∙ behind x i
-    at false i = let n = other x g h in let l : x < g = grind (arith, nat_tests) in ap (entry_or no_slot (without g ss)) (number_before g x i) ∙ entry_before g x ss l
+    at false i = let n = other x g h in let l : x < g = grind (arith, nat_tests) in
+        ap (entry_or no_slot (without g ss)) (number_before g x i) ∙ entry_before g x ss l
 
 -- a slot without cells takes none away
 pub same_cells : (g : ℕ) (ss : List Slot) → cell_count (entry_or no_slot ss g) ≡ 0 → cells_of (without g ss) ≡ cells_of ss

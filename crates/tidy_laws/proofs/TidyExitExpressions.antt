@@ -21,7 +21,8 @@ outcome_grows (Ok n) w = grows_refl w.events
 outcome_grows (Err t) w = grows_refl w.events
 
 cell_grows : (o : Owner) (i : ℤ) (w : World) → OutcomeGrows w.events (cell_of o i w)
-cell_grows o (pos i) w = either (OutcomeGrows w.events) (nat_lt i (cells_held (w.variables o))) (Gives (Designates o i) w) (Traps Trap.Index w) (grows_refl w.events) (grows_refl w.events)
+cell_grows o (pos i) w = either (OutcomeGrows w.events) (nat_lt i (cells_held (w.variables o))) (Gives (Designates o i) w) (Traps Trap.Index w)
+    (grows_refl w.events) (grows_refl w.events)
 cell_grows o (negsuc i) w = grows_refl w.events
 
 counted_grows : (after : Bool) (p : Value) (r : Result ℤ Trap) (w : World) → OutcomeGrows w.events (counted after p r w)
@@ -69,18 +70,25 @@ module _ (s : Bool) (L M : LessFuel) where
       node_near (Text bs) kind d w = near_yields s w _
       node_near (Array h) kind d w = near_yields s w _
       node_near (Read p) kind d w = bind s w _ _ _ _ (place_near p w) (λ p u. near_yields s u _)
-      node_near (Unary op a) kind d w = bind s w _ _ _ _ (eval_near a false w) (λ v u. near_given s u (unary op (kind_of a) v u) (outcome_grows (unary_result op (operand_kind (kind_of a)) (integer v)) u))
+      node_near (Unary op a) kind d w = bind s w _ _ _ _ (eval_near a false w)
+          (λ v u. near_given s u (unary op (kind_of a) v u) (outcome_grows (unary_result op (operand_kind (kind_of a)) (integer v)) u))
       node_near (Cast a) None d w = bind s w _ _ _ _ (eval_near a true w) (λ v u. near_yields s u _)
       node_near (Cast a) (Some k) d w = bind s w _ _ _ _ (eval_near a false w) (λ v u. near_yields s u _)
-      node_near (Binary AndThen a b) kind d w = bind s w _ _ _ _ (eval_near a false w) (λ v u. near_and (holds v) (eval L false b) (eval M false b) (eval_near b false) u)
-      node_near (Binary OrElse a b) kind d w = bind s w _ _ _ _ (eval_near a false w) (λ v u. near_or (holds v) (eval L false b) (eval M false b) (eval_near b false) u)
-      node_near (Binary op a b) kind d w = bind s w _ _ _ _ (eval_near a false w) (λ v u. bind s u _ _ _ _ (eval_near b false u) (λ x t. near_binary op (kind_of a) (kind_of b) v x t))
-      node_near (Conditional a b c) None d w = bind s w _ _ _ _ (eval_near a false w) (λ v u. near_chosen (holds v) (eval L d b) (eval L d c) (eval M d b) (eval M d c) (eval_near b d) (eval_near c d) u)
+      node_near (Binary AndThen a b) kind d w = bind s w _ _ _ _ (eval_near a false w)
+          (λ v u. near_and (holds v) (eval L false b) (eval M false b) (eval_near b false) u)
+      node_near (Binary OrElse a b) kind d w = bind s w _ _ _ _ (eval_near a false w)
+          (λ v u. near_or (holds v) (eval L false b) (eval M false b) (eval_near b false) u)
+      node_near (Binary op a b) kind d w = bind s w _ _ _ _ (eval_near a false w)
+          (λ v u. bind s u _ _ _ _ (eval_near b false u) (λ x t. near_binary op (kind_of a) (kind_of b) v x t))
+      node_near (Conditional a b c) None d w = bind s w _ _ _ _ (eval_near a false w)
+          (λ v u. near_chosen (holds v) (eval L d b) (eval L d c) (eval M d b) (eval M d c) (eval_near b d) (eval_near c d) u)
       node_near (Conditional a b c) (Some k) d w = bind s w _ _ _ _ (eval_near a false w)
-          (λ v u. bind s u _ _ _ _ (near_chosen (holds v) (eval L false b) (eval L false c) (eval M false b) (eval M false c) (eval_near b false) (eval_near c false) u) (λ x t. near_yields s t _))
+          (λ v u. bind s u _ _ _ _ (near_chosen (holds v) (eval L false b) (eval L false c) (eval M false b) (eval M false c) (eval_near b false)
+          (eval_near c false) u) (λ x t. near_yields s t _))
       node_near (Assign p a) kind d w = bind s w _ _ _ _ (place_near p w) (λ p u. bind s u _ _ _ _ (eval_near a false u) (λ v t. near_assign p v t))
       node_near (Update op p a) kind d w = bind s w _ _ _ _ (place_near p w)
-          (λ p u. bind s u _ _ _ _ (eval_near a false u) (λ v t. bind s t _ _ _ _ (near_binary (Arith op) kind (kind_of a) (loaded p u) v t) (λ v t. near_assign p v t)))
+          (λ p u. bind s u _ _ _ _ (eval_near a false u) (λ v t. bind s t _ _ _ _ (near_binary (Arith op) kind (kind_of a) (loaded p u) v t)
+          (λ v t. near_assign p v t)))
       node_near (Count p up after) kind d w = bind s w _ _ _ _ (place_near p w)
           (λ p u. near_given s u (count up after p u) (counted_grows after p (arith_result (count_mark up) (promoted (kind_at p u)) (load p u) (pos 1)) u))
       node_near (Comma a b) kind d w = bind s w _ _ _ _ (eval_near a true w) (λ v u. eval_near b d u)

@@ -79,7 +79,8 @@ mutual
 -- what is left to one less of fuel is alike
 pub record LessNear (R : Tree → Tree → Type 0) (s : Bool) (L M : LessFuel) : Type 0 where
   pub again : (x y : Tree) → Like R x y → (w : World) → Near s w (L.again x w) (M.again y w)
-  pub again_for : (t u : Option ExpressionTree) (a b : Forest) → Like R (For Nil t u a) (For Nil t u b) → (w : World) → Near s w (L.again_for t u a w) (M.again_for t u b w)
+  pub again_for : (t u : Option ExpressionTree) (a b : Forest) → Like R (For Nil t u a) (For Nil t u b) → (w : World) →
+      Near s w (L.again_for t u a w) (M.again_for t u b w)
   pub calls : CallsNear s L M
 
 module _ (R : Tree → Tree → Type 0) (s : Bool) (L M : LessFuel) where
@@ -134,7 +135,8 @@ module _ (R : Tree → Tree → Type 0) (s : Bool) (L M : LessFuel) where
   near_cleared true x n w = grows_refl w.events
   near_cleared false x n w = grows_refl w.events
 
-  pub third_near : (less : LessNear R s L M) (t u : Option ExpressionTree) (a b : Forest) → Like R (For Nil t u a) (For Nil t u b) → Nearly s L M (third_part L t u a) (third_part M t u b)
+  pub third_near : (less : LessNear R s L M) (t u : Option ExpressionTree) (a b : Forest) → Like R (For Nil t u a) (For Nil t u b) →
+      Nearly s L M (third_part L t u a) (third_part M t u b)
   third_near less t None a b h w = less.again_for t None a b h w
   third_near less t (Some e) a b h w = bind s w _ _ _ _ (eval_near s L M less.calls e true w) (λ v x. less.again_for t (Some e) a b h x)
 
@@ -142,13 +144,18 @@ module _ (R : Tree → Tree → Type 0) (s : Bool) (L M : LessFuel) where
     initialise_near : (es : List ExpressionTree) (x i : ℕ) → Nearly s L M (initialise L x i es) (initialise M x i es)
     initialise_near [] x i w = near_refl s w _ (near_cleared (is_array_slot x w) x i w)
     initialise_near (e ∷ es) x i w = bind s w _ _ _ _ (eval_near s L M less.calls e false w)
-        (λ v u. near_from s u (store (slot_cell x i w) (integer v) u) _ _ (store_grows (slot_cell x i w) (integer v) u) (initialise_near es x (suc i) (store (slot_cell x i w) (integer v) u)))
+        (λ v u. near_from s u (store (slot_cell x i w) (integer v) u) _ _ (store_grows (slot_cell x i w) (integer v) u)
+        (initialise_near es x (suc i) (store (slot_cell x i w) (integer v) u)))
 
-    pub for_near : (t u : Option ExpressionTree) (a b : Forest) (m n : Meaning) → Like R (For Nil t u a) (For Nil t u b) → Nearly s L M m n → Nearly s L M (for_turn L t u a m) (for_turn M t u b n)
-    for_near None u a b m n h k w = bind s w _ _ _ _ (k w) (λ c x. near_turned c (third_part L None u a) (third_part M None u b) (third_near less None u a b h) x)
+    pub for_near : (t u : Option ExpressionTree) (a b : Forest) (m n : Meaning) → Like R (For Nil t u a) (For Nil t u b) → Nearly s L M m n →
+        Nearly s L M (for_turn L t u a m) (for_turn M t u b n)
+    for_near None u a b m n h k w = bind s w _ _ _ _ (k w) (λ c x. near_turned c (third_part L None u a) (third_part M None u b)
+        (third_near less None u a b h) x)
     for_near (Some e) u a b m n h k w = bind s w _ _ _ _ (eval_near s L M less.calls e false w)
-        (λ v x. near_chosen s L M (holds v) (λ w. body_then (m w) (third_part L (Some e) u a)) nothing (λ w. body_then (n w) (third_part M (Some e) u b)) nothing
-        (λ w. bind s w _ _ _ _ (k w) (λ c x. near_turned c (third_part L (Some e) u a) (third_part M (Some e) u b) (third_near less (Some e) u a b h) x)) (λ w. near_yields s w _) x)
+        (λ v x. near_chosen s L M (holds v) (λ w. body_then (m w) (third_part L (Some e) u a)) nothing
+        (λ w. body_then (n w) (third_part M (Some e) u b)) nothing
+        (λ w. bind s w _ _ _ _ (k w) (λ c x. near_turned c (third_part L (Some e) u a) (third_part M (Some e) u b) (third_near less (Some e) u a b h)
+        x)) (λ w. near_yields s w _) x)
 
     leaf_near : (x : Tree) → IsLeaf x → Nearly s L M (exec L x) (exec M x)
     leaf_near (Evaluate e) h w = bind s w _ _ _ _ (eval_near s L M less.calls e true w) (λ v u. near_yields s u _)
@@ -174,7 +181,8 @@ module _ (R : Tree → Tree → Type 0) (s : Bool) (L M : LessFuel) where
 
     -- what comes after the body of a `do`
     pub do_near : (a c : Forest) (t : TestTree) → Like R (Do a t) (Do c t)
-        → Nearly s L M (λ w. and_then (eval_test L t w) (λ v w. chosen (holds v) (L.again (Do a t)) nothing w)) (λ w. and_then (eval_test M t w) (λ v w. chosen (holds v) (M.again (Do c t)) nothing w))
+        → Nearly s L M (λ w. and_then (eval_test L t w) (λ v w. chosen (holds v) (L.again (Do a t)) nothing w))
+        (λ w. and_then (eval_test M t w) (λ v w. chosen (holds v) (M.again (Do c t)) nothing w))
     do_near a c t h w = bind s w _ _ _ _ (test_near s L M less.calls t w)
         (λ v u. near_chosen s L M (holds v) (L.again (Do a t)) nothing (M.again (Do c t)) nothing (less.again (Do a t) (Do c t) h) (λ w. near_yields s w _) u)
 
@@ -185,27 +193,35 @@ module _ (R : Tree → Tree → Type 0) (s : Bool) (L M : LessFuel) where
       exec_near (like_if t {a = a} {b = b} {c = c} {d = d} h k) w = bind s w _ _ _ _ (test_near s L M less.calls t w)
           (λ v u. near_chosen s L M (holds v) (execs L a) (execs L b) (execs M c) (execs M d) (execs_near h) (execs_near k) u)
       exec_near (like_while t {a = a} {c = c} h) w = bind s w _ _ _ _ (test_near s L M less.calls t w)
-          (λ v u. near_chosen s L M (holds v) (λ w. body_then (execs L a w) (L.again (While t a))) nothing (λ w. body_then (execs M c w) (M.again (While t c))) nothing
-          (λ w. bind s w _ _ _ _ (execs_near h w) (λ x u. near_turned x (L.again (While t a)) (M.again (While t c)) (less.again (While t a) (While t c) (like_while t h)) u)) (λ w. near_yields s w _) u)
+          (λ v u. near_chosen s L M (holds v) (λ w. body_then (execs L a w) (L.again (While t a))) nothing
+          (λ w. body_then (execs M c w) (M.again (While t c))) nothing
+          (λ w. bind s w _ _ _ _ (execs_near h w) (λ x u. near_turned x (L.again (While t a)) (M.again (While t c))
+          (less.again (While t a) (While t c) (like_while t h)) u)) (λ w. near_yields s w _) u)
       exec_near (like_do t {a = a} {c = c} h) w = bind s w _ _ _ _ (execs_near h w) (λ x u. near_turned x _ _ (do_near a c t (like_do t h)) u)
       exec_near (like_for t u {a = a} {b = b} {c = c} {d = d} h k) w = bind s w _ _ _ _ (execs_near h w)
-          (λ x v. near_followed x (for_turn L t u b (execs L b)) (for_turn M t u d (execs M d)) (for_near t u b d (execs L b) (execs M d) (like_for t u like_nil k) (execs_near k)) v)
+          (λ x v. near_followed x (for_turn L t u b (execs L b)) (for_turn M t u d (execs M d))
+          (for_near t u b d (execs L b) (execs M d) (like_for t u like_nil k) (execs_near k)) v)
       exec_near (like_switch i {c = c} {d = d} h) w = bind s w _ _ _ _ (selector_near s L M less.calls i w)
-          (λ v u. bind s u _ _ _ _ (near_entered (from_case L (switch_kind i) (integer v) c) (from_default L c) (from_case M (switch_kind i) (integer v) d) (from_default M d) (case_near (switch_kind i) (integer v) h) (default_near h) u) (λ x t. near_switched x t))
+          (λ v u. bind s u _ _ _ _ (near_entered (from_case L (switch_kind i) (integer v) c) (from_default L c)
+          (from_case M (switch_kind i) (integer v) d) (from_default M d) (case_near (switch_kind i) (integer v) h) (default_near h) u)
+          (λ x t. near_switched x t))
       exec_near (like_block h) w = execs_near h w
 
       pub execs_near : {a b : Forest} → Likes R a b → Nearly s L M (execs L a) (execs M b)
       execs_near like_nil w = near_yields s w _
-      execs_near (like_then {x = x} {y = y} {xs = xs} {ys = ys} h k) w = bind s w _ _ _ _ (exec_near h w) (λ c u. near_followed c (execs L xs) (execs M ys) (execs_near k) u)
+      execs_near (like_then {x = x} {y = y} {xs = xs} {ys = ys} h k) w =
+          bind s w _ _ _ _ (exec_near h w) (λ c u. near_followed c (execs L xs) (execs M ys) (execs_near k) u)
 
       section_near : {c d : Sections} → LikeSections R c d → Nearly s L M (from_section L c) (from_section M d)
       section_near like_none w = near_yields s w _
-      section_near (like_section cases default ends {a = a} {b = b} {c = c} {d = d} h k) w = near_fall (execs L a) (execs M b) ends (from_section L c) (from_section M d) (execs_near h) (section_near k) w
+      section_near (like_section cases default ends {a = a} {b = b} {c = c} {d = d} h k) w =
+          near_fall (execs L a) (execs M b) ends (from_section L c) (from_section M d) (execs_near h) (section_near k) w
 
       case_near : (k : IntKind) (n : ℤ) {c d : Sections} → LikeSections R c d → OptionNear (from_case L k n c) (from_case M k n d)
       case_near i n like_none = tt
       case_near i n (like_section cases default ends {a = a} {b = b} {c = c} {d = d} h k) =
-          near_here (list_any (is_case i n) cases) (fall (execs L a) ends (from_section L c)) (fall (execs M b) ends (from_section M d)) (from_case L i n c) (from_case M i n d)
+          near_here (list_any (is_case i n) cases) (fall (execs L a) ends (from_section L c)) (fall (execs M b) ends (from_section M d))
+          (from_case L i n c) (from_case M i n d)
           (near_fall (execs L a) (execs M b) ends (from_section L c) (from_section M d) (execs_near h) (section_near k)) (case_near i n k)
 
       default_near : {c d : Sections} → LikeSections R c d → OptionNear (from_default L c) (from_default M d)

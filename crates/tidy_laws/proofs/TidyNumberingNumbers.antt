@@ -61,7 +61,8 @@ front_same (false ∷ gone) zero (suc x) h l = absurd (omega (arith, l))
 front_same (false ∷ gone) (suc p) (suc x) h l = ap suc (front_same gone p x (λ y m. h (suc y) (omega (arith, m))) (omega (arith, l)))
 
 in_front : (gone : List Bool) (p x : ℕ) → ((y : ℕ) → y < p → is_gone gone y ≡ false) → leb p (old_number gone x) ≡ leb p x
-in_front gone p x h = same_bool (leb p (old_number gone x)) (leb p x) (λ e. down (leb p x) refl (leb-true p (old_number gone x) e)) (λ e. let k = leb-true p x e in let m = no_less gone x in le-leb p (old_number gone x) (omega (arith, k, m)))
+in_front gone p x h = same_bool (leb p (old_number gone x)) (leb p x) (λ e. down (leb p x) refl (leb-true p (old_number gone x) e))
+    (λ e. let k = leb-true p x e in let m = no_less gone x in le-leb p (old_number gone x) (omega (arith, k, m)))
   where
     down : (b : Bool) → leb p x ≡ b → p ≤ old_number gone x → leb p x ≡ true
     down true e l = e
@@ -110,7 +111,8 @@ new_suc g x = at (nat_lt g x) refl
         let k : nat_lt (suc g) (suc x) ≡ false = grind (arith, nat_tests) in
         ap (λ b. cond b (pred (suc x)) (suc x)) k ∙ sym (ap (λ b. suc (cond b (pred x) x)) i)
 
-stepped : (gone : List Bool) (g x : ℕ) → old_number gone g < length gone → x ≢ g → old_number (slice_set gone (old_number gone g) true) (new_number g x) ≡ old_number gone x
+stepped : (gone : List Bool) (g x : ℕ) → old_number gone g < length gone → x ≢ g →
+    old_number (slice_set gone (old_number gone g) true) (new_number g x) ≡ old_number gone x
 stepped [] g x h n = absurd (omega (arith, h))
 stepped (true ∷ gone) g x h n = ap suc (stepped gone g x (omega (arith, h)) n)
 stepped (false ∷ gone) zero zero h n = absurd (n refl)
@@ -126,7 +128,8 @@ stepped (false ∷ gone) (suc g) (suc x) h n =
     ap (old_number (false ∷ slice_set gone (old_number gone g) true)) (new_suc g x)
     ∙ ap suc (stepped gone g x (omega (arith, h)) (λ e. n (ap suc e)))
 
-one_less : (gone : List Bool) (g : ℕ) (ss : List Slot) → old_number gone g < length gone → left (slice_set gone (old_number gone g) true) ss ≡ without g (left gone ss)
+one_less : (gone : List Bool) (g : ℕ) (ss : List Slot) → old_number gone g < length gone →
+    left (slice_set gone (old_number gone g) true) ss ≡ without g (left gone ss)
 one_less [] g ss h = absurd (omega (arith, h))
 one_less (true ∷ gone) g [] h = refl
 one_less (true ∷ gone) g (s ∷ ss) h = one_less gone g ss (omega (arith, h))

@@ -27,9 +27,11 @@ use Rattle.tidy_laws.specs.Settles.{Item, Stops}
 
 -- what is left to one less of fuel comes to the same
 pub record Less (p : Code) (L M : LessFuel) : Type 0 where
-  pub again : (sh : Shapes) (holes : ℕ → ℕ) (c : ℕ) (x y : Tree) → Item p (sh c).slots (holes c) false x y → Ends p sh holes c (breaking false) (L.again x) (M.again y)
+  pub again : (sh : Shapes) (holes : ℕ → ℕ) (c : ℕ) (x y : Tree) → Item p (sh c).slots (holes c) false x y →
+      Ends p sh holes c (breaking false) (L.again x) (M.again y)
   pub again_stops : (sh : Shapes) (holes : ℕ → ℕ) (c : ℕ) (x y : Tree) → Stops p (sh c).slots (holes c) x y → Ends p sh holes c normally (L.again x) (M.again y)
-  pub again_for : (sh : Shapes) (holes : ℕ → ℕ) (c : ℕ) (t u t' u' : Option ExpressionTree) (a b : Forest) → Item p (sh c).slots (holes c) false (For Nil t u a) (For Nil t' u' b)
+  pub again_for : (sh : Shapes) (holes : ℕ → ℕ) (c : ℕ) (t u t' u' : Option ExpressionTree) (a b : Forest) →
+      Item p (sh c).slots (holes c) false (For Nil t u a) (For Nil t' u' b)
       → Ends p sh holes c (breaking false) (L.again_for t u a) (M.again_for t' u' b)
   pub calls : (sh : Shapes) (holes : ℕ → ℕ) (c : ℕ) → CallsAlike p sh holes c L M
 
@@ -64,20 +66,24 @@ module _ (p : Code) (sh : Shapes) (holes : ℕ → ℕ) (c : ℕ) (L M : LessFue
       at true i = cc
       at false i = refl
 
-  cell_in : (x i : ℕ) → x < length slots → home_lacks g (H.Slot x) ≡ true → (w u : World) → Apart p sh holes false c w u → HasSort p sh c (Spot (entry_or no_slot slots x).kind) (slot_cell x i w)
+  cell_in : (x i : ℕ) → x < length slots → home_lacks g (H.Slot x) ≡ true → (w u : World) → Apart p sh holes false c w u →
+      HasSort p sh c (Spot (entry_or no_slot slots x).kind) (slot_cell x i w)
   cell_in x i h l w u a = home_reached p sh holes false c w u a (H.Slot x) h l
 
-  array_same : (x : ℕ) → x < length slots → home_lacks g (H.Slot x) ≡ true → (w u : World) → Apart p sh holes false c w u → is_array_slot (new_number g x) u ≡ is_array_slot x w
+  array_same : (x : ℕ) → x < length slots → home_lacks g (H.Slot x) ≡ true → (w u : World) → Apart p sh holes false c w u →
+      is_array_slot (new_number g x) u ≡ is_array_slot x w
   array_same x h l w u a =
       ap (λ d. is_array (u.variables (OfCall d (new_number g x)))) a.same_calls
       ∙ ap is_array (a.call_same c x (omega arith) h (unnamed x l))
       ∙ array_stays holes (w.variables (OfCall c x))
       ∙ ap (λ d. is_array (w.variables (OfCall d x))) (sym a.calls)
 
-  clear_apart : (x n : ℕ) → x < length slots → home_lacks g (H.Slot x) ≡ true → (w u : World) → Apart p sh holes false c w u → Apart p sh holes false c (clear (H.Slot x) n w) (clear (H.Slot (new_number g x)) n u)
+  clear_apart : (x n : ℕ) → x < length slots → home_lacks g (H.Slot x) ≡ true → (w u : World) → Apart p sh holes false c w u →
+      Apart p sh holes false c (clear (H.Slot x) n w) (clear (H.Slot (new_number g x)) n u)
   clear_apart x n h l w u a =
       subst (λ o. Apart p sh holes false c (clear (H.Slot x) n w) (cleared o)) (sym (home_same p sh holes false c w u a (H.Slot x) h l))
-      (put_apart p sh holes false c w u a (with_zeros n) (zeros_keep p sh holes n) (owner (H.Slot x) w) (home_reached p sh holes false c w u a (H.Slot x) h l).0)
+      (put_apart p sh holes false c w u a (with_zeros n) (zeros_keep p sh holes n) (owner (H.Slot x) w)
+      (home_reached p sh holes false c w u a (H.Slot x) h l).0)
     where
       cleared : Owner → World
       cleared o = record u { variables = put o (with_zeros n (u.variables o)) u.variables }
@@ -87,24 +93,31 @@ module _ (p : Code) (sh : Shapes) (holes : ℕ → ℕ) (c : ℕ) (L M : LessFue
   clearing_ends false x n h l w u a = (refl, a)
 
   rest_ends : (x n : ℕ) → x < length slots → home_lacks g (H.Slot x) ≡ true → Both (clear_rest x n) (clear_rest (new_number g x) n)
-  rest_ends x n h l w u a = subst (λ y. Alike (Done p sh holes c (breaking false)) (clear_rest x n w) (clearing y (new_number g x) n u)) (sym (array_same x h l w u a)) (clearing_ends (is_array_slot x w) x n h l w u a)
+  rest_ends x n h l w u a = subst (λ y. Alike (Done p sh holes c (breaking false)) (clear_rest x n w) (clearing y (new_number g x) n u))
+      (sym (array_same x h l w u a)) (clearing_ends (is_array_slot x w) x n h l w u a)
 
-  initialise_ends : (es : List ExpressionTree) → AreKinded p slots es → all_lack g es ≡ true → (x i : ℕ) → x < length slots → home_lacks g (H.Slot x) ≡ true → Both (initialise L x i es) (initialise M (new_number g x) i (map (renumbered g) es))
+  initialise_ends : (es : List ExpressionTree) → AreKinded p slots es → all_lack g es ≡ true → (x i : ℕ) → x < length slots →
+      home_lacks g (H.Slot x) ≡ true → Both (initialise L x i es) (initialise M (new_number g x) i (map (renumbered g) es))
   initialise_ends [] k q x i h l w u a = rest_ends x i h l w u a
   initialise_ends (e ∷ es) k q x i h l w u a =
       let r = both (lacks g e) (all_lack g es) q in
-      then_number p sh holes c L M (kind_of e) (Done p sh holes c (breaking false)) (eval L false e) (eval M false (renumbered g e)) _ _ (value_alike p sh holes c L M calls e k.0 r.0 false)
-      (λ v w' u' s b. subst (λ o. Alike (Done p sh holes c (breaking false)) (initialise L x (suc i) es (store (slot_cell x i w) (integer v) w')) (initialise M (new_number g x) (suc i) (map (renumbered g) es) (store (Designates o i) (integer v) u')))
+      then_number p sh holes c L M (kind_of e) (Done p sh holes c (breaking false)) (eval L false e) (eval M false (renumbered g e))
+      _ _ (value_alike p sh holes c L M calls e k.0 r.0 false)
+      (λ v w' u' s b. subst (λ o. Alike (Done p sh holes c (breaking false)) (initialise L x (suc i) es (store (slot_cell x i w) (integer v) w'))
+      (initialise M (new_number g x) (suc i) (map (renumbered g) es) (store (Designates o i) (integer v) u')))
       (sym (home_same p sh holes false c w u a (H.Slot x) h l))
-      (initialise_ends es k.1 r.1 x (suc i) h l (store (slot_cell x i w) (integer v) w') (store (Designates (new_owner holes (owner (H.Slot x) w)) i) (integer v) u')
+      (initialise_ends es k.1 r.1 x (suc i) h l (store (slot_cell x i w) (integer v) w')
+      (store (Designates (new_owner holes (owner (H.Slot x) w)) i) (integer v) u')
       (store_apart p sh holes c (entry_or no_slot slots x).kind (slot_cell x i w) (integer v) (cell_in x i h l w u a) w' u' b))) w u a
 
   -- ---- items in which no list stands
 
   pub leaf_ends : (x : Tree) → IsLeaf x → KindedItem p slots x → item_lacks g x ≡ true → Both (exec L x) (exec M (renumbered_item g x))
-  leaf_ends (Evaluate e) i k l w u a = then_number p sh holes c L M (kind_of e) (Done p sh holes c (breaking false)) (eval L true e) (eval M true (renumbered g e)) _ _ (value_alike p sh holes c L M calls e k l true) (λ v w u s a. (refl, a)) w u a
+  leaf_ends (Evaluate e) i k l w u a = then_number p sh holes c L M (kind_of e) (Done p sh holes c (breaking false)) (eval L true e)
+      (eval M true (renumbered g e)) _ _ (value_alike p sh holes c L M calls e k l true) (λ v w u s a. (refl, a)) w u a
   leaf_ends (Return None) i k l w u a = (refl, a)
-  leaf_ends (Return (Some e)) i k l w u a = then_number p sh holes c L M (kind_of e) (Done p sh holes c (breaking false)) (eval L false e) (eval M false (renumbered g e)) _ _ (value_alike p sh holes c L M calls e k l false) (λ v w u s a. (refl, a)) w u a
+  leaf_ends (Return (Some e)) i k l w u a = then_number p sh holes c L M (kind_of e) (Done p sh holes c (breaking false)) (eval L false e)
+      (eval M false (renumbered g e)) _ _ (value_alike p sh holes c L M calls e k l false) (λ v w u s a. (refl, a)) w u a
   leaf_ends (Local x None) i k l w u a = (refl, a)
   leaf_ends (Local x (Some es)) i k l w u a = let r = both (not (eqb x g)) (all_lack g es) l in initialise_ends es k.1 r.1 x 0 k.0 r.0 w u a
   leaf_ends Break i k l w u a = (refl, a)
@@ -125,16 +138,24 @@ module _ (p : Code) (sh : Shapes) (holes : ℕ → ℕ) (c : ℕ) (L M : LessFue
 
   -- ---- loops
 
-  third_ends : (t u : Option ExpressionTree) (a b : Forest) → IfSome u (Kinded p slots) → option_lacks g u ≡ true → Item p slots g false (For Nil t u a) (For Nil (renumbered_option g t) (renumbered_option g u) b)
+  third_ends : (t u : Option ExpressionTree) (a b : Forest) → IfSome u (Kinded p slots) → option_lacks g u ≡ true →
+      Item p slots g false (For Nil t u a) (For Nil (renumbered_option g t) (renumbered_option g u) b)
       → Both (third_part L t u a) (third_part M (renumbered_option g t) (renumbered_option g u) b)
   third_ends t None a b k l h w v s = less.again_for sh holes c t None (renumbered_option g t) None a b h w v s
   third_ends t (Some e) a b k l h w v s =
-      then_number p sh holes c L M (kind_of e) (Done p sh holes c (breaking false)) (eval L true e) (eval M true (renumbered g e)) _ _ (value_alike p sh holes c L M calls e k l true)
+      then_number p sh holes c L M (kind_of e) (Done p sh holes c (breaking false)) (eval L true e) (eval M true (renumbered g e))
+      _ _ (value_alike p sh holes c L M calls e k l true)
       (λ x w v i s. less.again_for sh holes c t (Some e) (renumbered_option g t) (Some (renumbered g e)) a b h w v s) w v s
 
-  pub for_ends : (t u : Option ExpressionTree) (a b : Forest) (m n : Meaning) → IfSome t (Kinded p slots) → option_lacks g t ≡ true → IfSome u (Kinded p slots) → option_lacks g u ≡ true
-      → Item p slots g false (For Nil t u a) (For Nil (renumbered_option g t) (renumbered_option g u) b) → Both m n → Both (for_turn L t u a m) (for_turn M (renumbered_option g t) (renumbered_option g u) b n)
-  for_ends None u a b m n k l i j h q = body_ends p sh holes c m n (third_part L None u a) (third_part M None (renumbered_option g u) b) q (third_ends None u a b i j h)
-  for_ends (Some e) u a b m n k l i j h q = decide_ends p sh holes c L M (breaking false) (eval L false e) (eval M false (renumbered g e)) (no_kind p sh holes c L M (kind_of e) (eval L false e) (eval M false (renumbered g e)) (value_alike p sh holes c L M calls e k l false)) _ _
-      (λ v. chosen_ends p sh holes c (breaking false) (holds v) (λ w. body_then (m w) (third_part L (Some e) u a)) nothing (λ w. body_then (n w) (third_part M (Some (renumbered g e)) (renumbered_option g u) b)) nothing
-      (body_ends p sh holes c m n (third_part L (Some e) u a) (third_part M (Some (renumbered g e)) (renumbered_option g u) b) q (third_ends (Some e) u a b i j h)) (ends_nothing p sh holes c))
+  pub for_ends : (t u : Option ExpressionTree) (a b : Forest) (m n : Meaning) → IfSome t (Kinded p slots) → option_lacks g t ≡ true →
+      IfSome u (Kinded p slots) → option_lacks g u ≡ true
+      → Item p slots g false (For Nil t u a) (For Nil (renumbered_option g t) (renumbered_option g u) b) → Both m n →
+      Both (for_turn L t u a m) (for_turn M (renumbered_option g t) (renumbered_option g u) b n)
+  for_ends None u a b m n k l i j h q = body_ends p sh holes c m n (third_part L None u a) (third_part M None (renumbered_option g u) b) q
+      (third_ends None u a b i j h)
+  for_ends (Some e) u a b m n k l i j h q = decide_ends p sh holes c L M (breaking false) (eval L false e) (eval M false (renumbered g e))
+      (no_kind p sh holes c L M (kind_of e) (eval L false e) (eval M false (renumbered g e)) (value_alike p sh holes c L M calls e k l false)) _ _
+      (λ v. chosen_ends p sh holes c (breaking false) (holds v) (λ w. body_then (m w) (third_part L (Some e) u a)) nothing
+      (λ w. body_then (n w) (third_part M (Some (renumbered g e)) (renumbered_option g u) b)) nothing
+      (body_ends p sh holes c m n (third_part L (Some e) u a) (third_part M (Some (renumbered g e)) (renumbered_option g u) b) q
+      (third_ends (Some e) u a b i j h)) (ends_nothing p sh holes c))

@@ -72,7 +72,8 @@ abbrev skips : FunctionTree
 skips = function (slot Int ∷ slot Int ∷ []) (forest
     (zero_declared 0
     ∷ Local 1 None
-    ∷ Do (forest (set 1 get_byte ∷ set 0 (is_byte 1 32) ∷ If (Source (is_off 0)) (one (put (read 1))) Nil ∷ set 0 (number 0) ∷ [])) (Source (int (Binary AtLeast (read 1) (number 0))))
+    ∷ Do (forest (set 1 get_byte ∷ set 0 (is_byte 1 32) ∷ If (Source (is_off 0)) (one (put (read 1))) Nil ∷ set 0 (number 0) ∷ []))
+    (Source (int (Binary AtLeast (read 1) (number 0))))
     ∷ Return (Some (number 0))
     ∷ []))
 
@@ -90,7 +91,8 @@ declares = function (slot Int ∷ slot Int ∷ []) (forest
     ∷ While (Source (number 1)) (forest (set 0 (number 1) ∷ If (Source (is_off 0)) (forest (Local 1 None ∷ [])) Nil ∷ set 0 (number 0) ∷ []))
     ∷ []))
 
-declares_changed : changed_fully declares ≡ function (slot Int ∷ []) (forest (While (Source (number 1)) (forest (Continue ∷ Block (one (Local 0 None)) ∷ [])) ∷ []))
+declares_changed : changed_fully declares ≡ function (slot Int ∷ [])
+    (forest (While (Source (number 1)) (forest (Continue ∷ Block (one (Local 0 None)) ∷ [])) ∷ []))
 declares_changed = refl
 
 -- two loops, one in the other, that one guard leaves: slots 0 and 1 are i and j
@@ -116,7 +118,8 @@ nested_stays : changes_of nested ≡ []
 nested_stays = refl
 
 -- a guard with a further mention stays
-mentioned_stays : changes_of (function (slot Int ∷ []) (forest (zero_declared 0 ∷ While (Source (guarded 0 (number 1))) (one (set 0 (number 1))) ∷ set 0 (number 0) ∷ put (read 0) ∷ []))) ≡ []
+mentioned_stays : changes_of (function (slot Int ∷ [])
+    (forest (zero_declared 0 ∷ While (Source (guarded 0 (number 1))) (one (set 0 (number 1))) ∷ set 0 (number 0) ∷ put (read 0) ∷ []))) ≡ []
 mentioned_stays = refl
 
 -- how deep a set may stand

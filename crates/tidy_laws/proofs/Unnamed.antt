@@ -47,11 +47,17 @@ module _ (p : Code) (ss : List Slot) where
     free _ (k_read at i) = let h = place_free at i in (h.0, ap (Typed (Some (place_kind p ss at))) (ap Read h.1))
     free _ (k_unary op a i) = let h = free a i in (h.0, ap (Typed (Some (unary_kind op (operand_kind (kind_of a))))) (ap (Unary op) h.1))
     free _ (k_cast kind a i) = let h = free a i in (h.0, ap (Typed kind) (ap Cast h.1))
-    free _ (k_binary op a b i j) = let h = free a i in let k = free b j in (both_true _ _ h.0 k.0, ap (Typed (Some (binary_kind op (operand_kind (kind_of a)) (operand_kind (kind_of b))))) (ap₂ (Binary op) h.1 k.1))
-    free _ (k_conditional kind a b c i j l) = let h = free a i in let k = free b j in let m = free c l in
-        (both_true _ _ h.0 (both_true _ _ k.0 m.0), ap (Typed kind) (ap (λ x. Conditional x (renumbered n b) (renumbered n c)) h.1 ∙ ap₂ (Conditional a) k.1 m.1))
-    free _ (k_assign at a i j) = let h = place_free at i in let k = free a j in (both_true _ _ h.0 k.0, ap (Typed (Some (place_kind p ss at))) (ap₂ Assign h.1 k.1))
-    free _ (k_update op at a i j) = let h = place_free at i in let k = free a j in (both_true _ _ h.0 k.0, ap (Typed (Some (place_kind p ss at))) (ap₂ (Update op) h.1 k.1))
+    free _ (k_binary op a b i j) = let h = free a i in let k = free b j in
+        (both_true _ _ h.0 k.0, ap (Typed (Some (binary_kind op (operand_kind (kind_of a)) (operand_kind (kind_of b))))) (ap₂ (Binary op) h.1 k.1))
+    free _ (k_conditional kind a b c i j l) = let h = free a i in let k = free b j in let m = free c l in (
+      both_true _ _ h.0 (both_true _ _ k.0 m.0),
+      ap (Typed kind)
+          (ap (λ x. Conditional x (renumbered n b) (renumbered n c)) h.1 ∙ ap₂ (Conditional a) k.1 m.1),
+    )
+    free _ (k_assign at a i j) = let h = place_free at i in let k = free a j in
+        (both_true _ _ h.0 k.0, ap (Typed (Some (place_kind p ss at))) (ap₂ Assign h.1 k.1))
+    free _ (k_update op at a i j) = let h = place_free at i in let k = free a j in
+        (both_true _ _ h.0 k.0, ap (Typed (Some (place_kind p ss at))) (ap₂ (Update op) h.1 k.1))
     free _ (k_count at up after i) = let h = place_free at i in (h.0, ap (Typed (Some (place_kind p ss at))) (ap (λ x. Count x up after) h.1))
     free _ (k_comma a b i j) = let h = free a i in let k = free b j in (both_true _ _ h.0 k.0, ap (Typed (kind_of b)) (ap₂ Comma h.1 k.1))
     free _ (k_call m xs i) = let h = arguments_free (p.functions m).slots xs i in (h.0, ap (Typed (call_kind p m)) (ap (Call m) h.1))
@@ -62,8 +68,10 @@ module _ (p : Code) (ss : List Slot) where
 
     arguments_free : (ts : List Slot) (xs : Arguments) → KindedArguments p ss ts xs → (arguments_lack n xs ≡ true) × (renumbered_arguments n xs ≡ xs)
     arguments_free ts _ (k_none us) = (refl, refl)
-    arguments_free ts _ (k_argument us x xs i j) = let h = free x i in let k = arguments_free (later_slots ts) xs j in (both_true _ _ h.0 k.0, ap₂ Argument h.1 k.1)
-    arguments_free ts _ (k_array us kind h xs i z e j) = let m = home_free h i in let k = arguments_free (later_slots ts) xs j in (both_true _ _ m.0 k.0, ap₂ (λ x y. Argument (Typed kind (Array x)) y) m.1 k.1)
+    arguments_free ts _ (k_argument us x xs i j) = let h = free x i in let k = arguments_free (later_slots ts) xs j in
+        (both_true _ _ h.0 k.0, ap₂ Argument h.1 k.1)
+    arguments_free ts _ (k_array us kind h xs i z e j) = let m = home_free h i in let k = arguments_free (later_slots ts) xs j in
+        (both_true _ _ m.0 k.0, ap₂ (λ x y. Argument (Typed kind (Array x)) y) m.1 k.1)
 
   option_free : (o : Option ExpressionTree) → IfSome o (Kinded p ss) → (option_lacks n o ≡ true) × (renumbered_option n o ≡ o)
   option_free None h = (refl, refl)
@@ -103,8 +111,11 @@ module _ (p : Code) (ss : List Slot) where
         (both_true _ _ k.0 (both_true _ _ m.0 i.0), ap (λ x. If x (renumbered_list n a) (renumbered_list n b)) k.1 ∙ ap₂ (If t) m.1 i.1)
     item_free (While t a) h = let k = test_free t h.0 in let m = items_free a h.1 in (both_true _ _ k.0 m.0, ap₂ While k.1 m.1)
     item_free (Do a t) h = let k = test_free t h.0 in let m = items_free a h.1 in (both_true _ _ m.0 k.0, ap₂ Do m.1 k.1)
-    item_free (For f t u a) h = let i = items_free f h.1 in let j = option_free t h.0.0 in let k = option_free u h.0.1 in let m = items_free a h.2 in
-        (both_true _ _ i.0 (both_true _ _ j.0 (both_true _ _ k.0 m.0)), ap₂ (λ x y. For x y (renumbered_option n u) (renumbered_list n a)) i.1 j.1 ∙ ap₂ (λ x y. For f t x y) k.1 m.1)
+    item_free (For f t u a) h = let i = items_free f h.1 in let j = option_free t h.0.0 in let k = option_free u h.0.1 in let m = items_free a h.2 in (
+      both_true _ _ i.0 (both_true _ _ j.0 (both_true _ _ k.0 m.0)),
+      ap₂ (λ x y. For x y (renumbered_option n u) (renumbered_list n a)) i.1 j.1 ∙
+          ap₂ (λ x y. For f t x y) k.1 m.1,
+    )
     item_free (Switch s c) h = let k = selector_free s h.0 in let m = sections_free c h.1 in (both_true _ _ k.0 m.0, ap₂ Switch k.1 m.1)
     item_free (Block a) h = let m = items_free a h.1 in (m.0, ap Block m.1)
     item_free (Local x es) h = let k = values_free es h.1 in let i = home_free (H.Slot x) h.0 in (both_true _ _ i.0 k.0, ap₂ Local (ap number_of i.1) k.1)
@@ -121,4 +132,5 @@ module _ (p : Code) (ss : List Slot) where
 
     sections_free : (c : Sections) → EverywhereIn K c → (sections_lack n c ≡ true) × (renumbered_sections n c ≡ c)
     sections_free NoSection h = (refl, refl)
-    sections_free (Section cases default a ends c) h = let k = items_free a h.0 in let m = sections_free c h.1 in (both_true _ _ k.0 m.0, ap₂ (λ x y. Section cases default x ends y) k.1 m.1)
+    sections_free (Section cases default a ends c) h = let k = items_free a h.0 in let m = sections_free c h.1 in
+        (both_true _ _ k.0 m.0, ap₂ (λ x y. Section cases default x ends y) k.1 m.1)

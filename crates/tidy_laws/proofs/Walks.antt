@@ -208,7 +208,8 @@ module _ (r s : ℕ → ℕ) (g : ℕ) (h : (x : ℕ) → eqb x g ≡ false → 
     step_node (Unary op a) l = ap (Unary op) (step_expression a l)
     step_node (Cast a) l = ap (Cast) (step_expression a l)
     step_node (Binary op a b) l = let w = both_so (lacks g a) (lacks g b) l in ap₂ (Binary op) (step_expression a w.0) (step_expression b w.1)
-    step_node (Conditional a b c) l = let d = both_so (lacks g a) (lacks g b && lacks g c) l in let e = both_so (lacks g b) (lacks g c) d.1 in three_same Conditional (step_expression a d.0) (step_expression b e.0) (step_expression c e.1)
+    step_node (Conditional a b c) l = let d = both_so (lacks g a) (lacks g b && lacks g c) l in let e = both_so (lacks g b) (lacks g c) d.1 in
+        three_same Conditional (step_expression a d.0) (step_expression b e.0) (step_expression c e.1)
     step_node (Assign p a) l = let w = both_so (place_lacks g p) (lacks g a) l in ap₂ (Assign) (step_place p w.0) (step_expression a w.1)
     step_node (Update op p a) l = let w = both_so (place_lacks g p) (lacks g a) l in ap₂ (Update op) (step_place p w.0) (step_expression a w.1)
     step_node (Count p up after) l = ap (λ q. Count q up after) (step_place p l)
@@ -250,10 +251,15 @@ module _ (r s : ℕ → ℕ) (g : ℕ) (h : (x : ℕ) → eqb x g ≡ false → 
     step_item : (x : Tree) → item_lacks g x ≡ true → renamed_item r (renumbered_item g x) ≡ renamed_item s x
     step_item (Evaluate e) l = ap (Evaluate) (step_expression e l)
     step_item (Return e) l = ap (Return) (step_option e l)
-    step_item (If t a b) l = let d = both_so (test_lacks g t) (list_lacks g a && list_lacks g b) l in let e = both_so (list_lacks g a) (list_lacks g b) d.1 in three_same If (step_test t d.0) (step_list a e.0) (step_list b e.1)
+    step_item (If t a b) l = let d = both_so (test_lacks g t) (list_lacks g a && list_lacks g b) l in let e =
+        both_so (list_lacks g a) (list_lacks g b)
+        d.1 in three_same If (step_test t d.0) (step_list a e.0) (step_list b e.1)
     step_item (While t a) l = let w = both_so (test_lacks g t) (list_lacks g a) l in ap₂ (While) (step_test t w.0) (step_list a w.1)
     step_item (Do a t) l = let w = both_so (list_lacks g a) (test_lacks g t) l in ap₂ (Do) (step_list a w.0) (step_test t w.1)
-    step_item (For f t u a) l = let c = both_so (list_lacks g f) (option_lacks g t && (option_lacks g u && list_lacks g a)) l in let d = both_so (option_lacks g t) (option_lacks g u && list_lacks g a) c.1 in let e = both_so (option_lacks g u) (list_lacks g a) d.1 in four_same For (step_list f c.0) (step_option t d.0) (step_option u e.0) (step_list a e.1)
+    step_item (For f t u a) l = let c = both_so (list_lacks g f) (option_lacks g t && (option_lacks g u && list_lacks g a)) l in let d =
+        both_so
+        (option_lacks g t) (option_lacks g u && list_lacks g a) c.1 in let e = both_so (option_lacks g u) (list_lacks g a) d.1 in
+        four_same For (step_list f c.0) (step_option t d.0) (step_option u e.0) (step_list a e.1)
     step_item (Switch v c) l = let w = both_so (selector_lacks g v) (sections_lack g c) l in ap₂ (Switch) (step_selector v w.0) (step_sections c w.1)
     step_item (Block a) l = ap (Block) (step_list a l)
     step_item (Local x es) l = let w = both_so (not (eqb x g)) (values_lack g es) l in ap₂ Local (step_slot x w.0) (step_values es w.1)
@@ -262,4 +268,5 @@ module _ (r s : ℕ → ℕ) (g : ℕ) (h : (x : ℕ) → eqb x g ≡ false → 
 
     step_sections : (c : Sections) → sections_lack g c ≡ true → renamed_sections r (renumbered_sections g c) ≡ renamed_sections s c
     step_sections NoSection l = refl
-    step_sections (Section cases default a ends c) l = let w = both_so (list_lacks g a) (sections_lack g c) l in ap₂ (λ b d. Section cases default b ends d) (step_list a w.0) (step_sections c w.1)
+    step_sections (Section cases default a ends c) l = let w = both_so (list_lacks g a) (sections_lack g c) l in
+        ap₂ (λ b d. Section cases default b ends d) (step_list a w.0) (step_sections c w.1)

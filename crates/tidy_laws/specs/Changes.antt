@@ -190,7 +190,8 @@ module _ (p n : ℕ) where
     -- the lists that one change at a loop makes of a list at this level, in text order, with the slot of each
     pub changed_lists : ℕ → Forest → List (ℕ × Forest)
     changed_lists level Nil = []
-    changed_lists level (Then x xs) = changed_here level x xs ++ (around (λ y. Then y xs) (changed_items (suc level) x) ++ around (Then x) (changed_lists level xs))
+    changed_lists level (Then x xs) = changed_here level x xs ++
+        (around (λ y. Then y xs) (changed_items (suc level) x) ++ around (Then x) (changed_lists level xs))
 
     -- of an item whose lists stand at this level
     pub changed_items : ℕ → Tree → List (ℕ × Tree)

@@ -80,4 +80,5 @@ pub record TidyLaws : Type 0 where
   -- so do n of them in a row, where kinds agree before each
   pub several : (n : ℕ) (p : ℕ → Code) → ((i : ℕ) → i < n → HasKinds (p i)) → ((i : ℕ) → i < n → IsChangedCode (p i) (p (suc i))) → BehaveAlike (p 0) (p n)
   -- and then the sections of switches may get their plain form
-  pub sections : (n : ℕ) (p : ℕ → Code) → ((i : ℕ) → i < n → HasKinds (p i)) → ((i : ℕ) → i < n → IsChangedCode (p i) (p (suc i))) → IsCodeStructured (p n) → BehaveAlike (p 0) (tidy_code (p n))
+  pub sections : (n : ℕ) (p : ℕ → Code) → ((i : ℕ) → i < n → HasKinds (p i)) → ((i : ℕ) → i < n → IsChangedCode (p i) (p (suc i))) →
+      IsCodeStructured (p n) → BehaveAlike (p 0) (tidy_code (p n))

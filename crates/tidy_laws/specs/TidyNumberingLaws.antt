@@ -23,6 +23,7 @@ pub record NumberLaws : Type 0 where
   -- one more is gone, which a list doesn't name
   pub one_more : (gone : List Bool) (g : ℕ) (a : Forest) → old_number gone g < length gone → list_lacks g a ≡ true
       → renamed_list (old_number (slice_set gone (old_number gone g) true)) (renumbered_list g a) ≡ renamed_list (old_number gone) a
-  pub one_less : (gone : List Bool) (g : ℕ) (ss : List Slot) → old_number gone g < length gone → left (slice_set gone (old_number gone g) true) ss ≡ without g (left gone ss)
+  pub one_less : (gone : List Bool) (g : ℕ) (ss : List Slot) → old_number gone g < length gone →
+      left (slice_set gone (old_number gone g) true) ss ≡ without g (left gone ss)
   -- and back to the new numbers
   pub back : (gone : List Bool) (r : ℕ → ℕ) (a : Forest) → ((x : ℕ) → r x ≡ x - gone_before gone x) → renamed_list r (renamed_list (old_number gone) a) ≡ a

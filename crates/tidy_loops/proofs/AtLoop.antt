@@ -33,7 +33,8 @@ it_if : (g : ℕ) (b : Bool) (s : Option ℕ) → is_it g (cond b s None) ≡ co
 it_if g true s = refl
 it_if g false s = refl
 
-reset_at : (g : ℕ) (p : PlaceTree) (e : ExpressionTree) → is_reset g (Evaluate (Typed (Some Int) (Assign p e))) ≡ cond (is_number 0 e) (is_it g (place_slot p)) false
+reset_at : (g : ℕ) (p : PlaceTree) (e : ExpressionTree) → is_reset g (Evaluate (Typed (Some Int) (Assign p e))) ≡ cond (is_number 0 e)
+    (is_it g (place_slot p)) false
 reset_at g (Var (H.Slot x)) e = and_number (eqb x g) (is_number 0 e)
 reset_at g (Var (H.Global m)) e = sym (never (is_number 0 e))
   where
@@ -75,7 +76,8 @@ number_count : (g : ℕ) (e : ExpressionTree) → is_number 0 e ≡ true → exp
 number_count g (Typed (Some Int) (Number (pos m))) h = refl
 number_count g _ h = cc
 
-reset_count_at : (g : ℕ) (p : PlaceTree) (e : ExpressionTree) (a b : Bool) → is_number 0 e ≡ b → is_it g (cond (a && b) (place_slot p) None) ≡ true → place_count g p + expression_count g e ≡ 1
+reset_count_at : (g : ℕ) (p : PlaceTree) (e : ExpressionTree) (a b : Bool) → is_number 0 e ≡ b → is_it g (cond (a && b) (place_slot p) None) ≡ true →
+    place_count g p + expression_count g e ≡ 1
 reset_count_at g (Var (H.Slot x)) e true true i h = let k = number_count g e i in let l = ap one_if h in omega (arith, k, l)
 reset_count_at g (Var (H.Global m)) e true true i h = cc
 reset_count_at g (Cell k a) e true true i h = cc
@@ -114,13 +116,15 @@ made_both X rest false true = refl
 made_both X rest false false = refl
 
 broken_at : (g n : ℕ) (loop : TestTree → Forest → Tree) (r : TestTree) (a rest : Forest) (b c : Bool)
-    → both_there (with_breaks g n loop (cond b (Some r) None) a) (cond c (Some rest) None) ≡ cond b (cond (c && are_low g n a) (Some (Then (loop r (tailed g Break a)) rest)) None) None
+    → both_there (with_breaks g n loop (cond b (Some r) None) a) (cond c (Some rest) None) ≡ cond b
+    (cond (c && are_low g n a) (Some (Then (loop r (tailed g Break a)) rest)) None) None
 broken_at g n loop r a rest true c = made_both (loop r (tailed g Break a)) rest c (are_low g n a)
 broken_at g n loop r a rest false c = refl
 
 broken_is : (g n : ℕ) (loop : TestTree → Forest → Tree) (t : TestTree) (a xs : Forest)
     → both_there (with_breaks g n loop (second_test g t) a) (after_reset g xs)
-    ≡ cond (is_it g (stop_slot t)) (cond (is_it g (first_reset xs) && are_low g n a) (Some (Then (loop (rest_test t) (tailed g Break a)) (but_first xs))) None) None
+    ≡ cond (is_it g (stop_slot t)) (cond (is_it g (first_reset xs) && are_low g n a)
+    (Some (Then (loop (rest_test t) (tailed g Break a)) (but_first xs))) None) None
 broken_is g n loop t a xs =
     ap (λ z. both_there (with_breaks g n loop z a) (after_reset g xs)) (second_is g t)
     ∙ ap (λ z. both_there (with_breaks g n loop (cond (is_it g (stop_slot t)) (Some (rest_test t)) None) a) z) (first_is g xs)
@@ -148,31 +152,40 @@ left true b h = refl
 left false b h = h
 
 break_fits : (f : FunctionTree) (s : ℕ) (x : Tree) (t : TestTree) (a xs : Forest) (loop : TestTree → Forest → Tree)
-    → item_count s x ≡ test_count s t + list_count s a → item_count s (loop (rest_test t) (tailed s Break a)) ≡ test_count s (rest_test t) + list_count s (tailed s Break a)
+    → item_count s x ≡ test_count s t + list_count s a → item_count s (loop (rest_test t) (tailed s Break a)) ≡ test_count s
+    (rest_test t) + list_count s (tailed s Break a)
     → stop_slot t ≡ Some s → is_it s (first_reset xs) ≡ true
-    → fits f (Then x xs) (s, Then (loop (rest_test t) (tailed s Break a)) (but_first xs)) ≡ (is_declared_flag f s && eqb (list_count s (items_of f)) (3 + exits_in s a))
+    → fits f (Then x xs) (s, Then (loop (rest_test t) (tailed s Break a)) (but_first xs)) ≡ (is_declared_flag f s &&
+    eqb (list_count s (items_of f)) (3 + exits_in s a))
 break_fits f s x t a xs loop u v e h =
     let p = stop_once s t (it_is s (stop_slot t) e) in
     let q = first_once s xs h in
     let r = exit_laws_hold.gone s E.Break a in
     ap (λ z. is_declared_flag f s && z)
-    (eqb_same (list_count s (items_of f) + (item_count s (loop (rest_test t) (tailed s Break a)) + list_count s (but_first xs))) (suc (item_count s x + list_count s xs)) (list_count s (items_of f)) (3 + exits_in s a)
+    (eqb_same (list_count s (items_of f) + (item_count s (loop (rest_test t) (tailed s Break a)) + list_count s (but_first xs)))
+    (suc (item_count s x + list_count s xs)) (list_count s (items_of f)) (3 + exits_in s a)
     (λ w. omega (arith, u, v, p, q, r, w)) (λ w. omega (arith, u, v, p, q, r, w)))
 
 by_break_loop : (f : FunctionTree) (n : ℕ) (x : Tree) (t : TestTree) (a xs : Forest) (loop : TestTree → Forest → Tree)
-    → ((g : ℕ) → item_count g x ≡ test_count g t + list_count g a) → ((g : ℕ) → item_count g (loop (rest_test t) (tailed g Break a)) ≡ test_count g (rest_test t) + list_count g (tailed g Break a))
+    → ((g : ℕ) → item_count g x ≡ test_count g t + list_count g a) →
+    ((g : ℕ) → item_count g (loop (rest_test t) (tailed g Break a)) ≡ test_count g (rest_test t) + list_count g (tailed g Break a))
     → ((g : ℕ) → broken_loop g n x ≡ with_breaks g n loop (second_test g t) a)
-    → filter (fits f (Then x xs)) (broken_lists f n x xs) ≡ found (λ g. Then (loop (rest_test t) (tailed g Break a)) (but_first xs)) (allowed (breaks (counts_of f) n a xs) (stop_slot t))
+    → filter (fits f (Then x xs)) (broken_lists f n x xs) ≡ found (λ g. Then (loop (rest_test t) (tailed g Break a)) (but_first xs))
+    (allowed (breaks (counts_of f) n a xs) (stop_slot t))
 by_break_loop f n x t a xs loop u v k =
-    kept_slots (λ g. both_there (broken_loop g n x) (after_reset g xs)) (fits f (Then x xs)) (stop_slot t) (λ g. Then (loop (rest_test t) (tailed g Break a)) (but_first xs))
-    (λ g. is_it g (first_reset xs) && are_low g n a) (λ g. is_declared_flag f g && eqb (list_count g (items_of f)) (3 + exits_in g a)) (breaks (counts_of f) n a xs)
+    kept_slots (λ g. both_there (broken_loop g n x) (after_reset g xs)) (fits f (Then x xs)) (stop_slot t)
+    (λ g. Then (loop (rest_test t) (tailed g Break a)) (but_first xs))
+    (λ g. is_it g (first_reset xs) && are_low g n a) (λ g. is_declared_flag f g && eqb (list_count g (items_of f)) (3 + exits_in g a))
+    (breaks (counts_of f) n a xs)
     f.params (length f.slots)
     (λ g. ap (λ z. both_there z (after_reset g xs)) (k g) ∙ broken_is g n loop t a xs)
     (λ s e b. break_fits f s x t a xs loop (u s) (v s) e (left (is_it s (first_reset xs)) (are_low s n a) b))
     (λ s. ap (λ b. is_it s (first_reset xs) && (are_low s n a && b)) (counted f s (3 + exits_in s a) (2 + exits_in s a) (omega arith))
-    ∙ shuffled (is_it s (first_reset xs)) (leb f.params s && ltb s (length f.slots)) (is_declared_flag f s) (are_low s n a) (eqb (list_count s (items_of f)) (3 + exits_in s a)))
+    ∙ shuffled (is_it s (first_reset xs)) (leb f.params s && ltb s (length f.slots)) (is_declared_flag f s) (are_low s n a)
+    (eqb (list_count s (items_of f)) (3 + exits_in s a)))
 
-by_break : (f : FunctionTree) (n : ℕ) (x : Tree) (xs : Forest) → filter (fits f (Then x xs)) (broken_lists f n x xs) ≡ found (λ g. Then (broken g x) (but_first xs)) (break_slot (counts_of f) n x xs)
+by_break : (f : FunctionTree) (n : ℕ) (x : Tree) (xs : Forest) → filter (fits f (Then x xs)) (broken_lists f n x xs) ≡ found
+    (λ g. Then (broken g x) (but_first xs)) (break_slot (counts_of f) n x xs)
 by_break f n (While t a) xs = by_break_loop f n (While t a) t a xs While (λ g. refl) (λ g. refl) (λ g. refl)
 by_break f n (Do a t) xs = by_break_loop f n (Do a t) t a xs (λ t a. Do a t) (λ g. omega arith) (λ g. omega arith) (λ g. refl)
 by_break f n x xs = kept_none (λ g. both_there (broken_loop g n x) (after_reset g xs)) (fits f (Then x xs)) f.params (length f.slots - f.params) (λ g. refl)
@@ -180,7 +193,8 @@ by_break f n x xs = kept_none (λ g. both_there (broken_loop g n x) (after_reset
 -- ---- by continue
 
 continued_at : (g n : ℕ) (loop : Forest → Tree) (a xs : Forest) (b : Bool)
-    → option_map (λ y. Then y xs) (with_continues g n loop (cond b (Some a) None)) ≡ cond b (cond (are_low g n a) (Some (Then (loop (tailed g Continue a)) xs)) None) None
+    → option_map (λ y. Then y xs) (with_continues g n loop (cond b (Some a) None)) ≡ cond b
+    (cond (are_low g n a) (Some (Then (loop (tailed g Continue a)) xs)) None) None
 continued_at g n loop a xs true = map_cond (λ y. Then y xs) (loop (tailed g Continue a)) (are_low g n a)
 continued_at g n loop a xs false = refl
 
@@ -196,27 +210,35 @@ continue_fits f s h x y a xs u v e =
     let q = last_once s a e in
     let r = exit_laws_hold.gone s E.Continue (but_last a) in
     ap (λ z. is_declared_flag f s && z)
-    (eqb_same (list_count s (items_of f) + (item_count s y + list_count s xs)) (suc (item_count s x + list_count s xs)) (list_count s (items_of f)) (2 + exits_in s (but_last a))
+    (eqb_same (list_count s (items_of f) + (item_count s y + list_count s xs)) (suc (item_count s x + list_count s xs)) (list_count s (items_of f))
+    (2 + exits_in s (but_last a))
     (λ w. omega (arith, u, v, q, r, w)) (λ w. omega (arith, u, v, q, r, w)))
 
 by_continue_loop : (f : FunctionTree) (n : ℕ) (x : Tree) (a xs : Forest) (loop : Forest → Tree) (head : ℕ → ℕ)
-    → ((g : ℕ) → item_count g x ≡ head g + list_count g a) → ((g : ℕ) → item_count g (loop (tailed g Continue (but_last a))) ≡ head g + list_count g (tailed g Continue (but_last a)))
+    → ((g : ℕ) → item_count g x ≡ head g + list_count g a) →
+    ((g : ℕ) → item_count g (loop (tailed g Continue (but_last a))) ≡ head g + list_count g (tailed g Continue (but_last a)))
     → ((g : ℕ) → continued_loop g n x ≡ with_continues g n loop (before_reset g a))
-    → filter (fits f (Then x xs)) (continued_lists f n x xs) ≡ found (λ g. Then (loop (tailed g Continue (but_last a))) xs) (allowed (continues (counts_of f) n (but_last a)) (last_reset a))
+    → filter (fits f (Then x xs)) (continued_lists f n x xs) ≡ found (λ g. Then (loop (tailed g Continue (but_last a))) xs)
+    (allowed (continues (counts_of f) n (but_last a)) (last_reset a))
 by_continue_loop f n x a xs loop head u v k =
-    kept_slots (λ g. option_map (λ y. Then y xs) (continued_loop g n x)) (fits f (Then x xs)) (last_reset a) (λ g. Then (loop (tailed g Continue (but_last a))) xs)
-    (λ g. are_low g n (but_last a)) (λ g. is_declared_flag f g && eqb (list_count g (items_of f)) (2 + exits_in g (but_last a))) (continues (counts_of f) n (but_last a))
+    kept_slots (λ g. option_map (λ y. Then y xs) (continued_loop g n x)) (fits f (Then x xs)) (last_reset a)
+    (λ g. Then (loop (tailed g Continue (but_last a))) xs)
+    (λ g. are_low g n (but_last a)) (λ g. is_declared_flag f g && eqb (list_count g (items_of f)) (2 + exits_in g (but_last a)))
+    (continues (counts_of f) n (but_last a))
     f.params (length f.slots)
     (λ g. ap (option_map (λ y. Then y xs)) (k g ∙ ap (with_continues g n loop) (last_is g a)) ∙ continued_at g n loop (but_last a) xs (is_it g (last_reset a)))
     (λ s e b. continue_fits f s (head s) x (loop (tailed s Continue (but_last a))) a xs (u s) (v s) (it_is s (last_reset a) e))
     (λ s. ap (λ b. are_low s n (but_last a) && b) (counted f s (2 + exits_in s (but_last a)) (1 + exits_in s (but_last a)) (omega arith))
-    ∙ moved (leb f.params s && ltb s (length f.slots)) (is_declared_flag f s) (are_low s n (but_last a)) (eqb (list_count s (items_of f)) (2 + exits_in s (but_last a))))
+    ∙ moved (leb f.params s && ltb s (length f.slots)) (is_declared_flag f s) (are_low s n (but_last a))
+    (eqb (list_count s (items_of f)) (2 + exits_in s (but_last a))))
 
-by_continue : (f : FunctionTree) (n : ℕ) (x : Tree) (xs : Forest) → filter (fits f (Then x xs)) (continued_lists f n x xs) ≡ found (λ g. Then (continued g x) xs) (continue_slot (counts_of f) n x)
+by_continue : (f : FunctionTree) (n : ℕ) (x : Tree) (xs : Forest) → filter (fits f (Then x xs)) (continued_lists f n x xs) ≡ found
+    (λ g. Then (continued g x) xs) (continue_slot (counts_of f) n x)
 by_continue f n (While t a) xs = by_continue_loop f n (While t a) a xs (While t) (λ g. test_count g t) (λ g. refl) (λ g. refl) (λ g. refl)
 by_continue f n (Do a t) xs = by_continue_loop f n (Do a t) a xs (λ a. Do a t) (λ g. test_count g t) (λ g. omega arith) (λ g. omega arith) (λ g. refl)
 by_continue f n (For first t u a) xs =
-    by_continue_loop f n (For first t u a) a xs (For first t u) (λ g. list_count g first + (option_count g t + option_count g u)) (λ g. omega arith) (λ g. omega arith) (λ g. refl)
+    by_continue_loop f n (For first t u a) a xs (For first t u) (λ g. list_count g first + (option_count g t + option_count g u)) (λ g. omega arith)
+    (λ g. omega arith) (λ g. refl)
 by_continue f n x xs = kept_none (λ g. option_map (λ y. Then y xs) (continued_loop g n x)) (fits f (Then x xs)) f.params (length f.slots - f.params) (λ g. refl)
 
 pub loop_laws_hold : LoopLaws

@@ -17,4 +17,5 @@ if_ok_more (Err e) P Q h p = p
 -- what stands at a place of a list at a tail
 pub exits_first : (g : ℕ) (xs : List Item) (i : ℕ) (x : Item) (b : Bool) → i < length xs → x ≡ get_or xs i x → is_end g (trees_of (drop (i + 1) xs)) ≡ b
     → exits_in g (trees_of (drop i xs)) ≡ cond b (exits_of g (tree_at x)) (checks_of g (tree_at x)) + exits_in g (trees_of (drop (i + 1) xs))
-exits_first g xs i x b h e l = ap (exits_in g) (trees-at xs i x h e) ∙ ap (λ z. cond z (exits_of g (tree_at x)) (checks_of g (tree_at x)) + exits_in g (trees_of (drop (i + 1) xs))) l
+exits_first g xs i x b h e l = ap (exits_in g) (trees-at xs i x h e) ∙
+    ap (λ z. cond z (exits_of g (tree_at x)) (checks_of g (tree_at x)) + exits_in g (trees_of (drop (i + 1) xs))) l

@@ -73,8 +73,10 @@ check_if g _ a b = refl
 
 -- ---- the value of a set
 
-pub value_when : (g : ℕ) (p : PlaceTree) (e : ExpressionTree) (a b c : Bool) → is_it g (place_slot p) ≡ a → is_narrow_expression e ≡ b → lacks g e ≡ c → value_for g p e ≡ cond (a && (b && c)) (Some e) None
-value_when g p e a b c h i j = ap (λ z. cond (z && (is_narrow_expression e && lacks g e)) (Some e) None) h ∙ ap (λ z. cond (a && (z && lacks g e)) (Some e) None) i ∙ ap (λ z. cond (a && (b && z)) (Some e) None) j
+pub value_when : (g : ℕ) (p : PlaceTree) (e : ExpressionTree) (a b c : Bool) → is_it g (place_slot p) ≡ a → is_narrow_expression e ≡ b →
+    lacks g e ≡ c → value_for g p e ≡ cond (a && (b && c)) (Some e) None
+value_when g p e a b c h i j = ap (λ z. cond (z && (is_narrow_expression e && lacks g e)) (Some e) None) h ∙
+    ap (λ z. cond (a && (z && lacks g e)) (Some e) None) i ∙ ap (λ z. cond (a && (b && z)) (Some e) None) j
 
 pub lacks_by : (n l b : Bool) → n ≡ not l → n ≡ not b → l ≡ b
 lacks_by n true true e h = refl
@@ -87,22 +89,26 @@ lacks_by n false false e h = refl
 at_source : (e : Expression) → test_at (S.Source e) ≡ Source (expression_tree e)
 at_source e = sym (test_same (S.Source e)) ∙ test-Source e
 
-pub check_alone : (g : ℕ) (t : Test) (e : Expression) (xs : List Item) → t ≡ S.Source e → xs ≡ [] → checks g (test_at t) (trees_of xs) ≡ is_it g (off_slot (expression_at e))
+pub check_alone : (g : ℕ) (t : Test) (e : Expression) (xs : List Item) → t ≡ S.Source e → xs ≡ [] →
+    checks g (test_at t) (trees_of xs) ≡ is_it g (off_slot (expression_at e))
 check_alone g t e xs h i =
-    ap (λ z. checks g (test_at z) (trees_of xs)) h ∙ ap (λ z. checks g z (trees_of xs)) (at_source e) ∙ ap (checks g (Source (expression_tree e))) (ap trees_of i ∙ trees-none)
+    ap (λ z. checks g (test_at z) (trees_of xs)) h ∙ ap (λ z. checks g z (trees_of xs)) (at_source e) ∙
+    ap (checks g (Source (expression_tree e))) (ap trees_of i ∙ trees-none)
     ∙ off_it g (expression_tree e) ∙ ap (λ z. is_it g (off_slot z)) (expression_same e)
 
 pub check_beside : (g : ℕ) (t : Test) (e : Expression) (xs : List Item) → t ≡ S.Source e → (xs ≡ [] → ⊥) → checks g (test_at t) (trees_of xs) ≡ false
 check_beside g t e [] h i = absurd (i refl)
 check_beside g t e (x ∷ xs) h i =
-    ap (λ z. checks g (test_at z) (trees_of (x ∷ xs))) h ∙ ap (λ z. checks g z (trees_of (x ∷ xs))) (at_source e) ∙ ap (checks g (Source (expression_tree e))) (trees-first x xs)
+    ap (λ z. checks g (test_at z) (trees_of (x ∷ xs))) h ∙ ap (λ z. checks g z (trees_of (x ∷ xs))) (at_source e) ∙
+    ap (checks g (Source (expression_tree e))) (trees-first x xs)
 
 -- ---- the place of a last item
 
 pub end_none : (g i : ℕ) (xs : List Item) → i + 1 ≡ length xs → true ≡ is_end g (trees_of (drop (i + 1) xs))
 end_none g i xs h = let k : length xs ≤ i + 1 = omega (arith, h) in sym (ap (is_end g) (trees-end xs (i + 1) k))
 
-pub end_one : (g i : ℕ) (xs : List Item) (x : Item) → i + 2 ≡ length xs → x ≡ get_or xs (i + 1) x → is_check g (tree_at x) ≡ is_end g (trees_of (drop (i + 1) xs))
+pub end_one : (g i : ℕ) (xs : List Item) (x : Item) → i + 2 ≡ length xs → x ≡ get_or xs (i + 1) x →
+    is_check g (tree_at x) ≡ is_end g (trees_of (drop (i + 1) xs))
 end_one g i xs x h e =
     let k : i + 1 < length xs = omega (arith, h) in
     let m : length xs ≤ i + 1 + 1 = omega (arith, h) in

@@ -32,7 +32,8 @@ way_tailed g l x = by (is_check g x) refl ∙ sym (tailed_by g l x)
     by true h = ap given_way (then_tailed g l x h)
     by false h = refl
 
-way_either : (g : ℕ) (l x : Tree) (b : Bool) → way_given (is_check g x) (cond b (tailed_kept g l x) (inner_kept g x)) ≡ cond b (tailed_item g l x) (inner_item g x)
+way_either : (g : ℕ) (l x : Tree) (b : Bool) → way_given (is_check g x) (cond b (tailed_kept g l x) (inner_kept g x)) ≡ cond b (tailed_item g l x)
+    (inner_item g x)
 way_either g l x true = way_tailed g l x
 way_either g l x false = way_inner g x
 
@@ -46,11 +47,13 @@ or_second : (a b : Bool) → (a || b) ≡ false → b ≡ false
 or_second true b h = cc
 or_second false b h = h
 
-module _ (g : ℕ) (each all : Forest → Forest) (change : Tree → Forest → Tree) (each_none : each Nil ≡ Nil) (each_more : (x : Tree) (xs : Forest) → each (Then x xs) ≡ Then (change x xs) (each xs))
+module _ (g : ℕ) (each all : Forest → Forest) (change : Tree → Forest → Tree) (each_none : each Nil ≡ Nil)
+    (each_more : (x : Tree) (xs : Forest) → each (Then x xs) ≡ Then (change x xs) (each xs))
     (none : all Nil ≡ Nil) (more : (x : Tree) (xs : Forest) → join (way_given (is_check g x) (change x xs)) (all xs) ≡ all (Then x xs)) where
   some_given : (a : Forest) → ways_given (checks_told g a) (each a) ≡ all a
   some_given Nil = each_none ∙ sym none
-  some_given (Then x xs) = ap (ways_given (checks_told g (Then x xs))) (each_more x xs) ∙ ap (join (way_given (is_check g x) (change x xs))) (some_given xs) ∙ more x xs
+  some_given (Then x xs) = ap (ways_given (checks_told g (Then x xs))) (each_more x xs) ∙
+      ap (join (way_given (is_check g x) (change x xs))) (some_given xs) ∙ more x xs
 
   none_given : (a : Forest) → has_check g a ≡ false → each a ≡ all a
   none_given Nil h = each_none ∙ sym none
@@ -66,7 +69,8 @@ module _ (g : ℕ) (each all : Forest → Forest) (change : Tree → Forest → 
       by false h = none_given a h
 
 pub inner_given : (g : ℕ) (a : Forest) → ways_given (cond (has_check g a) (checks_told g a) []) (each_inner g a) ≡ inner g a
-inner_given g a = all_given g (each_inner g) (inner g) (λ x xs. inner_kept g x) refl (λ x xs. refl) refl (λ x xs. ap (λ z. join z (inner g xs)) (way_inner g x)) a
+inner_given g a = all_given g (each_inner g) (inner g) (λ x xs. inner_kept g x) refl (λ x xs. refl) refl
+    (λ x xs. ap (λ z. join z (inner g xs)) (way_inner g x)) a
 
 pub tailed_given : (g : ℕ) (l : Tree) (a : Forest) → ways_given (cond (has_check g a) (checks_told g a) []) (each_tailed g l a) ≡ tailed g l a
 tailed_given g l a =
@@ -75,13 +79,15 @@ tailed_given g l a =
 
 -- ---- what is told
 
-pub told_more : (g : ℕ) (xs : List Item) (i : ℕ) (x : Item) (b : Bool) (bs new : List Bool) → i < length xs → x ≡ get_or xs i x → b ≡ is_check g (tree_at x) → new ≡ bs ++ b ∷ []
+pub told_more : (g : ℕ) (xs : List Item) (i : ℕ) (x : Item) (b : Bool) (bs new : List Bool) → i < length xs → x ≡ get_or xs i x →
+    b ≡ is_check g (tree_at x) → new ≡ bs ++ b ∷ []
     → new ++ checks_told g (trees_of (drop (i + 1) xs)) ≡ bs ++ checks_told g (trees_of (drop i xs))
 told_more g xs i x b bs new h e k n =
     let rest = checks_told g (trees_of (drop (i + 1) xs)) in
     ap (λ z. z ++ rest) n ∙ append_assoc bs (b ∷ []) rest ∙ ap (λ z. bs ++ z ∷ rest) k ∙ sym (ap (λ z. bs ++ checks_told g z) (trees-at xs i x h e))
 
-pub told_all : (g : ℕ) (xs : List Item) (i : ℕ) (bs : List Bool) → length xs ≤ i → bs ++ checks_told g (trees_of (drop i xs)) ≡ checks_told g (trees_of xs) → bs ≡ checks_told g (trees_of xs)
+pub told_all : (g : ℕ) (xs : List Item) (i : ℕ) (bs : List Bool) → length xs ≤ i →
+    bs ++ checks_told g (trees_of (drop i xs)) ≡ checks_told g (trees_of xs) → bs ≡ checks_told g (trees_of xs)
 told_all g xs i bs h d = sym (append-nil bs) ∙ sym (ap (λ z. bs ++ checks_told g z) (trees-end xs i h)) ∙ d
 
 -- ---- one more item
@@ -95,10 +101,12 @@ none_left : (bs : List Bool) → ways_given bs Nil ≡ Nil
 none_left [] = refl
 none_left (b ∷ bs) = refl
 
-pub ways_more : (bs : List Bool) (xs : List Item) (x : Item) → ways_given bs (trees_of (xs ++ x ∷ [])) ≡ join (ways_given bs (trees_of xs)) (way_given (get_or bs (length xs) false) (tree_at x))
+pub ways_more : (bs : List Bool) (xs : List Item) (x : Item) → ways_given bs (trees_of (xs ++ x ∷ [])) ≡ join (ways_given bs (trees_of xs))
+    (way_given (get_or bs (length xs) false) (tree_at x))
 ways_more [] xs x = trees-push xs x
 ways_more (b ∷ bs) [] x =
-    ap (ways_given (b ∷ bs)) (trees-first x [] ∙ ap (Then (tree_at x)) trees-none) ∙ ap (join (way_given b (tree_at x))) (none_left bs) ∙ join_nil (way_given b (tree_at x))
+    ap (ways_given (b ∷ bs)) (trees-first x [] ∙ ap (Then (tree_at x)) trees-none) ∙ ap (join (way_given b (tree_at x))) (none_left bs) ∙
+    join_nil (way_given b (tree_at x))
     ∙ sym (ap (λ z. join (ways_given (b ∷ bs) z) (way_given b (tree_at x))) trees-none)
 ways_more (b ∷ bs) (y ∷ ys) x =
     ap (ways_given (b ∷ bs)) (trees-first y (ys ++ x ∷ [])) ∙ ap (join (way_given b (tree_at y))) (ways_more bs ys x)

@@ -38,7 +38,8 @@ given_at : (g : ℕ) (a : Forest) (b : Bool) → list_count g (cond b (one (Bloc
 given_at g a true = omega arith
 given_at g a false = refl
 
-if_gone : (g : ℕ) (t : TestTree) (a b v w : Forest) (m n : ℕ) (c : Bool) → checks g t b ≡ c → list_count g a ≡ list_count g v + m → list_count g b ≡ list_count g w + n
+if_gone : (g : ℕ) (t : TestTree) (a b v w : Forest) (m n : ℕ) (c : Bool) → checks g t b ≡ c → list_count g a ≡ list_count g v + m →
+    list_count g b ≡ list_count g w + n
     → test_count g t + (list_count g a + list_count g b) ≡ list_count g (unchecked c t v w) + (one_if c + (m + n))
 if_gone g t a b v w m n true h p q =
     let r = check_test g t b h in
@@ -74,24 +75,28 @@ mutual
 
 -- ---- sets
 
-leaving_at : (g : ℕ) (l : Tree) (v : ExpressionTree) (b : Bool) → item_count g l ≡ 0 → expression_count g v ≡ 0 → item_count g (cond b l (If (Source v) (one l) Nil)) ≡ 0
+leaving_at : (g : ℕ) (l : Tree) (v : ExpressionTree) (b : Bool) → item_count g l ≡ 0 → expression_count g v ≡ 0 →
+    item_count g (cond b l (If (Source v) (one l) Nil)) ≡ 0
 leaving_at g l v true h k = h
 leaving_at g l v false h k = omega (arith, k, h)
 
 set_at : (g : ℕ) (l : Tree) (e v : ExpressionTree) (a b : Bool) → item_count g l ≡ 0 → expression_count g e ≡ one_if a + expression_count g v
-    → expression_count g e ≡ list_count g (one (set_or l e (cond (a && (b && lacks g v)) (Some v) None))) + one_if (is_some (cond (a && (b && lacks g v)) (Some v) None))
+    → expression_count g e ≡ list_count g (one (set_or l e (cond (a && (b && lacks g v)) (Some v) None))) + one_if
+    (is_some (cond (a && (b && lacks g v)) (Some v) None))
 set_at g l e v false b h k = omega arith
 set_at g l e v true false h k = omega arith
 set_at g l e v true true h k = by_lack (lacks g v) refl
   where
-    by_lack : (c : Bool) → lacks g v ≡ c → expression_count g e ≡ list_count g (one (set_or l e (cond (lacks g v) (Some v) None))) + one_if (is_some (cond (lacks g v) (Some v) None))
+    by_lack : (c : Bool) → lacks g v ≡ c → expression_count g e ≡ list_count g (one (set_or l e (cond (lacks g v) (Some v) None))) + one_if
+        (is_some (cond (lacks g v) (Some v) None))
     by_lack true i =
         let p = eqb-true (expression_count g v) 0 (sym (expression_none g v) ∙ i) in
         let q = leaving_at g l v (is_number 1 v) h p in
         rw i (omega (arith, k, p, q))
     by_lack false i = rw i (omega arith)
 
-set_gone : (g : ℕ) (l : Tree) → item_count g l ≡ 0 → (e : ExpressionTree) → expression_count g e ≡ list_count g (one (set_or l e (set_value g e))) + one_if (is_some (set_value g e))
+set_gone : (g : ℕ) (l : Tree) → item_count g l ≡ 0 → (e : ExpressionTree) →
+    expression_count g e ≡ list_count g (one (set_or l e (set_value g e))) + one_if (is_some (set_value g e))
 set_gone g l h (Typed k (Assign (Var (H.Slot x)) v)) = set_at g l (Typed k (Assign (Var (H.Slot x)) v)) v (eqb x g) (is_narrow_expression v) h refl
 set_gone g l h e = omega arith
 
@@ -103,14 +108,16 @@ mutual
   tailed_gone : (g : ℕ) (l : Tree) → item_count g l ≡ 0 → (a : Forest) → list_count g a ≡ list_count g (tailed g l a) + exits_in g a
   tailed_gone g l h Nil = omega arith
   tailed_gone g l h (Then x xs) =
-      let p = chosen g (item_count g x) (is_end g xs) (tailed_item g l x) (inner_item g x) (exits_of g x) (checks_of g x) (tailed_item_gone g l h x) (inner_item_gone g x) in
+      let p = chosen g (item_count g x) (is_end g xs) (tailed_item g l x) (inner_item g x) (exits_of g x) (checks_of g x) (tailed_item_gone g l h x)
+      (inner_item_gone g x) in
       let q = tailed_gone g l h xs in
       let r = count_join g (cond (is_end g xs) (tailed_item g l x) (inner_item g x)) (tailed g l xs) in
       omega (arith, p, q, r)
 
   tailed_item_gone : (g : ℕ) (l : Tree) → item_count g l ≡ 0 → (x : Tree) → item_count g x ≡ list_count g (tailed_item g l x) + exits_of g x
   tailed_item_gone g l h (Evaluate e) = set_gone g l h e
-  tailed_item_gone g l h (If t a b) = if_gone g t a b (tailed g l a) (tailed g l b) (exits_in g a) (exits_in g b) (checks g t b) refl (tailed_gone g l h a) (tailed_gone g l h b)
+  tailed_item_gone g l h (If t a b) = if_gone g t a b (tailed g l a) (tailed g l b) (exits_in g a) (exits_in g b) (checks g t b) refl
+      (tailed_gone g l h a) (tailed_gone g l h b)
   tailed_item_gone g l h x = inner_item_gone g x
 
 jump_parts : (g : ℕ) (l : Exit) → item_count g (jump_of l) ≡ 0

@@ -31,9 +31,11 @@ module _ (g : ℕ) where
   inner_done [] (y ∷ ys) e h = absurd (omega (arith, e))
   inner_done (x ∷ xs) [] e h = absurd (omega (arith, e))
   inner_done (x ∷ xs) (y ∷ ys) e h =
-      trees-first y ys ∙ ap₂ Then (h 0 x (omega arith)) (inner_done xs ys (omega (arith, e)) (λ k d l. h (suc k) d (omega (arith, l)))) ∙ sym (ap (each_inner g) (trees-first x xs))
+      trees-first y ys ∙ ap₂ Then (h 0 x (omega arith)) (inner_done xs ys (omega (arith, e)) (λ k d l. h (suc k) d (omega (arith, l)))) ∙
+      sym (ap (each_inner g) (trees-first x xs))
 
-  in_section : (c : Real.Section) (d : Sections) (a : Real.Section) → alone a ≡ inner_sections g (alone c) → before a (inner_sections g d) ≡ inner_sections g (before c d)
+  in_section : (c : Real.Section) (d : Sections) (a : Real.Section) → alone a ≡ inner_sections g (alone c) →
+      before a (inner_sections g d) ≡ inner_sections g (before c d)
   in_section c d a e = ap behind e
     where
       behind : Sections → Sections
@@ -41,7 +43,8 @@ module _ (g : ℕ) where
       behind NoSection = NoSection
 
   pub sections_done : (xs ys : List Real.Section) → length ys ≡ length xs
-      → ((k : ℕ) (d : Real.Section) → k < length ys → alone (get_or ys k d) ≡ inner_sections g (alone (get_or xs k d))) → sections_of ys ≡ inner_sections g (sections_of xs)
+      → ((k : ℕ) (d : Real.Section) → k < length ys → alone (get_or ys k d) ≡ inner_sections g (alone (get_or xs k d))) →
+      sections_of ys ≡ inner_sections g (sections_of xs)
   sections_done [] [] e h = sections-none ∙ sym (ap (inner_sections g) sections-none)
   sections_done [] (y ∷ ys) e h = absurd (omega (arith, e))
   sections_done (x ∷ xs) [] e h = absurd (omega (arith, e))
@@ -58,8 +61,10 @@ TailedTo g l i old new = join (trees_of (take i new)) (each_tailed g l (trees_of
 pub none_tailed : (g : ℕ) (l : Tree) (xs : List Item) → TailedTo g l 0 xs xs
 none_tailed g l xs = ap (λ z. join z (each_tailed g l (trees_of xs))) trees-none
 
-pub one_tailed : (g : ℕ) (l : Tree) (old new : List Item) (i : ℕ) (x y : Item) (b : Bool) → i < length new → x ≡ get_or new i x → b ≡ is_end g (trees_of (drop (i + 1) new))
-    → tree_at y ≡ cond b (tailed_kept g l (tree_at (get_or new i x))) (inner_kept g (tree_at (get_or new i x))) → TailedTo g l i old new → TailedTo g l (i + 1) old (slice_set new i y)
+pub one_tailed : (g : ℕ) (l : Tree) (old new : List Item) (i : ℕ) (x y : Item) (b : Bool) → i < length new → x ≡ get_or new i x →
+    b ≡ is_end g (trees_of (drop (i + 1) new))
+    → tree_at y ≡ cond b (tailed_kept g l (tree_at (get_or new i x))) (inner_kept g (tree_at (get_or new i x))) → TailedTo g l i old new →
+    TailedTo g l (i + 1) old (slice_set new i y)
 one_tailed g l old new i x y b h e m k d =
     let rest = trees_of (drop (i + 1) new) in
     let front = trees_of (take i new) in
@@ -88,12 +93,14 @@ one_visited old new i y u = (
 refilled_same : {A : Type 0} (old lent new : List A) → lent ≡ old → length new ≡ length lent → refilled old new ≡ new
 refilled_same old lent new e h =
     let same : length new ≡ length old = h ∙ ap length e in
-    ap (λ z. take (length old) (new ++ z)) (drop_all (length new) old (omega (arith, same))) ∙ ap (take (length old)) (append-nil new) ∙ take_all (length old) new (omega (arith, same))
+    ap (λ z. take (length old) (new ++ z)) (drop_all (length new) old (omega (arith, same))) ∙ ap (take (length old)) (append-nil new) ∙
+    take_all (length old) new (omega (arith, same))
 
 -- and what is told of it gives way then
 pub list_made : (g : ℕ) (each all : Forest → Forest) → ((a : Forest) → ways_given (cond (has_check g a) (checks_told g a) []) (each a) ≡ all a)
     → (old read lent made : List Item) (bs : List Bool) (new : Forest) → read ≡ old → bs ≡ cond (has_check g (trees_of read)) (checks_told g (trees_of read)) []
-    → lent ≡ old → length made ≡ length lent → trees_of made ≡ each (trees_of lent) → new ≡ ways_given bs (trees_of (refilled old made)) → new ≡ all (trees_of old)
+    → lent ≡ old → length made ≡ length lent → trees_of made ≡ each (trees_of lent) → new ≡ ways_given bs (trees_of (refilled old made)) →
+    new ≡ all (trees_of old)
 list_made g each all given old read lent made bs new p h q e k n =
     n ∙ ap (λ z. ways_given bs (trees_of z)) (refilled_same old lent made q e) ∙ ap (ways_given bs) (k ∙ ap (λ z. each (trees_of z)) q)
     ∙ ap (λ z. ways_given z (each (trees_of old))) (h ∙ ap (λ z. cond (has_check g (trees_of z)) (checks_told g (trees_of z)) []) p) ∙ given (trees_of old)

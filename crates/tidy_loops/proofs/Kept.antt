@@ -89,8 +89,10 @@ module _ (f : FunctionTree) (x : Tree) (counts : List ℕ) (g k : ℕ) where
       by : (b : Bool) → eqb s g ≡ b → n ≡ cond (is_free f g && eqb s g) (count_in counts g) k
       by true i =
           let q : s ≡ g = eqb-true s g i in
-          p ∙ ap (λ b. cond b (count_in counts s) k) i ∙ ap (count_in counts) q ∙ sym (ap (λ b. cond (is_free f g && b) (count_in counts g) k) i ∙ ap (λ b. cond (b && true) (count_in counts g) k) (ap (is_free f) (sym q) ∙ h))
-      by false i = p ∙ ap (λ b. cond b (count_in counts s) k) i ∙ sym (ap (λ b. cond (is_free f g && b) (count_in counts g) k) i ∙ none_kept (is_free f g) (count_in counts g) k)
+          p ∙ ap (λ b. cond b (count_in counts s) k) i ∙ ap (count_in counts) q ∙
+          sym (ap (λ b. cond (is_free f g && b) (count_in counts g) k) i ∙ ap (λ b. cond (b && true) (count_in counts g) k) (ap (is_free f) (sym q) ∙ h))
+      by false i = p ∙ ap (λ b. cond b (count_in counts s) k) i ∙ sym
+          (ap (λ b. cond (is_free f g && b) (count_in counts g) k) i ∙ none_kept (is_free f g) (count_in counts g) k)
 
   pub kept_bound : (s : ℕ) → Some s ≡ declared x → is_free f s ≡ false → Kept k
   kept_bound s e h = by_declared k (Some s) e (by (eqb s g) refl)
@@ -112,25 +114,31 @@ kept_on false d r c k = refl
 -- what is kept so far, and what the rest declares
 pub record KeptUpTo (f : FunctionTree) (counts : List ℕ) (whole : Forest) (old : List ℕ) (rest : Forest) (new : List ℕ) : Type 0 where
   pub as_long : length new ≡ length old
-  pub kept : (g : ℕ) → g < length old → cond (is_free f g && declares g rest) (count_in counts g) (count_in new g) ≡ cond (is_free f g && declares g whole) (count_in counts g) (count_in old g)
+  pub kept : (g : ℕ) → g < length old → cond (is_free f g && declares g rest) (count_in counts g) (count_in new g) ≡ cond
+      (is_free f g && declares g whole) (count_in counts g) (count_in old g)
 
 pub none_yet : (f : FunctionTree) (counts : List ℕ) (a : Forest) (old : List ℕ) → KeptUpTo f counts a old a old
 none_yet f counts a old = record { as_long = refl; kept = λ g h. refl }
 
-pub one_more_kept : (f : FunctionTree) (counts : List ℕ) (whole : Forest) (old : List ℕ) (rest : Forest) (new : List ℕ) (x : Tree) (later : Forest) (next : List ℕ) → rest ≡ Then x later → length next ≡ length new
-    → ((g : ℕ) → g < length new → count_in next g ≡ cond (is_free f g && is_declaration g x) (count_in counts g) (count_in new g)) → KeptUpTo f counts whole old rest new → KeptUpTo f counts whole old later next
+pub one_more_kept : (f : FunctionTree) (counts : List ℕ) (whole : Forest) (old : List ℕ) (rest : Forest) (new : List ℕ) (x : Tree) (later : Forest)
+    (next : List ℕ) → rest ≡ Then x later → length next ≡ length new
+    → ((g : ℕ) → g < length new → count_in next g ≡ cond (is_free f g && is_declaration g x) (count_in counts g) (count_in new g)) →
+    KeptUpTo f counts whole old rest new → KeptUpTo f counts whole old later next
 one_more_kept f counts whole old rest new x later next e l p d = record {
   as_long = l ∙ d.as_long;
   kept = λ g h. let m : g < length new = omega (arith, h, d.as_long) in
       ap (cond (is_free f g && declares g later) (count_in counts g)) (p g m)
-      ∙ sym (ap (λ z. cond (is_free f g && declares g z) (count_in counts g) (count_in new g)) e ∙ kept_on (is_free f g) (is_declaration g x) (declares g later) (count_in counts g) (count_in new g))
+      ∙ sym (ap (λ z. cond (is_free f g && declares g z) (count_in counts g) (count_in new g)) e ∙
+      kept_on (is_free f g) (is_declaration g x) (declares g later) (count_in counts g) (count_in new g))
       ∙ d.kept g h;
 }
 
-pub all_kept : (f : FunctionTree) (counts : List ℕ) (whole : Forest) (old : List ℕ) (rest : Forest) (new : List ℕ) → rest ≡ Nil → KeptUpTo f counts whole old rest new
+pub all_kept : (f : FunctionTree) (counts : List ℕ) (whole : Forest) (old : List ℕ) (rest : Forest) (new : List ℕ) → rest ≡ Nil →
+    KeptUpTo f counts whole old rest new
     → (g : ℕ) → g < length old → count_in new g ≡ cond (is_free f g && declares g whole) (count_in counts g) (count_in old g)
 all_kept f counts whole old rest new e d g h =
-    sym (ap (λ z. cond (is_free f g && declares g z) (count_in counts g) (count_in new g)) e ∙ none_kept (is_free f g) (count_in counts g) (count_in new g)) ∙ d.kept g h
+    sym (ap (λ z. cond (is_free f g && declares g z) (count_in counts g) (count_in new g)) e ∙
+    none_kept (is_free f g) (count_in counts g) (count_in new g)) ∙ d.kept g h
 
 -- ---- of a function
 
@@ -142,14 +150,16 @@ goes_if : (f : FunctionTree) (g : ℕ) → (is_free f g && declares g (items_of 
 goes_if f g = regrouped (leb f.params g && ltb g (length f.slots)) (is_flag (entry_or no_slot f.slots g)) (declares g (items_of f))
 
 -- the counts of the body, and those that are kept of them
-pub tells : (f : FunctionTree) (zeros counts kept : List ℕ) → zeros ≡ replicate (length f.slots) 0 → Adds zeros (λ g. list_count g (items_of f)) counts → length kept ≡ length f.slots
+pub tells : (f : FunctionTree) (zeros counts kept : List ℕ) → zeros ≡ replicate (length f.slots) 0 →
+    Adds zeros (λ g. list_count g (items_of f)) counts → length kept ≡ length f.slots
     → ((g : ℕ) → g < length f.slots → count_in kept g ≡ cond (is_free f g && declares g (items_of f)) (count_in counts g) 0) → Tells kept f
 tells f zeros counts kept z a l p g = by (leb (length f.slots) g) refl
   where
     by : (b : Bool) → leb (length f.slots) g ≡ b → count_in kept g ≡ counts_of f g
     by true e =
         let h : length f.slots ≤ g = leb-true (length f.slots) g e in
-        past_count kept g (omega (arith, l, h)) ∙ sym (ap (λ b. cond b (list_count g (items_of f)) 0) (none_past f g (is_flag (entry_or no_slot f.slots g) && declares g (items_of f)) h))
+        past_count kept g (omega (arith, l, h)) ∙ sym (ap (λ b. cond b (list_count g (items_of f)) 0)
+        (none_past f g (is_flag (entry_or no_slot f.slots g) && declares g (items_of f)) h))
     by false e =
         let h : g < length f.slots = leb-false (length f.slots) g e in
         let m : length zeros ≡ length f.slots = ap length z ∙ zeros_long (length f.slots) in

@@ -27,11 +27,13 @@ unchecked_at t a b true = refl
 unchecked_at t a b false = refl
 
 pub inner_by : (g : ℕ) (x : Tree) → inner_item g x ≡ cond (is_check g x) (given_way (inner g (then_list x))) (one (inner_kept g x))
-inner_by g (If t a b) = unchecked_at t (inner g a) (inner g b) (checks g t b) ∙ ap (λ c. cond c (given_way (inner g a)) (one (If t (inner g a) (inner g b)))) (sym (check_if g t a b))
+inner_by g (If t a b) = unchecked_at t (inner g a) (inner g b) (checks g t b) ∙
+    ap (λ c. cond c (given_way (inner g a)) (one (If t (inner g a) (inner g b)))) (sym (check_if g t a b))
 inner_by g x = refl
 
 pub tailed_by : (g : ℕ) (l x : Tree) → tailed_item g l x ≡ cond (is_check g x) (given_way (tailed g l (then_list x))) (one (tailed_kept g l x))
-tailed_by g l (If t a b) = unchecked_at t (tailed g l a) (tailed g l b) (checks g t b) ∙ ap (λ c. cond c (given_way (tailed g l a)) (one (If t (tailed g l a) (tailed g l b)))) (sym (check_if g t a b))
+tailed_by g l (If t a b) = unchecked_at t (tailed g l a) (tailed g l b) (checks g t b) ∙
+    ap (λ c. cond c (given_way (tailed g l a)) (one (If t (tailed g l a) (tailed g l b)))) (sym (check_if g t a b))
 tailed_by g l (Evaluate e) = refl
 tailed_by g l x = inner_by g x
 
@@ -45,7 +47,8 @@ join_nil (Then x xs) = ap (Then x) (join_nil xs)
 
 -- ---- low sets
 
-pub low_first : (g n : ℕ) (xs : List Item) (i : ℕ) (x : Item) (b : Bool) → i < length xs → x ≡ get_or xs i x → is_low g n (tree_at x) ≡ b → (b && are_low g n (trees_of (drop (i + 1) xs))) ≡ are_low g n (trees_of (drop i xs))
+pub low_first : (g n : ℕ) (xs : List Item) (i : ℕ) (x : Item) (b : Bool) → i < length xs → x ≡ get_or xs i x → is_low g n (tree_at x) ≡ b →
+    (b && are_low g n (trees_of (drop (i + 1) xs))) ≡ are_low g n (trees_of (drop i xs))
 low_first g n xs i x b h e l = ap (λ z. z && are_low g n (trees_of (drop (i + 1) xs))) (sym l) ∙ sym (ap (are_low g n) (trees-at xs i x h e))
 
 -- ---- what gives way
@@ -68,7 +71,8 @@ then_none x h = then_layer x (out-Item x) (sym (roll-out-Item x)) h
 
 -- ---- what a set becomes
 
-pub left_if : (l : Tree) (e v : Expression) (j : Item) (a b : List Item) → v ≡ e → tree_at j ≡ l → a ≡ j ∷ [] → b ≡ [] → tree_at (I.If (S.Source v) a b) ≡ If (Source (expression_tree e)) (one l) Nil
+pub left_if : (l : Tree) (e v : Expression) (j : Item) (a b : List Item) → v ≡ e → tree_at j ≡ l → a ≡ j ∷ [] → b ≡ [] →
+    tree_at (I.If (S.Source v) a b) ≡ If (Source (expression_tree e)) (one l) Nil
 left_if l e v j a b h k p q =
     at-If (S.Source v) a b ∙ ap (λ z. If z (trees_of a) (trees_of b)) (test-Source v ∙ ap (λ z. Source (expression_tree z)) h)
     ∙ ap (λ z. If (Source (expression_tree e)) z (trees_of b)) (ap trees_of p ∙ trees-first j [] ∙ ap₂ Then k trees-none)

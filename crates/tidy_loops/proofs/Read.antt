@@ -33,7 +33,8 @@ rest_some t e h = ap rest_test (test_same t) ∙ sym (ap (λ o. option_map_or So
 pub rest_none : (t : Test) → None ≡ second_half (test_at t) → rest_test (test_tree t) ≡ test_tree t
 rest_none t h = ap rest_test (test_same t) ∙ sym (ap (λ o. option_map_or Source o (test_at t)) h) ∙ sym (test_same t)
 
-pub one_zero : (es : List Expression) (e : Expression) → length es < 2 → 1 ≤ length es → e ≡ get_or es 0 e → is_number 0 (expression_tree e) ≡ is_zero_value (Some (map expression_tree es))
+pub one_zero : (es : List Expression) (e : Expression) → length es < 2 → 1 ≤ length es → e ≡ get_or es 0 e →
+    is_number 0 (expression_tree e) ≡ is_zero_value (Some (map expression_tree es))
 one_zero [] e h k i = absurd (omega (arith, k))
 one_zero (x ∷ []) e h k i = ap (λ z. is_number 0 (expression_tree z)) i
 one_zero (x ∷ y ∷ ys) e h k i = absurd (omega (arith, h))
@@ -72,7 +73,8 @@ front_is (x ∷ y ∷ ys) =
     ap (λ m. trees_of (take m (x ∷ y ∷ ys))) k ∙ trees-first x (take (length (y ∷ ys) - 1) (y ∷ ys)) ∙ ap (Then (tree_at x)) (front_is (y ∷ ys))
     ∙ sym (ap but_last (trees-first x (y ∷ ys)) ∙ front_first (tree_at x) ys y)
 
-pub front_left : (old new : List Item) (r : Option Item) → MatchOption r ((old ≡ []) × (new ≡ [])) (λ last. old ≡ new ++ last ∷ []) → trees_of new ≡ but_last (trees_of old)
+pub front_left : (old new : List Item) (r : Option Item) → MatchOption r ((old ≡ []) × (new ≡ [])) (λ last. old ≡ new ++ last ∷ []) →
+    trees_of new ≡ but_last (trees_of old)
 front_left old new None h = ap trees_of h.1 ∙ trees-none ∙ sym (ap but_last (ap trees_of h.0 ∙ trees-none))
 front_left old new (Some y) h =
     let n : length old - 1 ≡ length new = omega (arith, ap length h, length_push new y) in

@@ -30,7 +30,8 @@ below p (suc n) s h =
     let r : s < suc p = omega (arith, h) in
     ap (λ b. b || among (suc p) n s) (ne_eqb s p q) ∙ below (suc p) n s r
 
-inside_at : (p n s : ℕ) (b : Bool) → eqb s p ≡ b → p ≤ s → s < p + suc n → (suc p ≤ s → s < suc p + n → among (suc p) n s ≡ true) → (eqb s p || among (suc p) n s) ≡ true
+inside_at : (p n s : ℕ) (b : Bool) → eqb s p ≡ b → p ≤ s → s < p + suc n → (suc p ≤ s → s < suc p + n → among (suc p) n s ≡ true) →
+    (eqb s p || among (suc p) n s) ≡ true
 inside_at p n s true e h k r = ap (λ b. b || among (suc p) n s) e
 inside_at p n s false e h k r =
     let q : s ≢ p = eqb-false s p e in
@@ -72,8 +73,10 @@ right_true false b h = cc
 among_is : (p m s : ℕ) → among p (m - p) s ≡ (leb p s && ltb s m)
 among_is p m s =
     same_bool (among p (m - p) s) (leb p s && ltb s m)
-    (λ h. let l = least p (m - p) s h in let u = most p (m - p) s h in let v : s < m = omega (arith, l, u) in both_true (leb p s) (ltb s m) (le-leb p s l) (lt-ltb s m v))
-    (λ h. let l = leb-true p s (left_true (leb p s) (ltb s m) h) in let u = ltb-true s m (right_true (leb p s) (ltb s m) h) in let v : s < p + (m - p) = omega (arith, l, u) in inside p (m - p) s l v)
+    (λ h. let l = least p (m - p) s h in let u = most p (m - p) s h in let v : s < m = omega (arith, l, u) in
+    both_true (leb p s) (ltb s m) (le-leb p s l) (lt-ltb s m v))
+    (λ h. let l = leb-true p s (left_true (leb p s) (ltb s m) h) in let u = ltb-true s m (right_true (leb p s) (ltb s m) h) in
+    let v : s < p + (m - p) = omega (arith, l, u) in inside p (m - p) s l v)
 
 -- ---- lists of changes
 
@@ -87,7 +90,8 @@ none_for F h p zero = refl
 none_for F h p (suc n) = ap₂ (λ u v. listed p u ++ v) (h p) (none_for F h (suc p) n)
 
 single_at : (F : ℕ → Option Forest) (s : ℕ) (G : ℕ → Option Forest) → ((g : ℕ) → F g ≡ cond (eqb s g) (G g) None) → (p n : ℕ) (b : Bool) → eqb s p ≡ b
-    → changed_for F (suc p) n ≡ cond (among (suc p) n s) (listed s (G s)) [] → listed p (F p) ++ changed_for F (suc p) n ≡ cond (eqb s p || among (suc p) n s) (listed s (G s)) []
+    → changed_for F (suc p) n ≡ cond (among (suc p) n s) (listed s (G s)) [] →
+    listed p (F p) ++ changed_for F (suc p) n ≡ cond (eqb s p || among (suc p) n s) (listed s (G s)) []
 single_at F s G h p n true e i =
     let q : s ≡ p = eqb-true s p e in
     let r : s < suc p = omega (arith, q) in
@@ -97,11 +101,13 @@ single_at F s G h p n false e i =
     ap₂ (λ u v. listed p u ++ v) (h p ∙ ap (λ b. cond b (G p) None) e) i
     ∙ sym (ap (λ b. cond (b || among (suc p) n s) (listed s (G s)) []) e)
 
-single : (F : ℕ → Option Forest) (s : ℕ) (G : ℕ → Option Forest) → ((g : ℕ) → F g ≡ cond (eqb s g) (G g) None) → (p n : ℕ) → changed_for F p n ≡ cond (among p n s) (listed s (G s)) []
+single : (F : ℕ → Option Forest) (s : ℕ) (G : ℕ → Option Forest) → ((g : ℕ) → F g ≡ cond (eqb s g) (G g) None) → (p n : ℕ) →
+    changed_for F p n ≡ cond (among p n s) (listed s (G s)) []
 single F s G h p zero = refl
 single F s G h p (suc n) = single_at F s G h p n (eqb s p) refl (single F s G h (suc p) n)
 
-of_slot : (F : ℕ → Option Forest) (so : Option ℕ) (G : ℕ → Option Forest) → ((g : ℕ) → F g ≡ cond (is_it g so) (G g) None) → (p n : ℕ) → changed_for F p n ≡ picked p n so G
+of_slot : (F : ℕ → Option Forest) (so : Option ℕ) (G : ℕ → Option Forest) → ((g : ℕ) → F g ≡ cond (is_it g so) (G g) None) → (p n : ℕ) →
+    changed_for F p n ≡ picked p n so G
 of_slot F None G h p n = none_for F h p n
 of_slot F (Some s) G h p n = single F s G h p n
 
@@ -127,7 +133,8 @@ pub kept_slots : (F : ℕ → Option Forest) (P : ℕ × Forest → Bool) (so : 
     → filter P (changed_for F p (m - p)) ≡ found make (allowed Q so)
 kept_slots F P None make B D Q p m f h q = ap (filter P) (none_for F f p (m - p))
 kept_slots F P (Some s) make B D Q p m f h q =
-    ap (filter P) (of_slot F (Some s) (λ g. cond (B g) (Some (make g)) None) f p (m - p) ∙ ap (λ z. cond z (listed s (cond (B s) (Some (make s)) None)) []) (among_is p m s))
+    ap (filter P) (of_slot F (Some s) (λ g. cond (B g) (Some (make g)) None) f p (m - p) ∙
+    ap (λ z. cond z (listed s (cond (B s) (Some (make s)) None)) []) (among_is p m s))
     ∙ kept P make s (leb p s && ltb s m) (B s) (D s) (Q s) (q s) (h s refl)
 
 -- where nothing is tried

@@ -55,7 +55,8 @@ lack_globals static k [] env = tt
 lack_globals static k (d ∷ ds) env = (tt, lack_globals static k ds (global_declared k d env))
 
 module _ (file : File) where
-  form : (first after : ℕ) (x : Form) (s : State) (rest : Option ℕ) → top_jump (tops.From first after x) rest ≡ None → Lack (form_tops file first x s) × (rest ≡ None)
+  form : (first after : ℕ) (x : Form) (s : State) (rest : Option ℕ) → top_jump (tops.From first after x) rest ≡ None →
+      Lack (form_tops file first x s) × (rest ≡ None)
   form first after Line s rest e = ((tt, tt), e)
   form first after (Enum es) s rest e = ((tt, tt), e)
   form first after (Globals static d) s rest e = (lack_globals static (kinded file.word d) d.names (env_of file s), e)

@@ -33,10 +33,13 @@ lacks_jumps t p h e =
     let xs = h.file in
     let x = source_laws.syntax_of t h.pieces h.spells xs h.derives in
     let jump = λ (ys : List Top). option_map (λ at. refusal_of 60 t (offset_of t tokens at)) (first_jump ys) in
-    let found = sym (ap (jump_of_tokens t) (scan_read_back t h.pieces h.spells) ∙ ap (jump_of_syntax t tokens) (parses t tokens x.syntax_of x.derives) ∙ ap jump x.writes) ∙ e in
+    let found = sym (ap (jump_of_tokens t) (scan_read_back t h.pieces h.spells) ∙
+    ap (jump_of_syntax t tokens) (parses t tokens x.syntax_of x.derives) ∙ ap jump x.writes) ∙ e in
     let none : first_jump xs ≡ None = none_before (λ at. refusal_of 60 t (offset_of t tokens at)) (first_jump xs) found in
-    subst (λ (z : Program). All TopLacksJumps z.tops) (same_program t h.pieces xs h.derives h.scope (typed_scope t h.pieces xs h.typing h.types h.scope h.scopes)
-    ∙ ap (λ (typing : Typing). program typing (file_written counts_of t tokens (comments_of h.pieces) xs) h.scope xs) (sym (sole_typing h.typing h.types)) ∙ sym h.is) (jumpless_sources (file_at counts_of t tokens (comments_of h.pieces) xs) xs start none)
+    subst (λ (z : Program). All TopLacksJumps z.tops) (same_program t h.pieces xs h.derives h.scope
+    (typed_scope t h.pieces xs h.typing h.types h.scope h.scopes)
+    ∙ ap (λ (typing : Typing). program typing (file_written counts_of t tokens (comments_of h.pieces) xs) h.scope xs)
+    (sym (sole_typing h.typing h.types)) ∙ sym h.is) (jumpless_sources (file_at counts_of t tokens (comments_of h.pieces) xs) xs start none)
 
 none_is_some : (o : Option Refusal) (refusal : Refusal) → o ≡ None → o ≡ Some refusal → ⊥
 none_is_some o refusal e f = cc

@@ -40,7 +40,11 @@ ended_still cs d a h = by (has_entry cs d && ends_with_break a)
 
 passed_by : (cs : List ExpressionTree) (d : Bool) (s : SectionTree) (ts : List SectionTree) (b : Bool) → StillTree s
     → ((es : List ExpressionTree) (e : Bool) → EverywhereIn IsStill (sections (passed_trees es e ts)))
-    → EverywhereIn IsStill (sections (elim b [ true ↦ passed_trees (cs ++ s.cases) (d || s.default) ts | false ↦ with_entries cs d s ∷ passed_trees [] false ts ]))
+    → EverywhereIn IsStill (sections (elim b [
+      | true ↦ passed_trees (cs ++ s.cases) (d || s.default) ts
+      | false ↦ with_entries cs d s ∷ passed_trees []
+          false ts
+    ]))
 passed_by cs d s ts true h f = f (cs ++ s.cases) (d || s.default)
 passed_by cs d s ts false h f = (h, f [] false)
 
@@ -88,4 +92,5 @@ still_trees (c ∷ cs) h = (h.0, still_trees cs h.1)
 -- the sections of a switch
 pub are_still : (cs : List Section) → StillSections cs → EverywhereIn IsStill (sections_of (passed_on [] false cs))
 are_still cs h =
-    subst (EverywhereIn IsStill) (sym (sections_are (passed_on [] false cs) ∙ ap sections (passed_same [] false cs))) (passed_still [] false (map section_tree cs) (still_trees cs h))
+    subst (EverywhereIn IsStill) (sym (sections_are (passed_on [] false cs) ∙ ap sections (passed_same [] false cs)))
+    (passed_still [] false (map section_tree cs) (still_trees cs h))

@@ -46,7 +46,8 @@ module _ (ctx : Context) where
   behind_notes a xs h = still_both (notes_at ctx a) xs (still_notes a) h
 
   still_mark : (at : ℕ) → Still (mark ctx at)
-  still_mark at = let l = number_in ctx.labels (ctx.word at) in behind_notes (Before at) (item.Mark l ∷ []) (still_one (item.Mark l) (tree.Mark l) (tree-Mark l) tt)
+  still_mark at = let l = number_in ctx.labels (ctx.word at) in behind_notes (Before at) (item.Mark l ∷ [])
+      (still_one (item.Mark l) (tree.Mark l) (tree-Mark l) tt)
 
   still_marks : (ls : List Label) → Still (section_marks ctx ls)
   still_marks [] = still_none
@@ -63,7 +64,8 @@ module _ (ctx : Context) where
 
   still_labels : (w : Walk) (ls : List Label) (rest : Option ℕ) → labels_jump ls rest ≡ None → Still (labels_items ctx (env_at ctx w) ls) × (rest ≡ None)
   still_labels w [] rest e = (still_none, e)
-  still_labels w (Named at after ∷ ls) rest e = let k = still_labels w ls rest e in (still_both (mark ctx at) (labels_items ctx (env_at ctx w) ls) (still_mark at) k.0, k.1)
+  still_labels w (Named at after ∷ ls) rest e = let k = still_labels w ls rest e in
+      (still_both (mark ctx at) (labels_items ctx (env_at ctx w) ls) (still_mark at) k.0, k.1)
   still_labels w (Case at after t ∷ ls) rest e = absurd (some_none at e)
   still_labels w (Default at after ∷ ls) rest e = absurd (some_none at e)
 
@@ -71,7 +73,8 @@ module _ (ctx : Context) where
   still_locals k [] w = still_none
   still_locals k (d ∷ ds) w =
       let v = declared ctx.word k d w in
-      still_more (local ctx.word k d w) (locals ctx.word k ds v) _ (tree-Local (length w.slots) (initial (value_at (env_in ctx.word v)) d.value)) tt (still_locals k ds v)
+      still_more (local ctx.word k d w) (locals ctx.word k ds v) _ (tree-Local (length w.slots) (initial (value_at (env_in ctx.word v)) d.value)) tt
+      (still_locals k ds v)
 
   still_declares : (at : ℕ) (d : items.Declaration) (w : Walk) → Still (notes_at ctx (Before at) ++ declaration_items ctx d w)
   still_declares at d w = behind_notes (Before at) (declaration_items ctx d w) (still_locals (kinded ctx.word d) d.names w)
@@ -83,12 +86,14 @@ module _ (ctx : Context) where
 
   begun_still : (w : Walk) (ls : List Label) (xs : List item.Item) → Still xs → StillReading (begun ctx (env_at ctx w) ls xs)
   begun_still w ls xs h =
-      still_both (notes_at ctx (AtSection (items.first_label ls)) ++ section_marks ctx ls) xs (behind_notes (AtSection (items.first_label ls)) (section_marks ctx ls) (still_marks ls)) h
+      still_both (notes_at ctx (AtSection (items.first_label ls)) ++ section_marks ctx ls) xs
+      (behind_notes (AtSection (items.first_label ls)) (section_marks ctx ls) (still_marks ls)) h
 
   -- a statement with a case label begins a section, another one stands in the section before it
   still_by : (o : Option Reading) (ls : List Label) (p : Plain) (xs : Items) (notes : List item.Item) (w : Walk) → StillReading o
       → StillSections (sections_from ctx (begun ctx (env_at ctx w) ls (plain_items ctx p w)) xs notes (behind_plain ctx p w))
-      → (has_case ls ≡ false → StillSections (sections_from ctx (extended o (labels_items ctx (env_at ctx w) ls ++ plain_items ctx p w)) xs notes (behind_plain ctx p w)))
+      → (has_case ls ≡ false → StillSections (sections_from ctx (extended o (labels_items ctx (env_at ctx w) ls ++ plain_items ctx p w)) xs notes
+      (behind_plain ctx p w)))
       → StillSections (sections_from ctx o (Then (States ls p) xs) notes w)
   still_by o ls p xs notes w h f g = by (has_case ls) refl
     where
@@ -96,11 +101,13 @@ module _ (ctx : Context) where
         | true ↦ closed o ++ sections_from ctx (begun ctx (env_at ctx w) ls (plain_items ctx p w)) xs notes (behind_plain ctx p w)
         | false ↦ sections_from ctx (extended o (labels_items ctx (env_at ctx w) ls ++ plain_items ctx p w)) xs notes (behind_plain ctx p w)
       ])
-      by true e = each_append _ (closed o) (sections_from ctx (begun ctx (env_at ctx w) ls (plain_items ctx p w)) xs notes (behind_plain ctx p w)) (closed_still o h) f
+      by true e = each_append _ (closed o) (sections_from ctx (begun ctx (env_at ctx w) ls (plain_items ctx p w)) xs notes (behind_plain ctx p w))
+          (closed_still o h) f
       by false e = g e
 
   -- the one statement of a switch
-  still_alone : (ls : List Label) (p : Plain) (notes : List item.Item) (w : Walk) → Still notes → Still (plain_items ctx p w) → StillSections (sections_at ctx None (States ls p) notes w)
+  still_alone : (ls : List Label) (p : Plain) (notes : List item.Item) (w : Walk) → Still notes → Still (plain_items ctx p w) →
+      StillSections (sections_at ctx None (States ls p) notes w)
   still_alone ls p notes w k h = by (has_case ls)
     where
       by : (b : Bool) → StillSections (elim b [
@@ -133,16 +140,24 @@ module _ (ctx : Context) where
         let p = still_body b w (body_jump c rest) e in
         let q = still_body c (behind_body ctx b w) rest p.1 in
         (still_one _ _ (tree-If (test_at (env_at ctx w) t) (body_items ctx b w) (body_items ctx c (behind_body ctx b w))) (tt, p.0, q.0), q.1)
-    still_statement (While t b) w rest e = let q = still_body b w rest e in (still_one _ _ (tree-While (test_at (env_at ctx w) t) (body_items ctx b w)) (tt, q.0), q.1)
-    still_statement (DoWhile b t) w rest e = let q = still_body b w rest e in (still_one _ _ (tree-Do (body_items ctx b w) (test_at (env_at ctx w) t)) (tt, q.0), q.1)
+    still_statement (While t b) w rest e = let q = still_body b w rest e in
+        (still_one _ _ (tree-While (test_at (env_at ctx w) t) (body_items ctx b w)) (tt, q.0), q.1)
+    still_statement (DoWhile b t) w rest e = let q = still_body b w rest e in
+        (still_one _ _ (tree-Do (body_items ctx b w) (test_at (env_at ctx w) t)) (tt, q.0), q.1)
     still_statement (For start t u b) w rest e =
         let inner = behind_start ctx start (enter w) in
         let env = env_at ctx inner in
-        let q = still_body b inner rest e in
-        (still_one _ _ (tree-For (start_items ctx start (enter w)) (option_map (value_at env) t) (option_map (dropped_at env) u) (body_items ctx b inner)) (tt, still_start start (enter w), q.0), q.1)
+        let q = still_body b inner rest e in (
+          still_one _ _ (tree-For (start_items ctx start (enter w)) (option_map (value_at env) t) (option_map (dropped_at env) u)
+              (body_items ctx b inner)) (tt, still_start start (enter w), q.0),
+          q.1,
+        )
     still_statement (Switch t b) w rest e =
-        let q = still_switch b w rest e in
-        (still_one _ _ (tree-Switch (selector.Source (value_at (env_at ctx w) t)) (passed_on [] false (switch_sections ctx b w))) (tt, are_still (switch_sections ctx b w) q.0), q.1)
+        let q = still_switch b w rest e in (
+          still_one _ _ (tree-Switch (selector.Source (value_at (env_at ctx w) t)) (passed_on [] false (switch_sections ctx b w)))
+              (tt, are_still (switch_sections ctx b w) q.0),
+          q.1,
+        )
     still_statement (Block b) w rest e = let q = still_body b w rest e in (still_one _ _ (tree-Block (body_items ctx b w)) (tt, q.0), q.1)
     still_statement (Goto at) w rest e = absurd (some_none _ e)
     still_statement Break w rest e = (still_one _ _ tree-Break tt, e)
@@ -168,29 +183,39 @@ module _ (ctx : Context) where
     still_switch : (b : Body) (w : Walk) (rest : Option ℕ) → switch_jump b rest ≡ None → StillSections (switch_sections ctx b w) × (rest ≡ None)
     still_switch (Braces first after xs) w rest e =
         let later = still_from None xs (notes_at ctx (AtEnd first)) (enter w) rest tt (still_notes (AtEnd first)) e in
-        let ys = outside_items ctx xs (enter w) in
-        (each_append _ (front ys) (sections_from ctx None xs (notes_at ctx (AtEnd first)) (enter w)) (front_still ys (still_outside xs (enter w) rest e)) later.0, later.1)
+        let ys = outside_items ctx xs (enter w) in (
+          each_append _ (front ys) (sections_from ctx None xs (notes_at ctx (AtEnd first)) (enter w))
+              (front_still ys (still_outside xs (enter w) rest e)) later.0,
+          later.1,
+        )
     still_switch (Lone first after x) w rest e =
         let later = still_at x (notes_at ctx (AtEnd first)) (enter w) rest (still_notes (AtEnd first)) e in
-        let ys = outside_item ctx x (enter w) in
-        (each_append _ (front ys) (sections_at ctx None x (notes_at ctx (AtEnd first)) (enter w)) (front_still ys (still_front x (enter w) rest e).0) later.0, later.1)
+        let ys = outside_item ctx x (enter w) in (
+          each_append _ (front ys) (sections_at ctx None x (notes_at ctx (AtEnd first)) (enter w)) (front_still ys (still_front x (enter w) rest e).0)
+              later.0,
+          later.1,
+        )
 
     -- in front of the first section
     still_outside : (xs : Items) (w : Walk) (rest : Option ℕ) → sections_jump xs rest ≡ None → Still (outside_items ctx xs w)
     still_outside NoItem w rest e = still_none
     still_outside (Then x xs) w rest e =
         let p = still_front x w (sections_jump xs rest) e in
-        still_if (begins x) (outside_item ctx x w ++ outside_items ctx xs (behind_item ctx x w)) (still_both (outside_item ctx x w) (outside_items ctx xs (behind_item ctx x w)) p.0 (still_outside xs (behind_item ctx x w) rest p.1))
+        still_if (begins x) (outside_item ctx x w ++ outside_items ctx xs (behind_item ctx x w))
+        (still_both (outside_item ctx x w) (outside_items ctx xs (behind_item ctx x w)) p.0 (still_outside xs (behind_item ctx x w) rest p.1))
 
     still_front : (x : Item) (w : Walk) (rest : Option ℕ) → section_jump x rest ≡ None → Still (outside_item ctx x w) × (rest ≡ None)
     still_front (Declares first after d) w rest e = (still_declares first d w, e)
     still_front (States ls p) w rest e = let q = still_plain p w rest e in (by (has_case ls) refl q.0, q.1)
       where
-        by : (b : Bool) → has_case ls ≡ b → Still (plain_items ctx p w) → Still (cond (b || is_null ls p) [] (labels_items ctx (env_at ctx w) ls ++ plain_items ctx p w))
+        by : (b : Bool) → has_case ls ≡ b → Still (plain_items ctx p w) →
+            Still (cond (b || is_null ls p) [] (labels_items ctx (env_at ctx w) ls ++ plain_items ctx p w))
         by true c h = still_none
-        by false c h = still_if (is_null ls p) (labels_items ctx (env_at ctx w) ls ++ plain_items ctx p w) (still_both (labels_items ctx (env_at ctx w) ls) (plain_items ctx p w) (still_names w ls c) h)
+        by false c h = still_if (is_null ls p) (labels_items ctx (env_at ctx w) ls ++ plain_items ctx p w)
+            (still_both (labels_items ctx (env_at ctx w) ls) (plain_items ctx p w) (still_names w ls c) h)
 
-    still_from : (o : Option Reading) (xs : Items) (notes : List item.Item) (w : Walk) (rest : Option ℕ) → StillReading o → Still notes → sections_jump xs rest ≡ None
+    still_from : (o : Option Reading) (xs : Items) (notes : List item.Item) (w : Walk) (rest : Option ℕ) → StillReading o → Still notes →
+        sections_jump xs rest ≡ None
         → StillSections (sections_from ctx o xs notes w) × (rest ≡ None)
     still_from o NoItem notes w rest h k e = (end_still o notes h k, e)
     still_from o (Then (Declares first after d) xs) notes w rest h k e =
@@ -203,10 +228,12 @@ module _ (ctx : Context) where
         let new = labels_items ctx (env_at ctx w) ls ++ plain_items ctx p w in
         let first = still_from fresh xs notes v rest (begun_still w ls (plain_items ctx p w) q.0) k q.1 in (
           still_by o ls p xs notes w h first.0
-              (λ c. (still_from (extended o new) xs notes v rest (extended_still o new h (still_both (labels_items ctx (env_at ctx w) ls) (plain_items ctx p w) (still_names w ls c) q.0)) k q.1).0),
+              (λ c. (still_from (extended o new) xs notes v rest
+              (extended_still o new h (still_both (labels_items ctx (env_at ctx w) ls) (plain_items ctx p w) (still_names w ls c) q.0)) k q.1).0),
           first.1,
         )
 
-    still_at : (x : Item) (notes : List item.Item) (w : Walk) (rest : Option ℕ) → Still notes → section_jump x rest ≡ None → StillSections (sections_at ctx None x notes w) × (rest ≡ None)
+    still_at : (x : Item) (notes : List item.Item) (w : Walk) (rest : Option ℕ) → Still notes → section_jump x rest ≡ None →
+        StillSections (sections_at ctx None x notes w) × (rest ≡ None)
     still_at (Declares first after d) notes w rest k e = (tt, e)
     still_at (States ls p) notes w rest k e = let q = still_plain p w rest e in (still_alone ls p notes w k q.0, q.1)

@@ -41,7 +41,10 @@ file ts = record { tops = ts }
 -- ---- one behaviour and another
 
 alike_self : (p : Code) → BehaveAlike p p
-alike_self p = record { entries = λ m arguments. ((λ e. e), (λ e. e)); runs = λ m arguments e input answers. same_runs_refl (structural_run p m arguments input answers) }
+alike_self p = record {
+  entries = λ m arguments. ((λ e. e), (λ e. e));
+  runs = λ m arguments e input answers. same_runs_refl (structural_run p m arguments input answers);
+}
 
 pub alike_trans : (p q r : Code) → BehaveAlike p q → BehaveAlike q r → BehaveAlike p r
 alike_trans p q r h k = record {
@@ -77,7 +80,8 @@ alike_times zero ts us l e = subst (λ vs. BehaveAlike (code_of (file ts)) (code
 alike_times (suc n) ts us l c =
     let vs = c.0 in
     alike_trans (code_of (file ts)) (code_of (file vs)) (code_of (file us))
-    (tidy_law.changes (code_of (file ts)) (code_of (file vs)) (loose_kinds (file ts) l) (tidy_law.programs (file ts) (file vs) (steps_changed (first_over ts ts vs l.tops c.1))))
+    (tidy_law.changes (code_of (file ts)) (code_of (file vs)) (loose_kinds (file ts) l)
+    (tidy_law.programs (file ts) (file vs) (steps_changed (first_over ts ts vs l.tops c.1))))
     (alike_times n vs us (loose_step ts vs l c.1) c.2)
 
 -- ---- sections
@@ -96,7 +100,8 @@ unmoved_tree all f h m l =
     let is_body : body_of f ≡ trees_of w.old = ap (λ b. option_map_or trees_of b Nil) w.old_body in
     let same = unlabelled_same (trees_of w.old) (subst (Everywhere IsStructured) is_body l.structured) in
     let new : option_map trees_of h.body ≡ option_map tidy (option_map trees_of f.body) =
-    ap (λ (k : Function). option_map trees_of k.body) m.plain ∙ ap Some (tidied_trees w.new ∙ ap tidy (w.trees ∙ same)) ∙ sym (ap (λ b. option_map tidy (option_map trees_of b)) w.old_body) in
+    ap (λ (k : Function). option_map trees_of k.body) m.plain ∙ ap Some (tidied_trees w.new ∙ ap tidy (w.trees ∙ same)) ∙
+    sym (ap (λ b. option_map tidy (option_map trees_of b)) w.old_body) in
     let d = unmoved_declared f h m in
     (λ i. record { result = d.result i; params = unmoved_params f h m i; slots = unmoved_slots f h m i; body = new i })
 
@@ -112,7 +117,8 @@ map_choice : {A B : Type 0} (h : A → B) (b : Bool) (x y : Option A) → option
 map_choice h true x y = refl
 map_choice h false x y = refl
 
-found : (r : Bool → Bool) (m : List ℕ) (all : List Top) {ts us : List Top} → Over IsSectioned ts us → Each (TopIsLoose all) ts → function_in (λ f. r (is_some f.body)) m us ≡ option_map tidy_function (function_in (λ f. r (is_some f.body)) m ts)
+found : (r : Bool → Bool) (m : List ℕ) (all : List Top) {ts us : List Top} → Over IsSectioned ts us → Each (TopIsLoose all) ts →
+    function_in (λ f. r (is_some f.body)) m us ≡ option_map tidy_function (function_in (λ f. r (is_some f.body)) m ts)
 found r m all o_none l = refl
 found r m all (o_function {f = f} {h = h} {ts = ts} {us = us} d s o) l =
     (λ i. cond (bytes_eq (d.name i) m && r (d.body i)) (Some (section_tree all f h s l.0 i)) (found r m all o l.1 i))
@@ -127,7 +133,8 @@ found r m all (o_other t {ts = ts} {us = us} n o) l = by_top t n (found r m all 
     by_top (T.Global g) n e = e
     by_top (T.Note b) n e = e
 
-first_mapped : (o q : Option FunctionTree) → first_of (option_map tidy_function o) (option_map tidy_function q) undeclared ≡ tidy_function (first_of o q undeclared)
+first_mapped : (o q : Option FunctionTree) → first_of (option_map tidy_function o) (option_map tidy_function q) undeclared ≡ tidy_function
+    (first_of o q undeclared)
 first_mapped (Some f) q = refl
 first_mapped None (Some f) = refl
 first_mapped None None = refl
@@ -159,7 +166,8 @@ module _ (R : Function → Function → Type 0) where
 
 code_same : (all : List Top) {ts us : List Top} → Over IsSectioned ts us → Each (TopIsLoose all) ts → code_of (file us) ≡ tidy_code (code_of (file ts))
 code_same all {ts} {us} o l = (λ i. record {
-  functions = λ m. (ap₂ (λ a b. first_of a b undeclared) (found (λ b. b) m all o l) (found (λ b. true) m all o l) ∙ first_mapped (function_in (λ f. is_some f.body) m ts) (function_in (λ f. true) m ts)) i;
+  functions = λ m. (ap₂ (λ a b. first_of a b undeclared) (found (λ b. b) m all o l) (found (λ b. true) m all o l) ∙
+      first_mapped (function_in (λ f. is_some f.body) m ts) (function_in (λ f. true) m ts)) i;
   globals = λ m. global_same IsSectioned m o i;
   cells = cells_same IsSectioned o i;
 })

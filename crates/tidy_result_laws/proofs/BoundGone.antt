@@ -42,11 +42,14 @@ module _ (g : ℕ) where
   without_inside ss ts h = record { finds = h.finds; news = λ m i. refl }
 
   -- another variable is declared in both
-  pub without_bind : (name : List ℕ) (k : ℕ) (ss ts : List Scope) → AreWithout ss ts → AreWithout (bind name (AVariable (H.Slot k)) ss) (bind name (AVariable (H.Slot (new_number g k))) ts)
+  pub without_bind : (name : List ℕ) (k : ℕ) (ss ts : List Scope) → AreWithout ss ts →
+      AreWithout (bind name (AVariable (H.Slot k)) ss) (bind name (AVariable (H.Slot (new_number g k))) ts)
   without_bind name k ss ts h = record {
-    finds = λ m b o e. look_bound m name (AVariable (H.Slot (new_number g k))) ts ∙ at m (bytes_eq m name) b o (sym (look_bound m name (AVariable (H.Slot k)) ss) ∙ e);
+    finds = λ m b o e. look_bound m name (AVariable (H.Slot (new_number g k))) ts ∙
+        at m (bytes_eq m name) b o (sym (look_bound m name (AVariable (H.Slot k)) ss) ∙ e);
     news = λ m i. first_new m (bind name (AVariable (H.Slot (new_number g k))) ts) (first_bound m name (AVariable (H.Slot (new_number g k))) ts
-        ∙ (let j = unbound_before (bytes_eq m name) (AVariable (H.Slot k)) (found_first m ss) (sym (first_bound m name (AVariable (H.Slot k)) ss) ∙ new_first m (bind name (AVariable (H.Slot k)) ss) i) in
+        ∙ (let j = unbound_before (bytes_eq m name) (AVariable (H.Slot k)) (found_first m ss)
+        (sym (first_bound m name (AVariable (H.Slot k)) ss) ∙ new_first m (bind name (AVariable (H.Slot k)) ss) i) in
         ap (λ t. cond t (Some (AVariable (H.Slot (new_number g k)))) (found_first m ts)) j.0 ∙ new_first m ts (h.news m (first_new m ss j.1))));
   }
     where
@@ -54,7 +57,8 @@ module _ (g : ℕ) where
       meaning_or d (Some b) = b
       meaning_or d None = d
 
-      at : (m : List ℕ) (t : Bool) (b : Meaning) → is_other b ≡ true → cond t (Some (AVariable (H.Slot k))) (look_up ss m) ≡ Some b → cond t (Some (AVariable (H.Slot (new_number g k)))) (look_up ts m) ≡ Some (renumbered_meaning b)
+      at : (m : List ℕ) (t : Bool) (b : Meaning) → is_other b ≡ true → cond t (Some (AVariable (H.Slot k))) (look_up ss m) ≡ Some b →
+          cond t (Some (AVariable (H.Slot (new_number g k)))) (look_up ts m) ≡ Some (renumbered_meaning b)
       at m true b o e = ap (λ c. Some (renumbered_meaning c)) (ap (meaning_or b) e)
       at m false b o e = h.finds m b o e
 
@@ -62,14 +66,16 @@ module _ (g : ℕ) where
   pub without_its : (name : List ℕ) (ss ts : List Scope) → AreWithout ss ts → AreWithout (bind name (AVariable (H.Slot g)) ss) ts
   without_its name ss ts h = record {
     finds = λ m b o e. at m (bytes_eq m name) b o (sym (look_bound m name (AVariable (H.Slot g)) ss) ∙ e);
-    news = λ m i. h.news m (first_new m ss (unbound_before (bytes_eq m name) (AVariable (H.Slot g)) (found_first m ss) (sym (first_bound m name (AVariable (H.Slot g)) ss) ∙ new_first m (bind name (AVariable (H.Slot g)) ss) i)).1);
+    news = λ m i. h.news m (first_new m ss (unbound_before (bytes_eq m name) (AVariable (H.Slot g)) (found_first m ss)
+        (sym (first_bound m name (AVariable (H.Slot g)) ss) ∙ new_first m (bind name (AVariable (H.Slot g)) ss) i)).1);
   }
     where
       meaning_or : Meaning → Option Meaning → Meaning
       meaning_or d (Some b) = b
       meaning_or d None = d
 
-      at : (m : List ℕ) (t : Bool) (b : Meaning) → is_other b ≡ true → cond t (Some (AVariable (H.Slot g))) (look_up ss m) ≡ Some b → look_up ts m ≡ Some (renumbered_meaning b)
+      at : (m : List ℕ) (t : Bool) (b : Meaning) → is_other b ≡ true → cond t (Some (AVariable (H.Slot g))) (look_up ss m) ≡ Some b →
+          look_up ts m ≡ Some (renumbered_meaning b)
       at m true b o e =
           let q : AVariable (H.Slot g) ≡ b = ap (meaning_or b) e in
           let r : not (eqb g g) ≡ true = ap is_other q ∙ o in absurd (true≢false (sym (eq-eqb g g refl) ∙ is_false (eqb g g) r))
@@ -82,7 +88,8 @@ module _ (g : ℕ) where
     -- ---- expressions
 
     module _ (ss ts : List Scope) (h : AreWithout ss ts) where
-      home_bound : (a : Home) → home_lacks g a ≡ true → look_up ss (home_name slots a) ≡ Some (AVariable a) → look_up ts (home_name fewer (renumbered_home g a)) ≡ Some (AVariable (renumbered_home g a))
+      home_bound : (a : Home) → home_lacks g a ≡ true → look_up ss (home_name slots a) ≡ Some (AVariable a) →
+          look_up ts (home_name fewer (renumbered_home g a)) ≡ Some (AVariable (renumbered_home g a))
       home_bound a l e = ap (look_up ts) (home_same g slots a l) ∙ h.finds (home_name slots a) (AVariable a) l e
 
       home_place : (at : PlaceTree) → place_lacks g at ≡ true → look_up ss (home_name slots (home_of at)) ≡ Some (AVariable (home_of at))
@@ -116,10 +123,13 @@ module _ (g : ℕ) where
     other_slot x es l = let i = both (not (eqb x g)) (values_lack g es) l in (is_false (eqb x g) i.0, i.1)
 
     -- behind a declaration of another variable
-    local_behind : (x : ℕ) (es ds : Option (List ExpressionTree)) (ss ts : List Scope) → eqb x g ≡ false → AreWithout ss ts → AreWithout (behind slots ss (Local x es)) (behind fewer ts (Local (new_number g x) ds))
-    local_behind x es ds ss ts o h = subst (λ m. AreWithout (bind (slot_name slots x) (AVariable (H.Slot x)) ss) (bind m (AVariable (H.Slot (new_number g x))) ts)) (sym (slot_same g slots x o)) (without_bind (slot_name slots x) x ss ts h)
+    local_behind : (x : ℕ) (es ds : Option (List ExpressionTree)) (ss ts : List Scope) → eqb x g ≡ false → AreWithout ss ts →
+        AreWithout (behind slots ss (Local x es)) (behind fewer ts (Local (new_number g x) ds))
+    local_behind x es ds ss ts o h = subst (λ m. AreWithout (bind (slot_name slots x) (AVariable (H.Slot x)) ss)
+        (bind m (AVariable (H.Slot (new_number g x))) ts)) (sym (slot_same g slots x o)) (without_bind (slot_name slots x) x ss ts h)
 
-    item_behind : (x : Tree) (ss ts : List Scope) → item_lacks g x ≡ true → AreWithout ss ts → AreWithout (behind slots ss x) (behind fewer ts (renumbered_item g x))
+    item_behind : (x : Tree) (ss ts : List Scope) → item_lacks g x ≡ true → AreWithout ss ts →
+        AreWithout (behind slots ss x) (behind fewer ts (renumbered_item g x))
     item_behind (Local x es) ss ts l h = local_behind x es (renumbered_values g es) ss ts (other_slot x es l).0 h
     item_behind (Evaluate e) ss ts l h = h
     item_behind (Return e) ss ts l h = h
@@ -139,33 +149,44 @@ module _ (g : ℕ) where
     item_behind (Arrival e) ss ts l h = h
     item_behind (Note bs) ss ts l h = h
 
-    all_behind : (a : Forest) (ss ts : List Scope) → list_lacks g a ≡ true → AreWithout ss ts → AreWithout (behind_all slots ss a) (behind_all fewer ts (renumbered_list g a))
+    all_behind : (a : Forest) (ss ts : List Scope) → list_lacks g a ≡ true → AreWithout ss ts →
+        AreWithout (behind_all slots ss a) (behind_all fewer ts (renumbered_list g a))
     all_behind Nil ss ts l h = h
     all_behind (Then x xs) ss ts l h =
-        let i = both (item_lacks g x) (list_lacks g xs) l in all_behind xs (behind slots ss x) (behind fewer ts (renumbered_item g x)) i.1 (item_behind x ss ts i.0 h)
+        let i = both (item_lacks g x) (list_lacks g xs) l in all_behind xs (behind slots ss x) (behind fewer ts (renumbered_item g x)) i.1
+        (item_behind x ss ts i.0 h)
 
     abbrev IsFit : Tree → Type 0
     IsFit x = IsStructured x × HasFreeCases g x
 
     mutual
-      pub list_bound : (a : Forest) (ss ts : List Scope) → list_lacks g a ≡ true → Everywhere IsFit a → AreWithout ss ts → AreBound slots ss a → AreBound fewer ts (renumbered_list g a)
+      pub list_bound : (a : Forest) (ss ts : List Scope) → list_lacks g a ≡ true → Everywhere IsFit a → AreWithout ss ts → AreBound slots ss a →
+          AreBound fewer ts (renumbered_list g a)
       list_bound Nil ss ts l p h i = tt
       list_bound (Then x xs) ss ts l p h i =
           let j = both (item_lacks g x) (list_lacks g xs) l in
           (item_bound x ss ts j.0 p.0 h i.0, list_bound xs (behind slots ss x) (behind fewer ts (renumbered_item g x)) j.1 p.1 (item_behind x ss ts j.0 h) i.1)
 
-      item_bound : (x : Tree) (ss ts : List Scope) → item_lacks g x ≡ true → EverywhereOf IsFit x → AreWithout ss ts → ItemIsBound slots ss x → ItemIsBound fewer ts (renumbered_item g x)
+      item_bound : (x : Tree) (ss ts : List Scope) → item_lacks g x ≡ true → EverywhereOf IsFit x → AreWithout ss ts → ItemIsBound slots ss x →
+          ItemIsBound fewer ts (renumbered_item g x)
       item_bound (If t a b) ss ts l p h i =
           let j = both (test_lacks g t) (list_lacks g a && list_lacks g b) l in
           let m = both (list_lacks g a) (list_lacks g b) j.1 in
-          let n = without_inside ss ts h in
-          (test_without g (IsBound slots ss) (IsBound fewer ts) (bound_without ss ts h) t j.0 i.0, list_bound a (inside ss) (inside ts) m.0 p.1 n i.1, list_bound b (inside ss) (inside ts) m.1 p.2 n i.2)
+          let n = without_inside ss ts h in (
+            test_without g (IsBound slots ss) (IsBound fewer ts) (bound_without ss ts h) t j.0 i.0,
+            list_bound a (inside ss) (inside ts) m.0 p.1 n i.1,
+            list_bound b (inside ss) (inside ts) m.1 p.2 n i.2,
+          )
       item_bound (While t a) ss ts l p h i =
-          let j = both (test_lacks g t) (list_lacks g a) l in
-          (test_without g (IsBound slots ss) (IsBound fewer ts) (bound_without ss ts h) t j.0 i.0, list_bound a (inside ss) (inside ts) j.1 p.1 (without_inside ss ts h) i.1)
+          let j = both (test_lacks g t) (list_lacks g a) l in (
+            test_without g (IsBound slots ss) (IsBound fewer ts) (bound_without ss ts h) t j.0 i.0,
+            list_bound a (inside ss) (inside ts) j.1 p.1 (without_inside ss ts h) i.1,
+          )
       item_bound (Do a t) ss ts l p h i =
-          let j = both (list_lacks g a) (test_lacks g t) l in
-          (test_without g (IsBound slots ss) (IsBound fewer ts) (bound_without ss ts h) t j.1 i.0, list_bound a (inside ss) (inside ts) j.0 p.1 (without_inside ss ts h) i.1)
+          let j = both (list_lacks g a) (test_lacks g t) l in (
+            test_without g (IsBound slots ss) (IsBound fewer ts) (bound_without ss ts h) t j.1 i.0,
+            list_bound a (inside ss) (inside ts) j.0 p.1 (without_inside ss ts h) i.1,
+          )
       item_bound (For f t u a) ss ts l p h i =
           let j = both (list_lacks g f) (option_lacks g t && (option_lacks g u && list_lacks g a)) l in
           let m = both (option_lacks g t) (option_lacks g u && list_lacks g a) j.1 in
@@ -180,14 +201,17 @@ module _ (g : ℕ) where
             list_bound a (inside s) (inside z) n.1 p.2 (without_inside s z r) i.3,
           )
       item_bound (Switch s c) ss ts l p h i =
-          let j = both (selector_lacks g s) (sections_lack g c) l in
-          (selector_without g (IsBound slots ss) (IsBound fewer ts) (bound_without ss ts h) s j.0 i.0, sections_bound c (inside ss) (inside ts) j.1 p.0.1 p.1 (without_inside ss ts h) i.1)
+          let j = both (selector_lacks g s) (sections_lack g c) l in (
+            selector_without g (IsBound slots ss) (IsBound fewer ts) (bound_without ss ts h) s j.0 i.0,
+            sections_bound c (inside ss) (inside ts) j.1 p.0.1 p.1 (without_inside ss ts h) i.1,
+          )
       item_bound (Block a) ss ts l p h i = list_bound a (inside ss) (inside ts) l p.1 (without_inside ss ts h) i
       item_bound (Local x es) ss ts l p h i =
           let o = other_slot x es l in (
             subst (λ m. IsNew m ts) (sym (slot_same g slots x o.0)) (h.news (slot_name slots x) i.0),
             values_without g (IsBound slots (behind slots ss (Local x es))) (IsBound fewer (behind fewer ts (renumbered_item g (Local x es))))
-                (bound_without (behind slots ss (Local x es)) (behind fewer ts (renumbered_item g (Local x es))) (item_behind (Local x es) ss ts l h)) es o.1 i.1,
+                (bound_without (behind slots ss (Local x es)) (behind fewer ts (renumbered_item g (Local x es))) (item_behind (Local x es) ss ts l h))
+                es o.1 i.1,
           )
       item_bound (Evaluate e) ss ts l p h i = bound_without ss ts h e l i
       item_bound (Return e) ss ts l p h i = option_without g (IsBound slots ss) (IsBound fewer ts) (bound_without ss ts h) e l i
@@ -201,7 +225,8 @@ module _ (g : ℕ) where
       item_bound (Land m) ss ts l p h i = tt
       item_bound (Note bs) ss ts l p h i = tt
 
-      sections_bound : (c : Sections) (ss ts : List Scope) → sections_lack g c ≡ true → CaseExpressions (IsFreeOf g) c → EverywhereIn IsFit c → AreWithout ss ts → SectionsAreBound slots ss c → SectionsAreBound fewer ts (renumbered_sections g c)
+      sections_bound : (c : Sections) (ss ts : List Scope) → sections_lack g c ≡ true → CaseExpressions (IsFreeOf g) c → EverywhereIn IsFit c →
+          AreWithout ss ts → SectionsAreBound slots ss c → SectionsAreBound fewer ts (renumbered_sections g c)
       sections_bound NoSection ss ts l q p h i = tt
       sections_bound (Section cases default a ends c) ss ts l q p h i =
           let j = both (list_lacks g a) (sections_lack g c) l in (
@@ -213,18 +238,23 @@ module _ (g : ℕ) where
     -- ---- a body without the declaration
 
     its_behind : (x : Tree) (ss ts : List Scope) → is_declaration g x ≡ true → AreWithout ss ts → AreWithout (behind slots ss x) ts
-    its_behind (Local x es) ss ts e h = subst (λ y. AreWithout (bind (slot_name slots y) (AVariable (H.Slot y)) ss) ts) (sym (eqb-true x g (both (eqb x g) (is_zero_value es) e).0)) (without_its (slot_name slots g) ss ts h)
+    its_behind (Local x es) ss ts e h = subst (λ y. AreWithout (bind (slot_name slots y) (AVariable (H.Slot y)) ss) ts)
+        (sym (eqb-true x g (both (eqb x g) (is_zero_value es) e).0)) (without_its (slot_name slots g) ss ts h)
     its_behind x ss ts e h = absurd (true≢false (sym e))
 
-    pub body_bound : (a : Forest) (ss ts : List Scope) → list_lacks g (undeclared g a) ≡ true → Everywhere IsFit a → AreWithout ss ts → AreBound slots ss a → AreBound fewer ts (renumbered_list g (undeclared g a))
+    pub body_bound : (a : Forest) (ss ts : List Scope) → list_lacks g (undeclared g a) ≡ true → Everywhere IsFit a → AreWithout ss ts →
+        AreBound slots ss a → AreBound fewer ts (renumbered_list g (undeclared g a))
     body_bound Nil ss ts l p h i = tt
-    body_bound (Then x xs) ss ts l p h i = at (is_declaration g x) refl l (λ l h. body_bound xs (behind slots ss x) (behind fewer ts (renumbered_item g x)) l p.1 h i.1)
+    body_bound (Then x xs) ss ts l p h i = at (is_declaration g x) refl l
+        (λ l h. body_bound xs (behind slots ss x) (behind fewer ts (renumbered_item g x)) l p.1 h i.1)
       where
         at : (b : Bool) → is_declaration g x ≡ b → list_lacks g (cond b xs (Then x (undeclared g xs))) ≡ true
-            → (list_lacks g (undeclared g xs) ≡ true → AreWithout (behind slots ss x) (behind fewer ts (renumbered_item g x)) → AreBound fewer (behind fewer ts (renumbered_item g x)) (renumbered_list g (undeclared g xs)))
+            → (list_lacks g (undeclared g xs) ≡ true → AreWithout (behind slots ss x) (behind fewer ts (renumbered_item g x)) →
+            AreBound fewer (behind fewer ts (renumbered_item g x)) (renumbered_list g (undeclared g xs)))
             → AreBound fewer ts (renumbered_list g (cond b xs (Then x (undeclared g xs))))
         at true q l k = list_bound xs (behind slots ss x) ts l p.1 (its_behind x ss ts q h) i.1
-        at false q l k = let j = both (item_lacks g x) (list_lacks g (undeclared g xs)) l in (item_bound x ss ts j.0 p.0 h i.0, k j.1 (item_behind x ss ts j.0 h))
+        at false q l k = let j = both (item_lacks g x) (list_lacks g (undeclared g xs)) l in
+            (item_bound x ss ts j.0 p.0 h i.0, k j.1 (item_behind x ss ts j.0 h))
 
   -- ---- parameters, which are all before the slot
 

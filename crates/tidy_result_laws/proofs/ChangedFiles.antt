@@ -27,19 +27,24 @@ over_self (T.Note b ∷ ts) = o_other (T.Note b) tt (over_self ts)
 
 module _ (all : List Top) where
   pub first_over : (ts us : List Top) → Each (TopIsLoose all) ts → AreChangedFirst ts us → Over IsStep ts us
-  first_over (T.Function f ∷ ts) (T.Function h ∷ us) l (inl c) = o_function (changed_declared all f h c.0 l.0) (inr c.0) (subst (Over IsStep ts) (sym c.1) (over_self ts))
+  first_over (T.Function f ∷ ts) (T.Function h ∷ us) l (inl c) = o_function (changed_declared all f h c.0 l.0) (inr c.0)
+      (subst (Over IsStep ts) (sym c.1) (over_self ts))
   first_over (T.Function f ∷ ts) (T.Include b ∷ us) l (inl c) = absurd c.0
   first_over (T.Function f ∷ ts) (T.Enum xs ∷ us) l (inl c) = absurd c.0
   first_over (T.Function f ∷ ts) (T.Global g ∷ us) l (inl c) = absurd c.0
   first_over (T.Function f ∷ ts) (T.Note b ∷ us) l (inl c) = absurd c.0
-  first_over (T.Function f ∷ ts) (y ∷ us) l (inr c) = subst (λ z. Over IsStep (T.Function f ∷ ts) (z ∷ us)) (sym c.1) (o_function (self_declared f) (inl refl) (first_over ts us l.1 c.2))
+  first_over (T.Function f ∷ ts) (y ∷ us) l (inr c) = subst (λ z. Over IsStep (T.Function f ∷ ts) (z ∷ us)) (sym c.1)
+      (o_function (self_declared f) (inl refl) (first_over ts us l.1 c.2))
   first_over (T.Include b ∷ ts) (y ∷ us) l (inl c) = absurd c.0
   first_over (T.Enum xs ∷ ts) (y ∷ us) l (inl c) = absurd c.0
   first_over (T.Global g ∷ ts) (y ∷ us) l (inl c) = absurd c.0
   first_over (T.Note b ∷ ts) (y ∷ us) l (inl c) = absurd c.0
-  first_over (T.Include b ∷ ts) (y ∷ us) l (inr c) = subst (λ z. Over IsStep (T.Include b ∷ ts) (z ∷ us)) (sym c.1) (o_other (T.Include b) tt (first_over ts us l.1 c.2))
-  first_over (T.Enum xs ∷ ts) (y ∷ us) l (inr c) = subst (λ z. Over IsStep (T.Enum xs ∷ ts) (z ∷ us)) (sym c.1) (o_other (T.Enum xs) tt (first_over ts us l.1 c.2))
-  first_over (T.Global g ∷ ts) (y ∷ us) l (inr c) = subst (λ z. Over IsStep (T.Global g ∷ ts) (z ∷ us)) (sym c.1) (o_other (T.Global g) tt (first_over ts us l.1 c.2))
+  first_over (T.Include b ∷ ts) (y ∷ us) l (inr c) = subst (λ z. Over IsStep (T.Include b ∷ ts) (z ∷ us)) (sym c.1)
+      (o_other (T.Include b) tt (first_over ts us l.1 c.2))
+  first_over (T.Enum xs ∷ ts) (y ∷ us) l (inr c) = subst (λ z. Over IsStep (T.Enum xs ∷ ts) (z ∷ us)) (sym c.1)
+      (o_other (T.Enum xs) tt (first_over ts us l.1 c.2))
+  first_over (T.Global g ∷ ts) (y ∷ us) l (inr c) = subst (λ z. Over IsStep (T.Global g ∷ ts) (z ∷ us)) (sym c.1)
+      (o_other (T.Global g) tt (first_over ts us l.1 c.2))
   first_over (T.Note b ∷ ts) (y ∷ us) l (inr c) = subst (λ z. Over IsStep (T.Note b ∷ ts) (z ∷ us)) (sym c.1) (o_other (T.Note b) tt (first_over ts us l.1 c.2))
   first_over [] us l h = absurd h
   first_over (x ∷ ts) [] l h = absurd h

@@ -74,7 +74,8 @@ is_change ts f c l k = at f.body refl k
     at None e k = absurd (no_change c k)
     at (Some xs) e k =
         let is_body : body_of f ≡ trees_of xs = ap (λ b. option_map_or trees_of b Nil) e in
-        let h = of_change (λ d. (b : Bool) → Trim d.0 b 1 (trees_of xs) d.1) (function_tree f) (trees_of xs) (lists_trim f.slots f.params (length f.slots - f.params) (trees_of xs) (subst (Everywhere (HasFirst f.slots)) is_body l.firsts) 1) c k in
+        let h = of_change (λ d. (b : Bool) → Trim d.0 b 1 (trees_of xs) d.1) (function_tree f) (trees_of xs)
+        (lists_trim f.slots f.params (length f.slots - f.params) (trees_of xs) (subst (Everywhere (HasFirst f.slots)) is_body l.firsts) 1) c k in
         let i = both (is_flag (entry_or no_slot f.slots c.0)) (declares c.0 c.1 && list_lacks c.0 (undeclared c.0 c.1)) h.1 in
         let j = both (declares c.0 c.1) (list_lacks c.0 (undeclared c.0 c.1)) i.1 in
         record { some = ap is_some e; trim = subst (λ a. Trim c.0 false 1 a c.1) (sym is_body) (h.0 false); declared = j.0; lacks = j.1 }
@@ -135,7 +136,8 @@ module _ (ts : List Top) (f h : Function) (s : IsChangedFirst f h) (l : IsLoose 
     kept_everywhere p = subst (Everywhere Q) (sym has_body.1) (q (trim_everywhere g P k facts.trim p))
 
   -- by a map of items
-  gone_by : (P Q : Tree → Type 0) → ((x : Tree) → item_lacks g x ≡ true → P x → Q (renumbered_item g x)) → Everywhere P C → Everywhere Q (renumbered_list g (undeclared g C))
+  gone_by : (P Q : Tree → Type 0) → ((x : Tree) → item_lacks g x ≡ true → P x → Q (renumbered_item g x)) → Everywhere P C →
+      Everywhere Q (renumbered_list g (undeclared g C))
   gone_by P Q f p = everywhere_without g P Q f (undeclared g C) facts.lacks (everywhere_undeclared g P C p)
 
   structured_there : Everywhere IsStructured C
@@ -163,7 +165,9 @@ module _ (ts : List Top) (f h : Function) (s : IsChangedFirst f h) (l : IsLoose 
   lengths_kept : HasLengths h
   lengths_kept = record {
     parameters = subst (AreLengths IsParameterLength) (sym taken) l.lengths.parameters;
-    others = subst (λ n. AreLengths IsLength (drop n h.slots)) (sym params_are) (over (λ ss. AreLengths IsLength (drop f.params ss)) (drop_without (AreLengths IsLength) f.params g f.slots reach.0 (lengths_without IsLength) l.lengths.others));
+    others = subst (λ n. AreLengths IsLength (drop n h.slots)) (sym params_are)
+        (over (λ ss. AreLengths IsLength (drop f.params ss))
+        (drop_without (AreLengths IsLength) f.params g f.slots reach.0 (lengths_without IsLength) l.lengths.others));
   }
 
   numbers : gathered declared_slot (body_of h) ≡ numbers_from h.params (length h.slots - h.params)
@@ -193,17 +197,25 @@ module _ (ts : List Top) (f h : Function) (s : IsChangedFirst f h) (l : IsLoose 
     structured = kept_everywhere IsStructured IsStructured (jumps_kept g) (gone_by IsStructured IsStructured (jumps_without g)) l.structured;
     unguarded = kept_everywhere IsUnguarded IsUnguarded (unguarded_kept g) (gone_by IsUnguarded IsUnguarded (unguarded_without g)) l.unguarded;
     entries = kept_everywhere HasEntries HasEntries (entries_kept g) (gone_by HasEntries HasEntries (entries_without g)) l.entries;
-    firsts = over (λ ss. Everywhere (HasFirst ss) (body_of h)) (kept_everywhere (HasFirst f.slots) (HasFirst (without g f.slots)) (firsts_kept g f.slots) (gone_by (HasFirst f.slots) (HasFirst (without g f.slots)) (firsts_without g f.slots)) l.firsts);
+    firsts = over (λ ss. Everywhere (HasFirst ss) (body_of h))
+        (kept_everywhere (HasFirst f.slots) (HasFirst (without g f.slots)) (firsts_kept g f.slots)
+        (gone_by (HasFirst f.slots) (HasFirst (without g f.slots)) (firsts_without g f.slots)) l.firsts);
     slots = numbers;
     exits = exits_kept;
     kinds = over_names ItemAgrees (kept_everywhere (ItemAgrees N) (ItemAgrees (fewer_names g N)) (kinds_kept g N)
-        (λ p. gone_by (λ x. IsStructured x × (HasFreeCases g x × ItemAgrees N x)) (ItemAgrees (fewer_names g N)) (agrees_without g N) (with_fit (ItemAgrees N) p)) l.kinds);
-    returns = subst (λ k. Everywhere (ReturnFits k) (body_of h)) (sym changed_declared.result) (kept_everywhere (ReturnFits f.result) (ReturnFits f.result) (returns_kept g f.result) (gone_by (ReturnFits f.result) (ReturnFits f.result) (fits_without g f.result)) l.returns);
+        (λ p. gone_by (λ x. IsStructured x × (HasFreeCases g x × ItemAgrees N x)) (ItemAgrees (fewer_names g N)) (agrees_without g N)
+        (with_fit (ItemAgrees N) p)) l.kinds);
+    returns = subst (λ k. Everywhere (ReturnFits k) (body_of h)) (sym changed_declared.result)
+        (kept_everywhere (ReturnFits f.result) (ReturnFits f.result) (returns_kept g f.result)
+        (gone_by (ReturnFits f.result) (ReturnFits f.result) (fits_without g f.result)) l.returns);
     cases = kept_everywhere HasCases HasCases (cases_kept g) (gone_by HasCases HasCases (cases_stay g)) l.cases;
     consts = over_names KeepsConsts (kept_everywhere (KeepsConsts N) (KeepsConsts (fewer_names g N)) (consts_kept g N)
-        (λ p. gone_by (λ x. IsStructured x × (HasFreeCases g x × KeepsConsts N x)) (KeepsConsts (fewer_names g N)) (keeps_without g N) (with_fit (KeepsConsts N) p)) l.consts);
+        (λ p. gone_by (λ x. IsStructured x × (HasFreeCases g x × KeepsConsts N x)) (KeepsConsts (fewer_names g N)) (keeps_without g N)
+        (with_fit (KeepsConsts N) p)) l.consts);
     lengths = lengths_kept;
-    initialised = over (λ ss. Everywhere (IsInitialised ss) (body_of h)) (kept_everywhere (IsInitialised f.slots) (IsInitialised (without g f.slots)) (initialised_kept g f.slots) (gone_by (IsInitialised f.slots) (IsInitialised (without g f.slots)) (initialised_without g f.slots)) l.initialised);
+    initialised = over (λ ss. Everywhere (IsInitialised ss) (body_of h))
+        (kept_everywhere (IsInitialised f.slots) (IsInitialised (without g f.slots)) (initialised_kept g f.slots)
+        (gone_by (IsInitialised f.slots) (IsInitialised (without g f.slots)) (initialised_without g f.slots)) l.initialised);
   }
 
   -- ---- its text and its names
@@ -211,7 +223,8 @@ module _ (ts : List Top) (f h : Function) (s : IsChangedFirst f h) (l : IsLoose 
   pub items_spelled : AreSpelled f (body_of f) → AreSpelled h (body_of h)
   items_spelled k =
       subst (AreSpelled h) (sym has_body.1)
-      (spelled_without g f h slots_are (undeclared g C) facts.lacks (everywhere_undeclared g (λ x. IsStructured x × HasFreeCases g x) C fit_there) (spelled_undeclared g f C (trim_spelled f g facts.trim k)))
+      (spelled_without g f h slots_are (undeclared g C) facts.lacks (everywhere_undeclared g (λ x. IsStructured x × HasFreeCases g x) C fit_there)
+      (spelled_undeclared g f C (trim_spelled f g facts.trim k)))
 
   pub depth_kept : 1 + depth (body_of f) ≤ most → 1 + depth (body_of h) ≤ most
   depth_kept d =
@@ -219,13 +232,16 @@ module _ (ts : List Top) (f h : Function) (s : IsChangedFirst f h) (l : IsLoose 
       let i = depth_gone g C in
       let j = trim_depth g facts.trim (omega arith) d in omega (arith, e, i, j)
 
-  pub items_bound : (ss : List Scope) → AreBelow 0 ss → AreBound f.slots (with_parameters f.params 0 f.slots (inside ss)) (body_of f) → AreBound h.slots (with_parameters h.params 0 h.slots (inside ss)) (body_of h)
+  pub items_bound : (ss : List Scope) → AreBelow 0 ss → AreBound f.slots (with_parameters f.params 0 f.slots (inside ss)) (body_of f) →
+      AreBound h.slots (with_parameters h.params 0 h.slots (inside ss)) (body_of h)
   items_bound ss z b =
       let base = with_parameters f.params 0 f.slots (inside ss) in
       let l = reach.0 in
-      let low = below_parameters g f.params 0 f.slots (inside ss) (omega (arith, l)) (below_inside g ss (λ m k e. let i = z m k e in absurd (omega (arith, i)))) in
+      let low = below_parameters g f.params 0 f.slots (inside ss) (omega (arith, l))
+      (below_inside g ss (λ m k e. let i = z m k e in absurd (omega (arith, i)))) in
       let same : with_parameters h.params 0 h.slots (inside ss) ≡ base =
-      (λ i. with_parameters (params_are i) 0 h.slots (inside ss)) ∙ parameters_take f.params 0 f.slots h.slots (inside ss) (ap (λ n. take n h.slots) (sym params_are) ∙ taken) in
+      (λ i. with_parameters (params_are i) 0 h.slots (inside ss)) ∙ parameters_take f.params 0 f.slots h.slots (inside ss)
+      (ap (λ n. take n h.slots) (sym params_are) ∙ taken) in
       subst (λ sc. AreBound h.slots sc (body_of h)) (sym same)
       (subst (AreBound h.slots base) (sym has_body.1)
       (over (λ sl. AreBound sl base (renumbered_list g (undeclared g C)))

@@ -41,7 +41,8 @@ module _ (g : ℕ) where
   within (x ∷ pre) post p (suc n) e = let l = within pre post (suc p) n (ap later_of e) in omega (arith, l)
 
   removed : (pre post : List ℕ) (p m : ℕ) → pre ++ g ∷ post ≡ numbers_from p (suc m) → map new (pre ++ post) ≡ numbers_from p m
-  removed [] post p m e = let q : g ≡ p = ap (first_of 0) e in let r : post ≡ numbers_from (suc p) m = ap later_of e in ap (map new) r ∙ shifted p m (omega (arith, q))
+  removed [] post p m e = let q : g ≡ p = ap (first_of 0) e in let r : post ≡ numbers_from (suc p) m = ap later_of e in
+      ap (map new) r ∙ shifted p m (omega (arith, q))
   removed (x ∷ pre) post p zero e = absurd (nothing pre (ap later_of e))
     where
       nothing : (pre : List ℕ) → pre ++ g ∷ post ≡ [] → ⊥
@@ -80,7 +81,8 @@ module _ (g : ℕ) where
         pre = gathered_of declared_slot x ++ r.pre;
         post = r.post;
         there = ap (λ l. gathered_of declared_slot x ++ l) r.there ∙ sym (append_assoc (gathered_of declared_slot x) r.pre (g ∷ r.post));
-        gone = ap (λ b. gathered declared_slot (cond b xs (Then x (undeclared g xs)))) q ∙ ap (λ l. gathered_of declared_slot x ++ l) r.gone ∙ sym (append_assoc (gathered_of declared_slot x) r.pre r.post);
+        gone = ap (λ b. gathered declared_slot (cond b xs (Then x (undeclared g xs)))) q ∙ ap (λ l. gathered_of declared_slot x ++ l) r.gone ∙
+            sym (append_assoc (gathered_of declared_slot x) r.pre r.post);
       }
 
   -- ---- renumbered
@@ -98,17 +100,20 @@ module _ (g : ℕ) where
     declared_of_stay (If t a b) = (λ i. declared_stay a i ++ declared_stay b i) ∙ sym (map_append (gathered declared_slot a) (gathered declared_slot b))
     declared_of_stay (While t a) = declared_stay a
     declared_of_stay (Do a t) = declared_stay a
-    declared_of_stay (For first t u a) = (λ i. declared_stay first i ++ declared_stay a i) ∙ sym (map_append (gathered declared_slot first) (gathered declared_slot a))
+    declared_of_stay (For first t u a) = (λ i. declared_stay first i ++ declared_stay a i) ∙ sym
+        (map_append (gathered declared_slot first) (gathered declared_slot a))
     declared_of_stay (Switch s c) = declared_in_stay c
     declared_of_stay (Block a) = declared_stay a
     declared_of_stay x = refl
 
     declared_in_stay : (c : Sections) → gathered_in declared_slot (renumbered_sections g c) ≡ map new (gathered_in declared_slot c)
     declared_in_stay NoSection = refl
-    declared_in_stay (Section cases default a ends c) = (λ i. declared_stay a i ++ declared_in_stay c i) ∙ sym (map_append (gathered declared_slot a) (gathered_in declared_slot c))
+    declared_in_stay (Section cases default a ends c) = (λ i. declared_stay a i ++ declared_in_stay c i) ∙ sym
+        (map_append (gathered declared_slot a) (gathered_in declared_slot c))
 
   -- the declarations of a body without one
-  pub declared_gone : (a : Forest) (p n : ℕ) → declares g a ≡ true → gathered declared_slot a ≡ numbers_from p n → gathered declared_slot (renumbered_list g (undeclared g a)) ≡ numbers_from p (pred n)
+  pub declared_gone : (a : Forest) (p n : ℕ) → declares g a ≡ true → gathered declared_slot a ≡ numbers_from p n →
+      gathered declared_slot (renumbered_list g (undeclared g a)) ≡ numbers_from p (pred n)
   declared_gone a p zero h e = let r = find a h in absurd (nothing r.pre r.post (sym r.there ∙ e))
     where
       nothing : (pre post : List ℕ) → pre ++ g ∷ post ≡ [] → ⊥
@@ -171,7 +176,8 @@ module _ (g : ℕ) where
     depth_stays (Then x xs) = (λ i. max (depth_of_stays x i) (depth_stays xs i))
 
     depth_of_stays : (x : Tree) → depth_of (renumbered_item g x) ≡ depth_of x
-    depth_of_stays (If t a b) = depth_if (renumbered_test g t) (renumbered_list g a) (renumbered_list g b) ∙ (λ i. max (depth_stays a i) (depth_stays b i) + 1) ∙ sym (depth_if t a b)
+    depth_of_stays (If t a b) = depth_if (renumbered_test g t) (renumbered_list g a) (renumbered_list g b) ∙
+        (λ i. max (depth_stays a i) (depth_stays b i) + 1) ∙ sym (depth_if t a b)
     depth_of_stays (While t a) = (λ i. depth_stays a i + 1)
     depth_of_stays (Do a t) = (λ i. depth_stays a i + 1)
     depth_of_stays (For first t u a) = (λ i. depth_stays a i + 1)
@@ -201,7 +207,8 @@ module _ (g : ℕ) where
   continues_undeclared Nil = refl
   continues_undeclared (Then x xs) = at (is_declaration g x) refl (continues_undeclared xs)
     where
-      at : (b : Bool) → is_declaration g x ≡ b → continues (undeclared g xs) ≡ continues xs → continues (cond b xs (Then x (undeclared g xs))) ≡ continues_of x + continues xs
+      at : (b : Bool) → is_declaration g x ≡ b → continues (undeclared g xs) ≡ continues xs →
+          continues (cond b xs (Then x (undeclared g xs))) ≡ continues_of x + continues xs
       at true q k = let z = (leaf x q).1 in omega (arith, z)
       at false q k = ap (λ n. continues_of x + n) k
 
@@ -209,7 +216,8 @@ module _ (g : ℕ) where
   marked_undeclared Nil = refl
   marked_undeclared (Then x xs) = at (is_declaration g x) refl (marked_undeclared xs)
     where
-      at : (b : Bool) → is_declaration g x ≡ b → gathered marked_label (undeclared g xs) ≡ gathered marked_label xs → gathered marked_label (cond b xs (Then x (undeclared g xs))) ≡ gathered_of marked_label x ++ gathered marked_label xs
+      at : (b : Bool) → is_declaration g x ≡ b → gathered marked_label (undeclared g xs) ≡ gathered marked_label xs →
+          gathered marked_label (cond b xs (Then x (undeclared g xs))) ≡ gathered_of marked_label x ++ gathered marked_label xs
       at true q k = ap (λ l. l ++ gathered marked_label xs) (sym (leaf x q).2)
       at false q k = ap (λ l. gathered_of marked_label x ++ l) k
 

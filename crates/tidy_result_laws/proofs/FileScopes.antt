@@ -55,7 +55,8 @@ module _ (n : ℕ) where
   library [] m k e = absurd (none_some e)
   library (w ∷ ms) m k e = at (bytes_eq m w) (library ms m k) e
     where
-      at : (t : Bool) → (option_or (found m (map (λ w. (w, AFunction)) ms)) None ≡ Some (AVariable (H.Slot k)) → k < n) → option_or (cond t (Some AFunction) (found m (map (λ w. (w, AFunction)) ms))) None ≡ Some (AVariable (H.Slot k)) → k < n
+      at : (t : Bool) → (option_or (found m (map (λ w. (w, AFunction)) ms)) None ≡ Some (AVariable (H.Slot k)) → k < n) →
+          option_or (cond t (Some AFunction) (found m (map (λ w. (w, AFunction)) ms))) None ≡ Some (AVariable (H.Slot k)) → k < n
       at true f e = cc
       at false f e = f e
 
@@ -72,4 +73,5 @@ module _ (n : ℕ) where
   pub below_parameters : (p i : ℕ) (slots : List Slot) (ss : List Scope) → i + p ≤ n → AreBelow n ss → AreBelow n (with_parameters p i slots ss)
   below_parameters zero i slots ss l h = h
   below_parameters (suc p) i [] ss l h = h
-  below_parameters (suc p) i (s ∷ slots) ss l h = below_parameters p (suc i) slots (bind_parameter s.name i ss) (omega (arith, l)) (below_parameter s.name i ss (omega (arith, l)) h)
+  below_parameters (suc p) i (s ∷ slots) ss l h = below_parameters p (suc i) slots (bind_parameter s.name i ss) (omega (arith, l))
+      (below_parameter s.name i ss (omega (arith, l)) h)

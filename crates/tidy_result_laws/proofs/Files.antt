@@ -46,17 +46,21 @@ over_same R (o_other t n o) = sf_other t n (over_same R o)
 
 -- ---- names
 
-body_items : (f : Function) (ss : List Scope) (o : Option (List Item)) → f.body ≡ o → BodyIsBound f ss f.body → AreBound f.slots (with_parameters f.params 0 f.slots (inside ss)) (body_of f)
+body_items : (f : Function) (ss : List Scope) (o : Option (List Item)) → f.body ≡ o → BodyIsBound f ss f.body →
+    AreBound f.slots (with_parameters f.params 0 f.slots (inside ss)) (body_of f)
 body_items f ss None e h = subst (AreBound f.slots (with_parameters f.params 0 f.slots (inside ss))) (sym (ap (λ b. option_map_or trees_of b Nil) e)) tt
-body_items f ss (Some a) e h = subst (AreBound f.slots (with_parameters f.params 0 f.slots (inside ss))) (sym (ap (λ b. option_map_or trees_of b Nil) e)) (subst (BodyIsBound f ss) e h)
+body_items f ss (Some a) e h = subst (AreBound f.slots (with_parameters f.params 0 f.slots (inside ss)))
+    (sym (ap (λ b. option_map_or trees_of b Nil) e)) (subst (BodyIsBound f ss) e h)
 
-items_body : (f : Function) (ss : List Scope) (o : Option (List Item)) → f.body ≡ o → AreBound f.slots (with_parameters f.params 0 f.slots (inside ss)) (body_of f) → BodyIsBound f ss o
+items_body : (f : Function) (ss : List Scope) (o : Option (List Item)) → f.body ≡ o →
+    AreBound f.slots (with_parameters f.params 0 f.slots (inside ss)) (body_of f) → BodyIsBound f ss o
 items_body f ss None e h = tt
 items_body f ss (Some a) e h = subst (AreBound f.slots (with_parameters f.params 0 f.slots (inside ss))) (ap (λ b. option_map_or trees_of b Nil) e) h
 
 -- the items of the second are bound where those of the first are
 abbrev pub KeepsBound : Function → Function → Type 0
-KeepsBound f h = (ss : List Scope) → AreBelow 0 ss → AreBound f.slots (with_parameters f.params 0 f.slots (inside ss)) (body_of f) → AreBound h.slots (with_parameters h.params 0 h.slots (inside ss)) (body_of h)
+KeepsBound f h = (ss : List Scope) → AreBelow 0 ss → AreBound f.slots (with_parameters f.params 0 f.slots (inside ss)) (body_of f) →
+    AreBound h.slots (with_parameters h.params 0 h.slots (inside ss)) (body_of h)
 
 function_bound : (f h : Function) (ss : List Scope) → AreBelow 0 ss → SameDeclaration f h → KeepsBound f h → FunctionIsBound f ss → FunctionIsBound h ss
 function_bound f h ss z d k b = record {
@@ -66,11 +70,13 @@ function_bound f h ss z d k b = record {
       (subst (λ n. AreNewParameters n 0 h.slots (inside (behind_top ss (T.Function f)))) (sym d.params)
       (new_take f.params 0 f.slots h.slots (inside (behind_top ss (T.Function f))) (ap (λ n. take n h.slots) (sym d.params) ∙ d.parameters) b.parameters));
   body = subst (λ n. BodyIsBound h (bind n AFunction ss) h.body) (sym d.name)
-      (items_body h (behind_top ss (T.Function f)) h.body refl (k (behind_top ss (T.Function f)) (below_top 0 (T.Function f) ss z) (body_items f (behind_top ss (T.Function f)) f.body refl b.body)));
+      (items_body h (behind_top ss (T.Function f)) h.body refl
+      (k (behind_top ss (T.Function f)) (below_top 0 (T.Function f) ss z) (body_items f (behind_top ss (T.Function f)) f.body refl b.body)));
 }
 
 module _ (R : Function → Function → Type 0) (all : List Top) where
-  pub tops_bound : ((f h : Function) → R f h → IsLoose all f → KeepsBound f h) → {ts us : List Top} (ss : List Scope) → AreBelow 0 ss → Over R ts us → Each (TopIsLoose all) ts → TopsAreBound ss ts → TopsAreBound ss us
+  pub tops_bound : ((f h : Function) → R f h → IsLoose all f → KeepsBound f h) → {ts us : List Top} (ss : List Scope) → AreBelow 0 ss → Over R ts us →
+      Each (TopIsLoose all) ts → TopsAreBound ss ts → TopsAreBound ss us
   tops_bound k ss z o_none l b = tt
   tops_bound k ss z (o_function {f = f} {h = h} {us = us} d r o) l b = (
     function_bound f h ss z d (k f h r l.0) b.0,
@@ -107,7 +113,8 @@ function_spelled f h d k s =
     }
 
 module _ (R : Function → Function → Type 0) (all : List Top) where
-  pub tops_spelled : ((f h : Function) → R f h → IsLoose all f → KeepsSpelling f h) → {ts us : List Top} → Over R ts us → Each (TopIsLoose all) ts → Each TopIsSpelled ts → Each TopIsSpelled us
+  pub tops_spelled : ((f h : Function) → R f h → IsLoose all f → KeepsSpelling f h) → {ts us : List Top} → Over R ts us → Each (TopIsLoose all) ts →
+      Each TopIsSpelled ts → Each TopIsSpelled us
   tops_spelled k o_none l s = tt
   tops_spelled k (o_function {f = f} {h = h} d r o) l s = (function_spelled f h d (k f h r l.0) s.0, tops_spelled k o l.1 s.1)
   tops_spelled k (o_other t n o) l s = (s.0, tops_spelled k o l.1 s.1)
@@ -144,10 +151,15 @@ module _ (all us : List Top) (same : SameFile all us) where
   names_over f = names_kept (names_in all f) (names_in us f) (keeps_self f.slots) (λ m. global_over m same) (λ m. callee_over m f.slots f.slots same)
 
   item_agrees : (f : Function) (x : Tree) → ItemAgrees (names_in all f) x → ItemAgrees (names_in us f) x
-  item_agrees f x h = record { kinds = expressions_map (KindsAgree (names_in all f)) (KindsAgree (names_in us f)) (kinds_over (names_in all f) (names_in us f) (names_over f)) x h.kinds; values = h.values }
+  item_agrees f x h = record {
+    kinds = expressions_map (KindsAgree (names_in all f)) (KindsAgree (names_in us f))
+        (kinds_over (names_in all f) (names_in us f) (names_over f)) x h.kinds;
+    values = h.values;
+  }
 
   item_keeps : (f : Function) (x : Tree) → KeepsConsts (names_in all f) x → KeepsConsts (names_in us f) x
-  item_keeps f x h = expressions_map (Within (WritesNoConst (names_in all f))) (Within (WritesNoConst (names_in us f))) (consts_over (names_in all f) (names_in us f) (names_over f)) x h
+  item_keeps f x h = expressions_map (Within (WritesNoConst (names_in all f))) (Within (WritesNoConst (names_in us f)))
+      (consts_over (names_in all f) (names_in us f) (names_over f)) x h
 
   pub loose_over : (f : Function) → IsLoose all f → IsLoose us f
   loose_over f l = record {
@@ -186,7 +198,12 @@ module _ (all us : List Top) (same : SameFile all us) where
   values_over before (x ∷ xs) h = (next_over before x x.given h.0, h.1, values_over x.value xs h.2)
 
   global_top : (g : GlobalVariable) (o : Option (List ExpressionTree)) → IsGlobal all g o → IsGlobal us g o
-  global_top g o h = record { length = h.length; values = h.values; constant = if_some_map (Each (IsConstantOf all)) (Each (IsConstantOf us)) (each_map (IsConstantOf all) (IsConstantOf us) constant_over) o h.constant }
+  global_top g o h = record {
+    length = h.length;
+    values = h.values;
+    constant = if_some_map (Each (IsConstantOf all)) (Each (IsConstantOf us))
+        (each_map (IsConstantOf all) (IsConstantOf us) constant_over) o h.constant;
+  }
 
   pub other_over : (t : Top) → IsNoFunction t → TopIsLoose all t → TopIsLoose us t
   other_over (T.Function f) n h = absurd n

@@ -73,7 +73,8 @@ module _ (g : ℕ) (P Q : Tree → Type 0) (f : (x : Tree) → item_lacks g x �
 
     sections_without : (c : Sections) → sections_lack g c ≡ true → EverywhereIn P c → EverywhereIn Q (renumbered_sections g c)
     sections_without NoSection l h = tt
-    sections_without (Section cases default a ends c) l h = let i = both (list_lacks g a) (sections_lack g c) l in (everywhere_without a i.0 h.0, sections_without c i.1 h.1)
+    sections_without (Section cases default a ends c) l h = let i = both (list_lacks g a) (sections_lack g c) l in
+        (everywhere_without a i.0 h.0, sections_without c i.1 h.1)
 
 -- ---- cases name no slot
 
@@ -82,7 +83,8 @@ HasFreeCases g (Switch s c) = CaseExpressions (IsFreeOf g) c
 HasFreeCases g _ = Unit {0}
 
 module _ (P : ExpressionTree → Type 0) where
-  of_cases : (cases : List ExpressionTree) (default : Bool) (rest : List (Option ExpressionTree)) → Each P (cases_among (section_labels cases default ++ rest)) → Each P cases × Each P (cases_among rest)
+  of_cases : (cases : List ExpressionTree) (default : Bool) (rest : List (Option ExpressionTree)) →
+      Each P (cases_among (section_labels cases default ++ rest)) → Each P cases × Each P (cases_among rest)
   of_cases [] true rest h = (tt, h)
   of_cases [] false rest h = (tt, h)
   of_cases (e ∷ es) default rest h = let i = of_cases es default rest h.1 in ((h.0, i.0), i.1)
@@ -99,7 +101,8 @@ each_free g (e ∷ es) h = (constant_free g e h.0.constant, each_free g es h.1)
 free_sections : (g : ℕ) (c : Sections) → Each IsConstantValue (cases_among (switch_labels c)) → CaseExpressions (IsFreeOf g) c
 free_sections g NoSection h = tt
 free_sections g (Section cases default a ends c) h =
-    let i = of_cases IsConstantValue cases default (arrivals a ++ switch_labels c) h in (each_free g cases i.0, free_sections g c (of_rest IsConstantValue (arrivals a) (switch_labels c) i.1))
+    let i = of_cases IsConstantValue cases default (arrivals a ++ switch_labels c) h in
+    (each_free g cases i.0, free_sections g c (of_rest IsConstantValue (arrivals a) (switch_labels c) i.1))
 
 pub free_cases : (g : ℕ) (x : Tree) → HasCases x → HasFreeCases g x
 free_cases g (Switch s c) h = free_sections g c (the_some (λ k. AreLabels k (switch_labels c)) (selector_kind s) h).2.constant
@@ -162,7 +165,8 @@ module _ (g : ℕ) (P Q : ExpressionTree → Type 0) (f : (e : ExpressionTree) �
   cases_without NoSection k h = tt
   cases_without (Section cases default a ends c) k h = (each_case cases k.0 h.0, cases_without c k.1 h.1)
 
-  pub expressions_without : (x : Tree) → IsStructured x → item_lacks g x ≡ true → HasFreeCases g x → ItemExpressions P x → ItemExpressions Q (renumbered_item g x)
+  pub expressions_without : (x : Tree) → IsStructured x → item_lacks g x ≡ true → HasFreeCases g x → ItemExpressions P x →
+      ItemExpressions Q (renumbered_item g x)
   expressions_without (Evaluate e) j l k h = f e l h
   expressions_without (Return e) j l k h = option_without e l h
   expressions_without (If t a b) j l k h = test_without t (both (test_lacks g t) (list_lacks g a && list_lacks g b) l).0 h
@@ -212,13 +216,15 @@ module _ (g : ℕ) where
   uses_without (Land m) l h = tt
   uses_without (Note bs) l h = tt
 
-  pub agrees_without : (n : Names) (x : Tree) → item_lacks g x ≡ true → IsStructured x × (HasFreeCases g x × ItemAgrees n x) → ItemAgrees (fewer_names g n) (renumbered_item g x)
+  pub agrees_without : (n : Names) (x : Tree) → item_lacks g x ≡ true → IsStructured x × (HasFreeCases g x × ItemAgrees n x) →
+      ItemAgrees (fewer_names g n) (renumbered_item g x)
   agrees_without n x l h = record {
     kinds = expressions_without g (KindsAgree n) (KindsAgree (fewer_names g n)) (kinds_without g n) x h.0 l h.1.0 h.1.1.kinds;
     values = uses_without x l h.1.1.values;
   }
 
-  pub keeps_without : (n : Names) (x : Tree) → item_lacks g x ≡ true → IsStructured x × (HasFreeCases g x × KeepsConsts n x) → KeepsConsts (fewer_names g n) (renumbered_item g x)
+  pub keeps_without : (n : Names) (x : Tree) → item_lacks g x ≡ true → IsStructured x × (HasFreeCases g x × KeepsConsts n x) →
+      KeepsConsts (fewer_names g n) (renumbered_item g x)
   keeps_without n x l h = expressions_without g (Within (WritesNoConst n)) (Within (WritesNoConst (fewer_names g n))) (consts_without g n) x h.0 l h.1.0 h.1.1
 
   pub fits_without : (result : Option IntKind) (x : Tree) → item_lacks g x ≡ true → ReturnFits result x → ReturnFits result (renumbered_item g x)
@@ -253,7 +259,8 @@ module _ (g : ℕ) where
   selector_kind_stays (Pick l n s) = selector_kind_stays s
 
   pub cases_stay : (x : Tree) → item_lacks g x ≡ true → HasCases x → HasCases (renumbered_item g x)
-  cases_stay (Switch s c) l h = subst (λ o. IsSomeAnd o (λ k. AreLabels k (switch_labels (renumbered_sections g c)))) (sym (selector_kind_stays s)) (subst (λ ls. IsSomeAnd (selector_kind s) (λ k. AreLabels k ls)) (sym (labels_stay c)) h)
+  cases_stay (Switch s c) l h = subst (λ o. IsSomeAnd o (λ k. AreLabels k (switch_labels (renumbered_sections g c)))) (sym (selector_kind_stays s))
+      (subst (λ ls. IsSomeAnd (selector_kind s) (λ k. AreLabels k ls)) (sym (labels_stay c)) h)
   cases_stay x l h = tt
 
   -- ---- declarations and first parts
@@ -282,11 +289,14 @@ module _ (g : ℕ) where
     alike_without s Nil l h = tt
     alike_without s (Then (Local x es) xs) l h =
         let i = both (not (eqb x g) && values_lack g es) (list_lacks g xs) l in
-        let j = both (not (eqb x g)) (values_lack g es) i.0 in
-        (subst (λ o. IsSomeAnd o (λ (r : Slot). (r.kind ≡ s.kind) × (r.constant ≡ s.constant))) (sym (same_get g x ss (is_false (eqb x g) j.0))) h.0, alike_without s xs i.1 h.1)
+        let j = both (not (eqb x g)) (values_lack g es) i.0 in (
+          subst (λ o. IsSomeAnd o (λ (r : Slot). (r.kind ≡ s.kind) × (r.constant ≡ s.constant))) (sym (same_get g x ss (is_false (eqb x g) j.0))) h.0,
+          alike_without s xs i.1 h.1,
+        )
     alike_without s (Then _ xs) l h = absurd h
 
-    first_alike : (o : Option Slot) (a : Forest) → list_lacks g a ≡ true → IsSomeAnd o (λ s. AreAlike ss s a) → IsSomeAnd o (λ s. AreAlike (without g ss) s (renumbered_list g a))
+    first_alike : (o : Option Slot) (a : Forest) → list_lacks g a ≡ true → IsSomeAnd o (λ s. AreAlike ss s a) →
+        IsSomeAnd o (λ s. AreAlike (without g ss) s (renumbered_list g a))
     first_alike None a l h = absurd h
     first_alike (Some s) a l h = alike_without s a l h
 
@@ -296,7 +306,8 @@ module _ (g : ℕ) where
     first_without (Then (Local x es) xs) l h =
         let i = both (not (eqb x g) && values_lack g es) (list_lacks g xs) l in
         let j = both (not (eqb x g)) (values_lack g es) i.0 in
-        subst (λ o. IsSomeAnd o (λ s. AreAlike (without g ss) s (renumbered_list g xs))) (sym (same_get g x ss (is_false (eqb x g) j.0))) (first_alike (slice_get ss x) xs i.1 h)
+        subst (λ o. IsSomeAnd o (λ s. AreAlike (without g ss) s (renumbered_list g xs))) (sym (same_get g x ss (is_false (eqb x g) j.0)))
+        (first_alike (slice_get ss x) xs i.1 h)
     first_without _ l h = absurd h
 
     pub firsts_without : (x : Tree) → item_lacks g x ≡ true → HasFirst ss x → HasFirst (without g ss) (renumbered_item g x)

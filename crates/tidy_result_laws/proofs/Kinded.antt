@@ -37,7 +37,8 @@ module _ (p : Program) (ss : List Slot) (unknown : (m : List ℕ) → IfSome (th
   item_kinded (Do a t) h = test_kinded p ss unknown t h.0.kinds h.0.values
   item_kinded (For first t u a) h = let k = h.0.kinds in let v = h.0.values in (value_kinded p ss unknown t k.0 v.0, operand_kinded p ss unknown u k.1 v.1)
   item_kinded (Switch s c) h = let k = h.0.kinds in selector_kinded p ss unknown s k.0 h.0.values
-  item_kinded (Local x given) h = let s = the_some _ (slice_get ss x) h.1.0 in (slice_get_within ss x s.0 s.1, given_kinded p ss unknown given h.0.kinds h.0.values)
+  item_kinded (Local x given) h = let s = the_some _ (slice_get ss x) h.1.0 in
+      (slice_get_within ss x s.0 s.1, given_kinded p ss unknown given h.0.kinds h.0.values)
   item_kinded (Arm l e) h = absurd h.1.1
   item_kinded x h = tt
 
@@ -49,7 +50,8 @@ module _ (p : Program) (l : IsLooseFile p.tops) where
       record {
         items =
             everywhere_map (Known p f.slots u) (KindedItem (code_of p) f.slots) (item_kinded p f.slots u) a
-            (everywhere_both (ItemAgrees (names_in p.tops f)) (λ x. IsInitialised f.slots x × IsStructured x) a k.kinds (everywhere_both (IsInitialised f.slots) IsStructured a k.initialised k.structured));
+            (everywhere_both (ItemAgrees (names_in p.tops f)) (λ x. IsInitialised f.slots x × IsStructured x) a k.kinds
+            (everywhere_both (IsInitialised f.slots) IsStructured a k.initialised k.structured));
         parameters = k.parameters;
       }
 

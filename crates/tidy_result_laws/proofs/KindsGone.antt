@@ -49,7 +49,8 @@ module _ (g : ℕ) (n : Names) where
   some_same : (P : Slot → Type 0) (h : Home) → home_lacks g h ≡ true → IsSomeAnd (variable n h) P → IsSomeAnd (variable fewer_names (renumbered_home g h)) P
   some_same P h l i = subst (λ o. IsSomeAnd o P) (sym (variable_same h l)) i
 
-  place_agrees : (kind : Option IntKind) (at : PlaceTree) → place_lacks g at ≡ true → PlaceAgrees n kind at → PlaceAgrees fewer_names kind (renumbered_place g at)
+  place_agrees : (kind : Option IntKind) (at : PlaceTree) → place_lacks g at ≡ true → PlaceAgrees n kind at →
+      PlaceAgrees fewer_names kind (renumbered_place g at)
   place_agrees kind (Var h) l i = some_same _ h l i
   place_agrees kind (Cell h a) l i = (some_same _ h (both (home_lacks g h) (lacks g a) l).0 i.0, value_stays g a i.1)
 
@@ -63,11 +64,13 @@ module _ (g : ℕ) (n : Names) where
   fits_cells None A B C D f h i = f i
   fits_cells (Some cells) A B C D f h i = h i
 
-  arguments_fit : (defined : Bool) (ss : List Slot) (xs : Arguments) → arguments_lack g xs ≡ true → ArgumentsFit n defined ss xs → ArgumentsFit fewer_names defined ss (renumbered_arguments g xs)
+  arguments_fit : (defined : Bool) (ss : List Slot) (xs : Arguments) → arguments_lack g xs ≡ true → ArgumentsFit n defined ss xs →
+      ArgumentsFit fewer_names defined ss (renumbered_arguments g xs)
   arguments_fit defined [] NoArgument l h = tt
   arguments_fit defined (s ∷ ss) (Argument x xs) l h =
       let i = both (lacks g x) (arguments_lack g xs) l in (
-        fits_cells s.cells (HasValue x) (IsArrayFor n defined s x) (HasValue (renumbered g x)) (IsArrayFor fewer_names defined s (renumbered g x)) (value_stays g x) (array_for defined s x i.0) h.0,
+        fits_cells s.cells (HasValue x) (IsArrayFor n defined s x) (HasValue (renumbered g x)) (IsArrayFor fewer_names defined s (renumbered g x))
+            (value_stays g x) (array_for defined s x i.0) h.0,
         arguments_fit defined ss xs i.1 h.1,
       )
   arguments_fit defined [] (Argument x xs) l h = absurd h
@@ -87,7 +90,8 @@ module _ (g : ℕ) (n : Names) where
   format_fits (Argument (Typed kind (Text bs)) xs) h = wanted_fit (wanted bs) xs h
   format_fits _ h = absurd h
 
-  call_fits : (kind : Option IntKind) (c : Callee) (xs : Arguments) → arguments_lack g xs ≡ true → CallFits n kind c xs → CallFits fewer_names kind c (renumbered_arguments g xs)
+  call_fits : (kind : Option IntKind) (c : Callee) (xs : Arguments) → arguments_lack g xs ≡ true → CallFits n kind c xs →
+      CallFits fewer_names kind c (renumbered_arguments g xs)
   call_fits kind (Plain s) xs l h = (h.0, arguments_fit s.defined s.parameters xs l h.1)
   call_fits kind Printf xs l h = (h.0, format_fits xs h.1)
   call_fits kind Unknown xs l h = absurd h

@@ -97,7 +97,8 @@ none_first (x ∷ ts) (y ∷ us) s (inr c) = none_first ts us s.1 c.2
 none_first [] us s h = h
 none_first (x ∷ ts) [] s h = h
 
-only_times : (n m : ℕ) (ts us vs : List Top) → AreChangedTimes n ts us → AreChangedTimes m ts vs → Each TopIsSettled us → Each TopIsSettled vs → (m ≡ n) × (vs ≡ us)
+only_times : (n m : ℕ) (ts us vs : List Top) → AreChangedTimes n ts us → AreChangedTimes m ts vs → Each TopIsSettled us → Each TopIsSettled vs →
+    (m ≡ n) × (vs ≡ us)
 only_times zero zero ts us vs c d s t = (refl, d ∙ sym c)
 only_times zero (suc m) ts us vs c d s t = absurd (none_first ts d.0 (subst (Each TopIsSettled) c s) d.1)
 only_times (suc n) zero ts us vs c d s t = absurd (none_first ts c.0 (subst (Each TopIsSettled) d t) c.1)
@@ -107,5 +108,6 @@ only_times (suc n) (suc m) ts us vs c d s t =
 
 pub one_end : OneEnd
 one_end p q r n m s t =
-    let k = only_times n m p.tops s.last.tops t.last.tops s.changes t.changes (recursion_from_All TopIsSettled s.last.tops s.settled) (recursion_from_All TopIsSettled t.last.tops t.settled) in
+    let k = only_times n m p.tops s.last.tops t.last.tops s.changes t.changes (recursion_from_All TopIsSettled s.last.tops s.settled)
+    (recursion_from_All TopIsSettled t.last.tops t.settled) in
     (k.0, t.sections ∙ (λ i. with_sections (record { tops = k.1 i })) ∙ sym s.sections)

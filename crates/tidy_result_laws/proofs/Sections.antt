@@ -135,7 +135,8 @@ module _ (us : List Top) (f h : Function) (m : IsUnmovedForm f h) (l : IsLoose u
   plain_tidy = tidy_plain (unlabelled X) (subst (Everywhere IsPlainItem) (sym same_items) plain)
 
   over : (P : Names → Tree → Type 0) → Everywhere (P (names_in us f)) (tidy X) → Everywhere (P (names_in us h)) (body_of h)
-  over P k = subst (λ ss. Everywhere (P (record { tops = us; slots = ss })) (body_of h)) (sym (unmoved_slots f h m)) (subst (Everywhere (P (names_in us f))) (sym is_tidy) k)
+  over P k = subst (λ ss. Everywhere (P (record { tops = us; slots = ss })) (body_of h)) (sym (unmoved_slots f h m))
+      (subst (Everywhere (P (names_in us f))) (sym is_tidy) k)
 
   ready : Everywhere (Ready h) X
   ready =
@@ -145,7 +146,8 @@ module _ (us : List Top) (f h : Function) (m : IsUnmovedForm f h) (l : IsLoose u
 
   form : HasForm h
   form =
-      tidied_form h X is_tidy (ap (λ (k : Function). k.flat) m.plain ∙ m.is_left.flat) (ap (λ (k : Function). is_some k.body) m.plain) (ap (λ (k : Function). k.labels) m.plain ∙ m.is_left.labels)
+      tidied_form h X is_tidy (ap (λ (k : Function). k.flat) m.plain ∙ m.is_left.flat) (ap (λ (k : Function). is_some k.body) m.plain)
+      (ap (λ (k : Function). k.labels) m.plain ∙ m.is_left.labels)
       (subst (λ n. n ≤ length h.slots) (sym (unmoved_params f h m)) (subst (λ ss. f.params ≤ length ss) (sym (unmoved_slots f h m)) l.parameters))
       ready
       (l.slots ∙ (λ i. numbers_from (sym (unmoved_params f h m) i) (length (sym (unmoved_slots f h m) i) - sym (unmoved_params f h m) i)))
@@ -157,19 +159,22 @@ module _ (us : List Top) (f h : Function) (m : IsUnmovedForm f h) (l : IsLoose u
       record {
         form = form;
         kinds = over ItemAgrees (tidy_everywhere (ItemAgrees (names_in us f)) (agrees_tidy (names_in us f)) X l.kinds);
-        returns = subst (λ k. Everywhere (ReturnFits k) (body_of h)) (sym result) (subst (Everywhere (ReturnFits f.result)) (sym is_tidy) (tidy_everywhere (ReturnFits f.result) (fits_tidy f.result) X l.returns));
+        returns = subst (λ k. Everywhere (ReturnFits k) (body_of h)) (sym result)
+            (subst (Everywhere (ReturnFits f.result)) (sym is_tidy) (tidy_everywhere (ReturnFits f.result) (fits_tidy f.result) X l.returns));
         cases = unmoved_cases f h m (subst (Everywhere IsPlainItem) (sym same_items) plain) l.cases;
         consts = over KeepsConsts (tidy_everywhere (KeepsConsts (names_in us f)) (keeps_tidy (names_in us f)) X l.consts);
         lengths = unmoved_lengths f h m l.lengths;
         initialised = unmoved_initialised f h m l.initialised;
-        untangled = counted_none (has_jumps (without_strays (body_of h))) _ _ (jumps_stay (body_of h) ∙ no_jumps (body_of h) (subst (Everywhere IsPlainItem) (sym (left_trees f h m)) plain_tidy));
+        untangled = counted_none (has_jumps (without_strays (body_of h)))
+            _ _ (jumps_stay (body_of h) ∙ no_jumps (body_of h) (subst (Everywhere IsPlainItem) (sym (left_trees f h m)) plain_tidy));
       }
 
   pub unmoved_keeps_bound : KeepsBound f h
   unmoved_keeps_bound ss z b =
       subst (λ n. AreBound h.slots (with_parameters n 0 h.slots (inside ss)) (body_of h)) (sym (unmoved_params f h m))
       (subst (λ ts. AreBound ts (with_parameters f.params 0 ts (inside ss)) (body_of h)) (sym (unmoved_slots f h m))
-      (subst (AreBound f.slots (with_parameters f.params 0 f.slots (inside ss))) (sym (left_trees f h m)) (bound_unmoved f.slots X (with_parameters f.params 0 f.slots (inside ss)) b)))
+      (subst (AreBound f.slots (with_parameters f.params 0 f.slots (inside ss))) (sym (left_trees f h m))
+      (bound_unmoved f.slots X (with_parameters f.params 0 f.slots (inside ss)) b)))
 
   pub unmoved_keeps_spelling : KeepsSpelling f h
   unmoved_keeps_spelling = record {
@@ -234,7 +239,8 @@ other_resolved us (T.Enum xs) n h = h
 other_resolved us (T.Global g) n h = h
 other_resolved us (T.Note bytes) n h = tt
 
-pub section_tops : (all us : List Top) (same : SameFile all us) {ts vs : List Top} → Over IsSectioned ts vs → Each (TopIsLoose all) ts → Each (IsResolvedTop flat_counts us) vs
+pub section_tops : (all us : List Top) (same : SameFile all us) {ts vs : List Top} → Over IsSectioned ts vs → Each (TopIsLoose all) ts →
+    Each (IsResolvedTop flat_counts us) vs
 section_tops all us same o_none l = tt
 section_tops all us same (o_function {f = f} {h = h} d r o) l = (section_resolved us f h r (loose_over all us same f l.0), section_tops all us same o l.1)
 section_tops all us same (o_other t n o) l = (other_resolved us t n (other_over all us same t n l.0), section_tops all us same o l.1)

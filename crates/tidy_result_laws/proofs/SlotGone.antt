@@ -57,7 +57,8 @@ take_without (suc n) zero ss l = absurd (omega (arith, l))
 take_without (suc n) (suc g) [] l = refl
 take_without (suc n) (suc g) (s ∷ ss) l = ap (λ ts. s ∷ ts) (take_without n g ss (omega (arith, l)))
 
-pub drop_without : (P : List Slot → Type 0) (n g : ℕ) (ss : List Slot) → n ≤ g → ((h : ℕ) (ts : List Slot) → P ts → P (without h ts)) → P (drop n ss) → P (drop n (without g ss))
+pub drop_without : (P : List Slot → Type 0) (n g : ℕ) (ss : List Slot) → n ≤ g → ((h : ℕ) (ts : List Slot) → P ts → P (without h ts)) →
+    P (drop n ss) → P (drop n (without g ss))
 drop_without P zero g ss l f h = f g ss h
 drop_without P (suc n) zero ss l f h = absurd (omega (arith, l))
 drop_without P (suc n) (suc g) [] l f h = h

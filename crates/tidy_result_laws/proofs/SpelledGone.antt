@@ -50,8 +50,10 @@ module _ (g : ℕ) where
     node_stays (Unary op a) = (λ i. counted_stays a i + bracket_count (level_stays a i) 14 + 1)
     node_stays (Cast a) = (λ i. counted_stays a i + bracket_count (level_stays a i) 14 + 1)
     node_stays (Binary op a b) =
-        (λ i. counted_stays a i + bracket_count (level_stays a i) (level_of (Typed None (Binary op a b))) + 1 + (counted_stays b i + bracket_count (level_stays b i) (level_of (Typed None (Binary op a b)) + 1)))
-    node_stays (Conditional a b c) = (λ i. counted_stays a i + bracket_count (level_stays a i) 4 + 1 + counted_stays b i + (counted_stays c i + bracket_count (level_stays c i) 3))
+        (λ i. counted_stays a i + bracket_count (level_stays a i)
+        (level_of (Typed None (Binary op a b))) + 1 + (counted_stays b i + bracket_count (level_stays b i) (level_of (Typed None (Binary op a b)) + 1)))
+    node_stays (Conditional a b c) = (λ i. counted_stays a i + bracket_count (level_stays a i) 4 + 1 + counted_stays b
+        i + (counted_stays c i + bracket_count (level_stays c i) 3))
     node_stays (Assign at a) = (λ i. place_stays at i + 1 + (counted_stays a i + bracket_count (level_stays a i) 2))
     node_stays (Update op at a) = (λ i. place_stays at i + 1 + (counted_stays a i + bracket_count (level_stays a i) 2))
     node_stays (Count at up after) = (λ i. place_stays at i + 1)
@@ -117,7 +119,9 @@ module _ (g : ℕ) (ss : List Slot) where
     argument_prints : (x : ExpressionTree) → lacks g x ≡ true → ArgumentPrints (Prints ss x) x → ArgumentPrints (Prints rest (renumbered g x)) (renumbered g x)
     argument_prints (Typed kind node) l h = argument_node kind node l h
 
-    argument_node : (kind : Option IntKind) (node : NodeTree) → node_lacks g node ≡ true → ArgumentPrints (NodePrints ss kind node) (Typed kind node) → ArgumentPrints (NodePrints rest kind (renumbered_node g node)) (Typed kind (renumbered_node g node))
+    argument_node : (kind : Option IntKind) (node : NodeTree) → node_lacks g node ≡ true →
+        ArgumentPrints (NodePrints ss kind node) (Typed kind node) → ArgumentPrints (NodePrints rest kind (renumbered_node g node))
+        (Typed kind (renumbered_node g node))
     argument_node kind (Text bs) l h = h
     argument_node kind (Number z) l h = h
     argument_node kind (Character b) l h = h
@@ -161,13 +165,16 @@ module _ (g : ℕ) (ss : List Slot) where
   values_print (Some n) (Some []) l h = absurd h
   values_print (Some n) (Some (e ∷ es)) l h = list_prints 2 (e ∷ es) l h
 
-  slot_prints : (o : Option Slot) (es : Option (List ExpressionTree)) → values_lack g es ≡ true → SlotPrints ss o es → SlotPrints rest o (renumbered_values g es)
+  slot_prints : (o : Option Slot) (es : Option (List ExpressionTree)) → values_lack g es ≡ true → SlotPrints ss o es →
+      SlotPrints rest o (renumbered_values g es)
   slot_prints None es l h = absurd h
   slot_prints (Some s) es l h = record { named = h.named; length = h.length; values = values_print s.cells es l h.values }
 
-  local_prints : (x : ℕ) (es : Option (List ExpressionTree)) → (not (eqb x g) && values_lack g es) ≡ true → SlotPrints ss (slice_get ss x) es → SlotPrints rest (slice_get rest (new_number g x)) (renumbered_values g es)
+  local_prints : (x : ℕ) (es : Option (List ExpressionTree)) → (not (eqb x g) && values_lack g es) ≡ true → SlotPrints ss (slice_get ss x) es →
+      SlotPrints rest (slice_get rest (new_number g x)) (renumbered_values g es)
   local_prints x es l h =
-      let i = both (not (eqb x g)) (values_lack g es) l in subst (λ o. SlotPrints rest o (renumbered_values g es)) (sym (same_get g x ss (is_false (eqb x g) i.0))) (slot_prints (slice_get ss x) es i.1 h)
+      let i = both (not (eqb x g)) (values_lack g es) l in subst (λ o. SlotPrints rest o (renumbered_values g es))
+      (sym (same_get g x ss (is_false (eqb x g) i.0))) (slot_prints (slice_get ss x) es i.1 h)
 
   test_prints : (t : TestTree) → test_lacks g t ≡ true → TestPrints ss t → TestPrints rest (renumbered_test g t)
   test_prints (Source e) l h = full_without 1 e l h
@@ -182,13 +189,15 @@ module _ (g : ℕ) (ss : List Slot) where
 
   further_print : (a : Forest) → list_lacks g a ≡ true → FurtherPrint ss a → FurtherPrint rest (renumbered_list g a)
   further_print Nil l h = tt
-  further_print (Then (Local x es) xs) l h = let i = both (not (eqb x g) && values_lack g es) (list_lacks g xs) l in (local_prints x es i.0 h.0, further_print xs i.1 h.1)
+  further_print (Then (Local x es) xs) l h = let i = both (not (eqb x g) && values_lack g es) (list_lacks g xs) l in
+      (local_prints x es i.0 h.0, further_print xs i.1 h.1)
   further_print (Then _ a) l h = absurd h
 
   start_prints : (a : Forest) → list_lacks g a ≡ true → StartPrints ss a → StartPrints rest (renumbered_list g a)
   start_prints Nil l h = tt
   start_prints (Then (Evaluate e) Nil) l h = full_without 1 e (both (lacks g e) true l).0 h
-  start_prints (Then (Local x es) xs) l h = let i = both (not (eqb x g) && values_lack g es) (list_lacks g xs) l in (local_prints x es i.0 h.0, further_print xs i.1 h.1)
+  start_prints (Then (Local x es) xs) l h = let i = both (not (eqb x g) && values_lack g es) (list_lacks g xs) l in
+      (local_prints x es i.0 h.0, further_print xs i.1 h.1)
   start_prints _ l h = absurd h
 
 -- ---- items, in a function whose slots are those without this one
@@ -208,11 +217,19 @@ module _ (g : ℕ) (f h : Function) (e : h.slots ≡ without g f.slots) where
     item_spelled : (x : Tree) → item_lacks g x ≡ true → EverywhereOf IsFit x → ItemIsSpelled f x → ItemIsSpelled h (renumbered_item g x)
     item_spelled (If t a b) l p k =
         let i = both (test_lacks g t) (list_lacks g a && list_lacks g b) l in
-        let j = both (list_lacks g a) (list_lacks g b) i.1 in (over (λ ss. TestPrints ss (renumbered_test g t)) (test_prints g f.slots t i.0 k.0), spelled_without a j.0 p.1 k.1, spelled_without b j.1 p.2 k.2)
+        let j = both (list_lacks g a) (list_lacks g b) i.1 in
+        (over (λ ss. TestPrints ss (renumbered_test g t)) (test_prints g f.slots t i.0 k.0), spelled_without a j.0 p.1 k.1, spelled_without b j.1 p.2 k.2)
     item_spelled (While t a) l p k =
-        let i = both (test_lacks g t) (list_lacks g a) l in (over (λ ss. TestPrints ss (renumbered_test g t)) (test_prints g f.slots t i.0 k.0), spelled_without a i.1 p.1 k.1)
+        let i = both (test_lacks g t) (list_lacks g a) l in (
+          over (λ ss. TestPrints ss (renumbered_test g t)) (test_prints g f.slots t i.0 k.0),
+          spelled_without a i.1 p.1 k.1,
+        )
     item_spelled (Do a t) l p k =
-        let i = both (list_lacks g a) (test_lacks g t) l in (spelled_without a i.0 p.1 k.0, over (λ ss. TestPrints ss (renumbered_test g t)) (test_prints g f.slots t i.1 k.1))
+        let i = both (list_lacks g a) (test_lacks g t) l in (
+          spelled_without a i.0 p.1 k.0,
+          over (λ ss. TestPrints ss (renumbered_test g t))
+              (test_prints g f.slots t i.1 k.1),
+        )
     item_spelled (For first t u a) l p k =
         let i = both (list_lacks g first) (option_lacks g t && (option_lacks g u && list_lacks g a)) l in
         let j = both (option_lacks g t) (option_lacks g u && list_lacks g a) i.1 in
@@ -223,7 +240,8 @@ module _ (g : ℕ) (f h : Function) (e : h.slots ≡ without g f.slots) where
           spelled_without a m.1 p.2 k.3,
         )
     item_spelled (Switch s c) l p k =
-        let i = both (selector_lacks g s) (sections_lack g c) l in (over (λ ss. SelectorPrints ss (renumbered_selector g s)) (selector_prints g f.slots s i.0 k.0), sections_spelled c i.1 p.0.1 p.1 k.1)
+        let i = both (selector_lacks g s) (sections_lack g c) l in
+        (over (λ ss. SelectorPrints ss (renumbered_selector g s)) (selector_prints g f.slots s i.0 k.0), sections_spelled c i.1 p.0.1 p.1 k.1)
     item_spelled (Block a) l p k = spelled_without a l p.1 k
     item_spelled (Evaluate x) l p k = over (λ ss. FullPrints ss 1 (renumbered g x)) (full_without g f.slots 1 x l k)
     item_spelled (Return x) l p k = over (λ ss. OptionPrints ss (renumbered_option g x)) (option_prints g f.slots x l k)
@@ -238,10 +256,12 @@ module _ (g : ℕ) (f h : Function) (e : h.slots ≡ without g f.slots) where
     item_spelled (Arrival x) l p k = absurd p.0
     item_spelled (Note bs) l p k = k
 
-    sections_spelled : (c : Sections) → sections_lack g c ≡ true → CaseExpressions (IsFreeOf g) c → EverywhereIn IsFit c → SectionsAreSpelled f c → SectionsAreSpelled h (renumbered_sections g c)
+    sections_spelled : (c : Sections) → sections_lack g c ≡ true → CaseExpressions (IsFreeOf g) c → EverywhereIn IsFit c → SectionsAreSpelled f c →
+        SectionsAreSpelled h (renumbered_sections g c)
     sections_spelled NoSection l q p k = tt
     sections_spelled (Section cases default a ends c) l q p k =
-        let i = both (list_lacks g a) (sections_lack g c) l in (over (λ ss. ListPrints ss 3 cases) (cases_print g f.slots cases q.0 k.0), spelled_without a i.0 p.0 k.1, sections_spelled c i.1 q.1 p.1 k.2)
+        let i = both (list_lacks g a) (sections_lack g c) l in
+        (over (λ ss. ListPrints ss 3 cases) (cases_print g f.slots cases q.0 k.0), spelled_without a i.0 p.0 k.1, sections_spelled c i.1 q.1 p.1 k.2)
 
 -- ---- a list without its declaration
 

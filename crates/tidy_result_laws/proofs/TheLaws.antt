@@ -58,7 +58,8 @@ module _ (p : Program) (l : IsLooseFile p.tops) where
 
   tops_free : (ts : List Top) → Each (TopIsLoose p.tops) ts → all_true (map (top_holds is_jump_free_function) ts) ≡ true
   tops_free [] k = refl
-  tops_free (T.Function f ∷ ts) k = both (is_jump_free_function f) (all_true (map (top_holds is_jump_free_function) ts)) (function_free f k.0) (tops_free ts k.1)
+  tops_free (T.Function f ∷ ts) k = both (is_jump_free_function f) (all_true (map (top_holds is_jump_free_function) ts)) (function_free f k.0)
+      (tops_free ts k.1)
   tops_free (T.Include b ∷ ts) k = tops_free ts k.1
   tops_free (T.Enum xs ∷ ts) k = tops_free ts k.1
   tops_free (T.Global g ∷ ts) k = tops_free ts k.1
@@ -85,7 +86,8 @@ module _ (p : Program) (n : ℕ) (q : Program) (r : IsResolved p) (free : is_jum
   end_alike : BehaveAlike (code_of p) (code_of q)
   end_alike =
       subst (λ k. BehaveAlike (code_of p) (code_of k)) (sym t.sections)
-      (alike_trans (code_of p) (code_of t.last) (code_of (with_sections t.last)) (alike_times n p.tops t.last.tops first t.changes) (alike_sections t.last.tops (us t.last last) last (over t.last last)))
+      (alike_trans (code_of p) (code_of t.last) (code_of (with_sections t.last)) (alike_times n p.tops t.last.tops first t.changes)
+      (alike_sections t.last.tops (us t.last last) last (over t.last last)))
 
   end_counted : n + variables q.tops ≡ variables p.tops
   end_counted =

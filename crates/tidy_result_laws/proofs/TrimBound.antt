@@ -185,15 +185,32 @@ module _ (slots : List Slot) where
     list_over (Then x xs) ss ts h n i = (item_over x tt ss ts h i.0, list_over xs ss ts h n i.1)
 
     item_over : (x : Tree) → IsNoLocal x → (ss ts : List Scope) → FindTheSame ss ts → ItemIsBound slots ss x → ItemIsBound slots ts x
-    item_over (If t a b) z ss ts h i = (test_over ss ts h t i.0, list_over a (inside ss) (inside ts) (good_inside ss ts h).finds (λ e. (good_inside ss ts h).news) i.1, list_over b (inside ss) (inside ts) (good_inside ss ts h).finds (λ e. (good_inside ss ts h).news) i.2)
-    item_over (While t a) z ss ts h i = (test_over ss ts h t i.0, list_over a (inside ss) (inside ts) (good_inside ss ts h).finds (λ e. (good_inside ss ts h).news) i.1)
-    item_over (Do a t) z ss ts h i = (test_over ss ts h t i.0, list_over a (inside ss) (inside ts) (good_inside ss ts h).finds (λ e. (good_inside ss ts h).news) i.1)
+    item_over (If t a b) z ss ts h i = (
+      test_over ss ts h t i.0,
+      list_over a (inside ss) (inside ts) (good_inside ss ts h).finds
+          (λ e. (good_inside ss ts h).news) i.1,
+      list_over b (inside ss) (inside ts) (good_inside ss ts h).finds (λ e. (good_inside ss ts h).news) i.2,
+    )
+    item_over (While t a) z ss ts h i = (
+      test_over ss ts h t i.0,
+      list_over a (inside ss) (inside ts) (good_inside ss ts h).finds
+          (λ e. (good_inside ss ts h).news) i.1,
+    )
+    item_over (Do a t) z ss ts h i = (
+      test_over ss ts h t i.0,
+      list_over a (inside ss) (inside ts) (good_inside ss ts h).finds
+          (λ e. (good_inside ss ts h).news) i.1,
+    )
     item_over (For f t u a) z ss ts h i =
         let k = good_inside ss ts h in
         let j = good_all f (inside ss) (inside ts) k in
         let s = behind_all slots (inside ss) f in
-        let r = behind_all slots (inside ts) f in
-        (list_over f (inside ss) (inside ts) k.finds (λ e. k.news) i.0, some_over s r j.finds t i.1, some_over s r j.finds u i.2, list_over a (inside s) (inside r) (good_inside s r j.finds).finds (λ e. (good_inside s r j.finds).news) i.3)
+        let r = behind_all slots (inside ts) f in (
+          list_over f (inside ss) (inside ts) k.finds (λ e. k.news) i.0,
+          some_over s r j.finds t i.1,
+          some_over s r j.finds u i.2,
+          list_over a (inside s) (inside r) (good_inside s r j.finds).finds (λ e. (good_inside s r j.finds).news) i.3,
+        )
     item_over (Switch s c) z ss ts h i = (bound_over ss ts h (selector_source s) i.0, sections_over c (inside ss) (inside ts) (good_inside ss ts h) i.1)
     item_over (Block a) z ss ts h i = list_over a (inside ss) (inside ts) (good_inside ss ts h).finds (λ e. (good_inside ss ts h).news) i
     item_over (Local k es) z ss ts h i = absurd z
@@ -211,8 +228,11 @@ module _ (slots : List Slot) where
 
     sections_over : (c : Sections) (ss ts : List Scope) → AreAsGood ss ts → SectionsAreBound slots ss c → SectionsAreBound slots ts c
     sections_over NoSection ss ts h i = tt
-    sections_over (Section cases default a ends c) ss ts h i =
-        (each_over ss ts h.finds cases i.0, list_over a ss ts h.finds (λ e. h.news) i.1, sections_over c (behind_all slots ss a) (behind_all slots ts a) (good_all a ss ts h) i.2)
+    sections_over (Section cases default a ends c) ss ts h i = (
+      each_over ss ts h.finds cases i.0,
+      list_over a ss ts h.finds (λ e. h.news) i.1,
+      sections_over c (behind_all slots ss a) (behind_all slots ts a) (good_all a ss ts h) i.2,
+    )
 
   -- ---- a changed list
 
@@ -238,10 +258,16 @@ module _ (slots : List Slot) where
     mutual
       pub trim_bound : {b : Bool} {n : ℕ} {a c : Forest} (ss : List Scope) → Trim g b n a c → AreBound slots ss a → AreBound slots ss c
       trim_bound ss t_nil h = tt
-      trim_bound ss (t_then {x = x} {y = y} {ys = ys} i r) h = (item_bound ss i h.0, subst (λ sc. AreBound slots sc ys) (sym (item_behind ss i)) (trim_bound (behind slots ss x) r h.1))
+      trim_bound ss (t_then {x = x} {y = y} {ys = ys} i r) h =
+          (item_bound ss i h.0, subst (λ sc. AreBound slots sc ys) (sym (item_behind ss i)) (trim_bound (behind slots ss x) r h.1))
       trim_bound ss (t_given e {c = c} {ys = ys} i q r) h =
-          bound_join c ys ss (list_over c (inside ss) ss (λ m. refl) (λ z. absurd (true≢false (sym z ∙ q))) (trim_bound (inside ss) i h.0.1)) (subst (λ sc. AreBound slots sc ys) (sym (undeclared_behind c ss q)) (trim_bound ss r h.1))
-      trim_bound ss (t_left leave k e {ys = ys} q r) h = (jump_bound ss leave, subst (λ sc. AreBound slots sc ys) (sym (jump_behind ss leave)) (trim_bound ss r h.1))
+          bound_join c ys ss (list_over c (inside ss) ss (λ m. refl) (λ z. absurd (true≢false (sym z ∙ q))) (trim_bound (inside ss) i h.0.1))
+          (subst (λ sc. AreBound slots sc ys) (sym (undeclared_behind c ss q)) (trim_bound ss r h.1))
+      trim_bound ss (t_left leave k e {ys = ys} q r) h = (
+        jump_bound ss leave,
+        subst (λ sc. AreBound slots sc ys) (sym (jump_behind ss leave))
+            (trim_bound ss r h.1),
+      )
       trim_bound ss (t_left_if leave k e q l r) h = ((h.0.1.1, (jump_bound (inside ss) leave, tt), tt), trim_bound ss r h.1)
       trim_bound ss (t_reset r) h = trim_bound ss r h.1
 

@@ -42,16 +42,23 @@ module _ (g : ℕ) (f : Tree → List ℕ) (none : IsOfLeaves f) where
   mutual
     pub trim_gathered : {b : Bool} {n : ℕ} {a c : Forest} → Trim g b n a c → gathered f c ≡ gathered f a
     trim_gathered t_nil = refl
-    trim_gathered (t_then {x = x} {y = y} {xs = xs} {ys = ys} i h) = both_lists (gathered_of f y) (gathered f ys) (gathered_of f x) (gathered f xs) (item_gathered i) (trim_gathered h)
-    trim_gathered (t_given e {a = a} {c = c} {xs = xs} {ys = ys} k q h) = gathered_join c ys ∙ both_lists (gathered f c) (gathered f ys) (gathered f a ++ []) (gathered f xs) (trim_gathered k ∙ sym (no_more (gathered f a))) (trim_gathered h)
-    trim_gathered (t_left leave k e {xs = xs} {ys = ys} q h) = both_lists (gathered_of f (jump_by leave)) (gathered f ys) (f (setting g k e)) (gathered f xs) (jump_none leave ∙ sym (none.evaluate _)) (trim_gathered h)
+    trim_gathered (t_then {x = x} {y = y} {xs = xs} {ys = ys} i h) = both_lists (gathered_of f y) (gathered f ys) (gathered_of f x) (gathered f xs)
+        (item_gathered i) (trim_gathered h)
+    trim_gathered (t_given e {a = a} {c = c} {xs = xs} {ys = ys} k q h) =
+        gathered_join c ys ∙ both_lists (gathered f c) (gathered f ys) (gathered f a ++ []) (gathered f xs)
+        (trim_gathered k ∙ sym (no_more (gathered f a))) (trim_gathered h)
+    trim_gathered (t_left leave k e {xs = xs} {ys = ys} q h) = both_lists (gathered_of f (jump_by leave)) (gathered f ys) (f (setting g k e))
+        (gathered f xs) (jump_none leave ∙ sym (none.evaluate _)) (trim_gathered h)
     trim_gathered (t_left_if leave k e {xs = xs} {ys = ys} q l h) =
-        both_lists ((gathered_of f (jump_by leave) ++ []) ++ []) (gathered f ys) (f (setting g k e)) (gathered f xs) (no_more (gathered_of f (jump_by leave) ++ []) ∙ no_more (gathered_of f (jump_by leave)) ∙ jump_none leave ∙ sym (none.evaluate _)) (trim_gathered h)
+        both_lists ((gathered_of f (jump_by leave) ++ []) ++ []) (gathered f ys) (f (setting g k e)) (gathered f xs)
+        (no_more (gathered_of f (jump_by leave) ++ []) ∙ no_more (gathered_of f (jump_by leave)) ∙ jump_none leave ∙ sym (none.evaluate _))
+        (trim_gathered h)
     trim_gathered (t_reset {xs = xs} {ys = ys} h) = trim_gathered h ∙ sym (leads (f (reset g)) (gathered f xs) (gathered f xs) (none.evaluate _) refl)
 
     item_gathered : {b : Bool} {n : ℕ} {x y : Tree} → TrimItem g b n x y → gathered_of f y ≡ gathered_of f x
     item_gathered (i_same x) = refl
-    item_gathered (i_if t {a = a} {c = c} {d = d} {e = e} h k) = both_lists (gathered f c) (gathered f e) (gathered f a) (gathered f d) (trim_gathered h) (trim_gathered k)
+    item_gathered (i_if t {a = a} {c = c} {d = d} {e = e} h k) = both_lists (gathered f c) (gathered f e) (gathered f a) (gathered f d)
+        (trim_gathered h) (trim_gathered k)
     item_gathered (i_while t h) = trim_gathered h
     item_gathered (i_do t h) = trim_gathered h
     item_gathered (i_for first t u {a = a} {c = c} h) = ap (λ l. gathered f first ++ l) (trim_gathered h)
@@ -61,7 +68,8 @@ module _ (g : ℕ) (f : Tree → List ℕ) (none : IsOfLeaves f) where
 
     sections_gathered : {n : ℕ} {c d : Sections} → TrimSections g n c d → gathered_in f d ≡ gathered_in f c
     sections_gathered s_none = refl
-    sections_gathered (s_more cases default ends {a = a} {b = b} {c = c} {d = d} h k) = both_lists (gathered f b) (gathered_in f d) (gathered f a) (gathered_in f c) (trim_gathered h) (sections_gathered k)
+    sections_gathered (s_more cases default ends {a = a} {b = b} {c = c} {d = d} h k) =
+        both_lists (gathered f b) (gathered_in f d) (gathered f a) (gathered_in f c) (trim_gathered h) (sections_gathered k)
 
 -- ---- nested case labels
 
@@ -77,16 +85,22 @@ module _ (g : ℕ) where
   mutual
     pub trim_arrivals : {b : Bool} {n : ℕ} {a c : Forest} → Trim g b n a c → arrivals c ≡ arrivals a
     trim_arrivals t_nil = refl
-    trim_arrivals (t_then {x = x} {y = y} {xs = xs} {ys = ys} i h) = both_lists (arrivals_of y) (arrivals ys) (arrivals_of x) (arrivals xs) (item_arrivals i) (trim_arrivals h)
-    trim_arrivals (t_given e {a = a} {c = c} {xs = xs} {ys = ys} k q h) = arrivals_join c ys ∙ both_lists (arrivals c) (arrivals ys) (arrivals a ++ []) (arrivals xs) (trim_arrivals k ∙ sym (no_more (arrivals a))) (trim_arrivals h)
-    trim_arrivals (t_left leave k e {xs = xs} {ys = ys} q h) = both_lists (arrivals_of (jump_by leave)) (arrivals ys) [] (arrivals xs) (jump_arrives leave) (trim_arrivals h)
+    trim_arrivals (t_then {x = x} {y = y} {xs = xs} {ys = ys} i h) = both_lists (arrivals_of y) (arrivals ys) (arrivals_of x) (arrivals xs)
+        (item_arrivals i) (trim_arrivals h)
+    trim_arrivals (t_given e {a = a} {c = c} {xs = xs} {ys = ys} k q h) =
+        arrivals_join c ys ∙ both_lists (arrivals c) (arrivals ys) (arrivals a ++ []) (arrivals xs) (trim_arrivals k ∙ sym (no_more (arrivals a)))
+        (trim_arrivals h)
+    trim_arrivals (t_left leave k e {xs = xs} {ys = ys} q h) = both_lists (arrivals_of (jump_by leave)) (arrivals ys) [] (arrivals xs)
+        (jump_arrives leave) (trim_arrivals h)
     trim_arrivals (t_left_if leave k e {xs = xs} {ys = ys} q l h) =
-        both_lists ((arrivals_of (jump_by leave) ++ []) ++ []) (arrivals ys) [] (arrivals xs) (no_more (arrivals_of (jump_by leave) ++ []) ∙ no_more (arrivals_of (jump_by leave)) ∙ jump_arrives leave) (trim_arrivals h)
+        both_lists ((arrivals_of (jump_by leave) ++ []) ++ []) (arrivals ys) [] (arrivals xs)
+        (no_more (arrivals_of (jump_by leave) ++ []) ∙ no_more (arrivals_of (jump_by leave)) ∙ jump_arrives leave) (trim_arrivals h)
     trim_arrivals (t_reset h) = trim_arrivals h
 
     item_arrivals : {b : Bool} {n : ℕ} {x y : Tree} → TrimItem g b n x y → arrivals_of y ≡ arrivals_of x
     item_arrivals (i_same x) = refl
-    item_arrivals (i_if t {a = a} {c = c} {d = d} {e = e} h k) = both_lists (arrivals c) (arrivals e) (arrivals a) (arrivals d) (trim_arrivals h) (trim_arrivals k)
+    item_arrivals (i_if t {a = a} {c = c} {d = d} {e = e} h k) = both_lists (arrivals c) (arrivals e) (arrivals a) (arrivals d) (trim_arrivals h)
+        (trim_arrivals k)
     item_arrivals (i_while t h) = trim_arrivals h
     item_arrivals (i_do t h) = trim_arrivals h
     item_arrivals (i_for first t u h) = trim_arrivals h
@@ -97,7 +111,8 @@ module _ (g : ℕ) where
   pub sections_labels : {n : ℕ} {c d : Sections} → TrimSections g n c d → switch_labels d ≡ switch_labels c
   sections_labels s_none = refl
   sections_labels (s_more cases default ends {a = a} {b = b} {c = c} {d = d} h k) =
-      ap (λ l. section_labels cases default ++ l) (both_lists (arrivals b) (switch_labels d) (arrivals a) (switch_labels c) (trim_arrivals h) (sections_labels k))
+      ap (λ l. section_labels cases default ++ l) (both_lists (arrivals b) (switch_labels d) (arrivals a) (switch_labels c) (trim_arrivals h)
+      (sections_labels k))
 
   pub sections_cases : {n : ℕ} {c d : Sections} → TrimSections g n c d → all_cases d ≡ all_cases c
   sections_cases s_none = refl
@@ -139,7 +154,8 @@ module _ (g : ℕ) where
     pub trim_continues : {b : Bool} {n : ℕ} {a c : Forest} → b ≡ false → Trim g b n a c → continues c ≡ continues a
     trim_continues z t_nil = refl
     trim_continues z (t_then i h) = let j = item_continues z i in let k = trim_continues z h in omega (arith, j, k)
-    trim_continues z (t_given e {c = c} {ys = ys} k q h) = let j = continues_join c ys in let l = trim_continues z k in let m = trim_continues z h in omega (arith, j, l, m)
+    trim_continues z (t_given e {c = c} {ys = ys} k q h) = let j = continues_join c ys in let l = trim_continues z k in let m = trim_continues z h in
+        omega (arith, j, l, m)
     trim_continues z (t_left leave k e q h) = no_jump (sym z ∙ q)
     trim_continues z (t_left_if leave k e q l h) = no_jump (sym z ∙ q)
     trim_continues z (t_reset h) = let k = trim_continues z h in omega (arith, k)
@@ -177,7 +193,9 @@ module _ (g : ℕ) where
     -- a list at this level
     pub trim_depth : {b : Bool} {n : ℕ} {a c : Forest} → Trim g b n a c → n ≤ 400 → n + depth a ≤ 400 → n + depth c ≤ 400
     trim_depth t_nil l m = m
-    trim_depth {n = n} (t_then {x = x} {y = y} {xs = xs} {ys = ys} i h) l m = let j = item_depth i l (omega (arith, m)) in let k = trim_depth h l (omega (arith, m)) in omega (arith, j, k)
+    trim_depth {n = n} (t_then {x = x} {y = y} {xs = xs} {ys = ys} i h) l m = let j = item_depth i l (omega (arith, m)) in let k =
+        trim_depth h l
+        (omega (arith, m)) in omega (arith, j, k)
     trim_depth {n = n} (t_given e {a = a} {c = c} {xs = xs} {ys = ys} k q h) l m =
         let i : suc n + depth a ≤ 400 = omega (arith, m) in
         let j = trim_depth k (omega (arith, i)) i in
@@ -196,13 +214,22 @@ module _ (g : ℕ) where
         let o : suc n + depth d ≤ 400 = omega (arith, m, p) in
         let j = trim_depth h (omega (arith, i)) i in
         let r = trim_depth k (omega (arith, i)) o in omega (arith, j, r, q)
-    item_depth {n = n} (i_while {a = a} t h) l m = let i : suc n + depth a ≤ 400 = omega (arith, m) in let j = trim_depth h (omega (arith, i)) i in omega (arith, j)
-    item_depth {n = n} (i_do {a = a} t h) l m = let i : suc n + depth a ≤ 400 = omega (arith, m) in let j = trim_depth h (omega (arith, i)) i in omega (arith, j)
-    item_depth {n = n} (i_for first t u {a = a} h) l m = let i : suc n + depth a ≤ 400 = omega (arith, m) in let j = trim_depth h (omega (arith, i)) i in omega (arith, j)
-    item_depth {n = n} (i_switch s {c = c} h) l m = let i : suc n + depth_in c ≤ 400 = omega (arith, m) in let j = sections_depth h (omega (arith, i)) i in omega (arith, j)
-    item_depth {n = n} (i_block {a = a} h) l m = let i : suc n + depth a ≤ 400 = omega (arith, m) in let j = trim_depth h (omega (arith, i)) i in omega (arith, j)
-    item_depth {n = n} (i_checked e {a = a} h) l m = let i : suc n + depth a ≤ 400 = omega (arith, m) in let j = trim_depth h (omega (arith, i)) i in omega (arith, j)
+    item_depth {n = n} (i_while {a = a} t h) l m = let i : suc n + depth a ≤ 400 = omega (arith, m) in let j = trim_depth h (omega (arith, i)) i in
+        omega (arith, j)
+    item_depth {n = n} (i_do {a = a} t h) l m = let i : suc n + depth a ≤ 400 = omega (arith, m) in let j = trim_depth h (omega (arith, i)) i in
+        omega (arith, j)
+    item_depth {n = n} (i_for first t u {a = a} h) l m = let i : suc n + depth a ≤ 400 = omega (arith, m) in let j =
+        trim_depth h (omega (arith, i))
+        i in omega (arith, j)
+    item_depth {n = n} (i_switch s {c = c} h) l m = let i : suc n + depth_in c ≤ 400 = omega (arith, m) in let j =
+        sections_depth h (omega (arith, i))
+        i in omega (arith, j)
+    item_depth {n = n} (i_block {a = a} h) l m = let i : suc n + depth a ≤ 400 = omega (arith, m) in let j = trim_depth h (omega (arith, i)) i in
+        omega (arith, j)
+    item_depth {n = n} (i_checked e {a = a} h) l m = let i : suc n + depth a ≤ 400 = omega (arith, m) in let j = trim_depth h (omega (arith, i)) i in
+        omega (arith, j)
 
     sections_depth : {n : ℕ} {c d : Sections} → TrimSections g n c d → n ≤ 400 → n + depth_in c ≤ 400 → n + depth_in d ≤ 400
     sections_depth s_none l m = m
-    sections_depth (s_more cases default ends h k) l m = let i = trim_depth h l (omega (arith, m)) in let j = sections_depth k l (omega (arith, m)) in omega (arith, i, j)
+    sections_depth (s_more cases default ends h k) l m = let i = trim_depth h l (omega (arith, m)) in let j = sections_depth k l (omega (arith, m)) in
+        omega (arith, i, j)

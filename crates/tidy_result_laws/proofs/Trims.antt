@@ -32,9 +32,11 @@ module _ (g : ℕ) where
       t_nil : {b : Bool} {n : ℕ} → Trim b n Nil Nil
       t_then : {b : Bool} {n : ℕ} {x y : Tree} {xs ys : Forest} → TrimItem b n x y → Trim b n xs ys → Trim b n (Then x xs) (Then y ys)
       -- a check gives way to its list
-      t_given : {b : Bool} {n : ℕ} (e : ExpressionTree) {a c xs ys : Forest} → Trim b (suc n) a c → has_local c ≡ false → Trim b n xs ys → Trim b n (Then (If (Source e) a Nil) xs) (join c ys)
+      t_given : {b : Bool} {n : ℕ} (e : ExpressionTree) {a c xs ys : Forest} → Trim b (suc n) a c → has_local c ≡ false → Trim b n xs ys →
+          Trim b n (Then (If (Source e) a Nil) xs) (join c ys)
       -- a set becomes a jump, or an `if` with it
-      t_left : {b : Bool} {n : ℕ} (leave : Bool) (k : Option IntKind) (e : ExpressionTree) {xs ys : Forest} → b ≡ true → Trim b n xs ys → Trim b n (Then (setting k e) xs) (Then (jump_by leave) ys)
+      t_left : {b : Bool} {n : ℕ} (leave : Bool) (k : Option IntKind) (e : ExpressionTree) {xs ys : Forest} → b ≡ true → Trim b n xs ys →
+          Trim b n (Then (setting k e) xs) (Then (jump_by leave) ys)
       t_left_if : {b : Bool} {n : ℕ} (leave : Bool) (k : Option IntKind) (e : ExpressionTree) {xs ys : Forest} → b ≡ true → n ≤ 399 → Trim b n xs ys
           → Trim b n (Then (setting k e) xs) (Then (If (Source e) (one (jump_by leave)) Nil) ys)
       -- `g = 0;` goes
@@ -55,7 +57,8 @@ module _ (g : ℕ) where
     -- sections, whose lists stand at this level
     pub data TrimSections : ℕ → Sections → Sections → Type 0 where
       s_none : {n : ℕ} → TrimSections n NoSection NoSection
-      s_more : {n : ℕ} (cases : List ExpressionTree) (default ends : Bool) {a b : Forest} {c d : Sections} → Trim false n a b → TrimSections n c d → TrimSections n (Section cases default a ends c) (Section cases default b ends d)
+      s_more : {n : ℕ} (cases : List ExpressionTree) (default ends : Bool) {a b : Forest} {c d : Sections} → Trim false n a b → TrimSections n c d →
+          TrimSections n (Section cases default a ends c) (Section cases default b ends d)
 
   -- ---- what stays
 
@@ -69,7 +72,8 @@ module _ (g : ℕ) where
 
   -- ---- checks
 
-  check_trim : {b : Bool} {n : ℕ} (e : ExpressionTree) {a c xs ys : Forest} → Trim b (suc n) a c → (y : Bool) → Trim b n xs ys → Trim b n (Then (If (Source e) a Nil) xs) (join (unchecked y (Source e) c Nil) ys)
+  check_trim : {b : Bool} {n : ℕ} (e : ExpressionTree) {a c xs ys : Forest} → Trim b (suc n) a c → (y : Bool) → Trim b n xs ys →
+      Trim b n (Then (If (Source e) a Nil) xs) (join (unchecked y (Source e) c Nil) ys)
   check_trim {b} {n} e {a} {c} {xs} {ys} k true h = at (has_local c) refl
     where
       at : (z : Bool) → has_local c ≡ z → Trim b n (Then (If (Source e) a Nil) xs) (join (cond z (one (Block c)) c) ys)
@@ -118,7 +122,11 @@ module _ (g : ℕ) where
   set_is (Typed k (Assign (Var (H.Slot x)) w)) v h = at (eqb x g && (is_narrow_expression w && lacks g w)) refl h
     where
       at : (y : Bool) → (eqb x g && (is_narrow_expression w && lacks g w)) ≡ y → cond y (Some w) None ≡ Some v → Sets (Typed k (Assign (Var (H.Slot x)) w)) v
-      at true q i = record { kind = k; is = ap (λ z. Typed k (Assign (Var (H.Slot z)) w)) (eqb-true x g (both (eqb x g) (is_narrow_expression w && lacks g w) q).0) ∙ ap (λ z. Typed k (Assign (Var (H.Slot g)) z)) (some_same i) }
+      at true q i = record {
+        kind = k;
+        is = ap (λ z. Typed k (Assign (Var (H.Slot z)) w))
+            (eqb-true x g (both (eqb x g) (is_narrow_expression w && lacks g w) q).0) ∙ ap (λ z. Typed k (Assign (Var (H.Slot g)) z)) (some_same i);
+      }
       at false q i = absurd (none_some i)
   set_is e v h = absurd (none_some h)
 
@@ -126,11 +134,14 @@ module _ (g : ℕ) where
   low_or true n e h = cc
   low_or false n e h = grind (arith, nat_tests)
 
-  set_trim : {n : ℕ} (leave : Bool) (e : ExpressionTree) {xs ys : Forest} → (o : Option ExpressionTree) → set_value g e ≡ o → low_set n o ≡ true → Trim true n xs ys → Trim true n (Then (Evaluate e) xs) (Then (set_or (jump_by leave) e o) ys)
+  set_trim : {n : ℕ} (leave : Bool) (e : ExpressionTree) {xs ys : Forest} → (o : Option ExpressionTree) → set_value g e ≡ o → low_set n o ≡ true →
+      Trim true n xs ys → Trim true n (Then (Evaluate e) xs) (Then (set_or (jump_by leave) e o) ys)
   set_trim leave e None q l h = t_then (i_same (Evaluate e)) h
-  set_trim {n} leave e {xs} {ys} (Some v) q l h = let s = set_is e v q in subst (λ z. Trim true n (Then (Evaluate z) xs) (Then (leaving (jump_by leave) v) ys)) (sym s.is) (at s.kind (is_number 1 v) refl)
+  set_trim {n} leave e {xs} {ys} (Some v) q l h = let s = set_is e v q in
+      subst (λ z. Trim true n (Then (Evaluate z) xs) (Then (leaving (jump_by leave) v) ys)) (sym s.is) (at s.kind (is_number 1 v) refl)
     where
-      at : (k : Option IntKind) (y : Bool) → is_number 1 v ≡ y → Trim true n (Then (setting k v) xs) (Then (cond y (jump_by leave) (If (Source v) (one (jump_by leave)) Nil)) ys)
+      at : (k : Option IntKind) (y : Bool) → is_number 1 v ≡ y → Trim true n (Then (setting k v) xs)
+          (Then (cond y (jump_by leave) (If (Source v) (one (jump_by leave)) Nil)) ys)
       at k true i = t_left leave k v refl h
       at k false i = t_left_if leave k v refl (low_or (is_number 1 v) n i l) h
 
@@ -139,11 +150,13 @@ module _ (g : ℕ) where
     tail_trim leave Nil l = t_nil
     tail_trim {n} leave (Then x xs) l = let i = both (is_low g n x) (are_low g n xs) l in tail_then leave (is_end g xs) x i.0 (tail_trim leave xs i.1)
 
-    tail_then : {n : ℕ} (leave y : Bool) (x : Tree) {xs ys : Forest} → is_low g n x ≡ true → Trim true n xs ys → Trim true n (Then x xs) (join (cond y (tailed_item g (jump_by leave) x) (inner_item g x)) ys)
+    tail_then : {n : ℕ} (leave y : Bool) (x : Tree) {xs ys : Forest} → is_low g n x ≡ true → Trim true n xs ys →
+        Trim true n (Then x xs) (join (cond y (tailed_item g (jump_by leave) x) (inner_item g x)) ys)
     tail_then leave false x l h = inner_then x h
     tail_then leave true (Evaluate e) l h = set_trim leave e (set_value g e) refl l h
     tail_then {n} leave true (If (Source e) a Nil) l h = check_trim e (tail_trim leave a (both (are_low g (suc n) a) true l).0) (is_off g e) h
-    tail_then {n} leave true (If t a d) l h = let i = both (are_low g (suc n) a) (are_low g (suc n) d) l in t_then (i_if t (tail_trim leave a i.0) (tail_trim leave d i.1)) h
+    tail_then {n} leave true (If t a d) l h = let i = both (are_low g (suc n) a) (are_low g (suc n) d) l in
+        t_then (i_if t (tail_trim leave a i.0) (tail_trim leave d i.1)) h
     tail_then leave true x l h = inner_then x h
 
   -- ---- `g = 0;` at the end of a list

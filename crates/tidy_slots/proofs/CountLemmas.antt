@@ -42,7 +42,8 @@ mutual
   none_node g (Unary op a) = none_expression g a
   none_node g (Cast a) = none_expression g a
   none_node g (Binary op a b) = two (lacks g a) (lacks g b) (expression_count g a) (expression_count g b) (none_expression g a) (none_expression g b)
-  none_node g (Conditional a b c) = three (lacks g a) (lacks g b) (lacks g c) (expression_count g a) (expression_count g b) (expression_count g c) (none_expression g a) (none_expression g b) (none_expression g c)
+  none_node g (Conditional a b c) = three (lacks g a) (lacks g b) (lacks g c) (expression_count g a) (expression_count g b) (expression_count g c)
+      (none_expression g a) (none_expression g b) (none_expression g c)
   none_node g (Assign p a) = two (place_lacks g p) (lacks g a) (place_count g p) (expression_count g a) (none_place g p) (none_expression g a)
   none_node g (Update op p a) = two (place_lacks g p) (lacks g a) (place_count g p) (expression_count g a) (none_place g p) (none_expression g a)
   none_node g (Count p up after) = none_place g p
@@ -52,7 +53,8 @@ mutual
 
   none_arguments : (g : ℕ) (xs : Arguments) → arguments_lack g xs ≡ eqb (arguments_count g xs) 0
   none_arguments g NoArgument = refl
-  none_arguments g (Argument x xs) = two (lacks g x) (arguments_lack g xs) (expression_count g x) (arguments_count g xs) (none_expression g x) (none_arguments g xs)
+  none_arguments g (Argument x xs) = two (lacks g x) (arguments_lack g xs) (expression_count g x) (arguments_count g xs) (none_expression g x)
+      (none_arguments g xs)
 
 none_test : (g : ℕ) (t : TestTree) → test_lacks g t ≡ eqb (test_count g t) 0
 none_test g (Source e) = none_expression g e
@@ -82,12 +84,15 @@ mutual
   none_list g (Then x xs) = two (item_lacks g x) (list_lacks g xs) (item_count g x) (list_count g xs) (none_item g x) (none_list g xs)
 
   none_item : (g : ℕ) (x : Tree) → item_lacks g x ≡ eqb (item_count g x) 0
-  none_item g (If t a b) = three (test_lacks g t) (list_lacks g a) (list_lacks g b) (test_count g t) (list_count g a) (list_count g b) (none_test g t) (none_list g a) (none_list g b)
+  none_item g (If t a b) = three (test_lacks g t) (list_lacks g a) (list_lacks g b) (test_count g t) (list_count g a) (list_count g b) (none_test g t)
+      (none_list g a) (none_list g b)
   none_item g (While t a) = two (test_lacks g t) (list_lacks g a) (test_count g t) (list_count g a) (none_test g t) (none_list g a)
   none_item g (Do a t) = two (list_lacks g a) (test_lacks g t) (list_count g a) (test_count g t) (none_list g a) (none_test g t)
   none_item g (For f t u a) =
-      two (list_lacks g f) (option_lacks g t && (option_lacks g u && list_lacks g a)) (list_count g f) (option_count g t + (option_count g u + list_count g a)) (none_list g f)
-      (three (option_lacks g t) (option_lacks g u) (list_lacks g a) (option_count g t) (option_count g u) (list_count g a) (none_option g t) (none_option g u) (none_list g a))
+      two (list_lacks g f) (option_lacks g t && (option_lacks g u && list_lacks g a)) (list_count g f)
+      (option_count g t + (option_count g u + list_count g a)) (none_list g f)
+      (three (option_lacks g t) (option_lacks g u) (list_lacks g a) (option_count g t) (option_count g u) (list_count g a) (none_option g t)
+      (none_option g u) (none_list g a))
   none_item g (Switch s c) = two (selector_lacks g s) (sections_lack g c) (selector_count g s) (sections_count g c) (none_selector g s) (none_sections g c)
   none_item g (Block a) = none_list g a
   none_item g (Evaluate e) = none_expression g e
@@ -98,7 +103,8 @@ mutual
 
   none_sections : (g : ℕ) (c : Sections) → sections_lack g c ≡ eqb (sections_count g c) 0
   none_sections g NoSection = refl
-  none_sections g (Section cases default a ends c) = two (list_lacks g a) (sections_lack g c) (list_count g a) (sections_count g c) (none_list g a) (none_sections g c)
+  none_sections g (Section cases default a ends c) = two (list_lacks g a) (sections_lack g c) (list_count g a) (sections_count g c) (none_list g a)
+      (none_sections g c)
 
 pub expression_none : (g : ℕ) (e : ExpressionTree) → lacks g e ≡ eqb (expression_count g e) 0
 expression_none = none_expression

@@ -43,10 +43,12 @@ module _ (g : ℕ → ℕ) where
   SameSelector s r = selector_tree r ≡ renamed_selector g (selector_tree s)
 
   pub selects-Source : (s : S.Selector) (a b : Expression) → s ≡ S.Source a → expression_tree b ≡ renamed g (expression_tree a) → SameSelector s (S.Source b)
-  selects-Source s a b e h = selector-Source b ∙ ap P.Selects h ∙ sym (ap (λ s. renamed_selector g (selector_tree s)) e ∙ ap (renamed_selector g) (selector-Source a))
+  selects-Source s a b e h = selector-Source b ∙ ap P.Selects h ∙ sym
+      (ap (λ s. renamed_selector g (selector_tree s)) e ∙ ap (renamed_selector g) (selector-Source a))
 
   pub selects-Pick : (s : S.Selector) (l : ℕ) (z y : ℤ) (r q : S.Selector) → s ≡ S.Pick l z r → y ≡ z → SameSelector r q → SameSelector s (S.Pick l y q)
-  selects-Pick s l z y r q e i h = selector-Pick l y q ∙ ap₂ (P.Pick l) i h ∙ sym (ap (λ s. renamed_selector g (selector_tree s)) e ∙ ap (renamed_selector g) (selector-Pick l z r))
+  selects-Pick s l z y r q e i h = selector-Pick l y q ∙ ap₂ (P.Pick l) i h ∙
+      sym (ap (λ s. renamed_selector g (selector_tree s)) e ∙ ap (renamed_selector g) (selector-Pick l z r))
 
 -- ---- lists
 
@@ -54,7 +56,8 @@ module _ (g : ℕ → ℕ) where
   abbrev pub SameItem : Item → Item → Type 0
   SameItem x y = tree_at y ≡ renamed_item g (tree_at x)
 
-  pub items_same : (xs ys : List Item) → length ys ≡ length xs → ((k : ℕ) (d : Item) → k < length ys → SameItem (get_or xs k d) (get_or ys k d)) → trees_of ys ≡ renamed_list g (trees_of xs)
+  pub items_same : (xs ys : List Item) → length ys ≡ length xs → ((k : ℕ) (d : Item) → k < length ys → SameItem (get_or xs k d) (get_or ys k d)) →
+      trees_of ys ≡ renamed_list g (trees_of xs)
   items_same [] [] e h = trees-none ∙ sym (ap (renamed_list g) trees-none)
   items_same [] (y ∷ ys) e h = absurd (omega (arith, e))
   items_same (x ∷ xs) [] e h = absurd (omega (arith, e))
@@ -69,10 +72,12 @@ module _ (g : ℕ → ℕ) where
   section_same s t d h =
       let o = Real.out-Section s in
       ap (λ c. before c (renamed_sections g d)) h.1
-      ∙ ap (λ o. Section (expression_trees o.cases) o.default (trees_of o.list) o.ends (renamed_sections g d)) (Real.out-roll-Section (record { cases = o.cases; default = o.default; list = list_of t; ends = o.ends }))
+      ∙ ap (λ o. Section (expression_trees o.cases) o.default (trees_of o.list) o.ends (renamed_sections g d))
+      (Real.out-roll-Section (record { cases = o.cases; default = o.default; list = list_of t; ends = o.ends }))
       ∙ ap (λ a. Section (expression_trees o.cases) o.default a o.ends (renamed_sections g d)) h.0
 
-  pub sections_same : (xs ys : List Real.Section) → length ys ≡ length xs → ((k : ℕ) (d : Real.Section) → k < length ys → SameSection (get_or xs k d) (get_or ys k d)) → sections_of ys ≡ renamed_sections g (sections_of xs)
+  pub sections_same : (xs ys : List Real.Section) → length ys ≡ length xs →
+      ((k : ℕ) (d : Real.Section) → k < length ys → SameSection (get_or xs k d) (get_or ys k d)) → sections_of ys ≡ renamed_sections g (sections_of xs)
   sections_same [] [] e h = sections-none ∙ sym (ap (renamed_sections g) sections-none)
   sections_same [] (y ∷ ys) e h = absurd (omega (arith, e))
   sections_same (x ∷ xs) [] e h = absurd (omega (arith, e))

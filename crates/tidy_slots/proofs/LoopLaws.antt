@@ -22,12 +22,15 @@ same_entry [] i d e h = absurd (omega (arith, h))
 same_entry (x ∷ xs) zero d e h = refl
 same_entry (x ∷ xs) (suc i) d e h = let k : i < length xs = omega (arith, h) in same_entry xs i d e k
 
-set_at : {A : Type 0} (R : A → A → Type 0) (i k : ℕ) (old new : List A) (y d : A) → (k ≡ i) ⊎ (k < i) → i < length new → R (get_or old i d) y → (k < i → R (get_or old k d) (get_or new k d)) → R (get_or old k d) (get_or (slice_set new i y) k d)
-set_at R i k old new y d (inl e) l r p = subst (λ j. R (get_or old j d) (get_or (slice_set new i y) j d)) (sym e) (subst (R (get_or old i d)) (sym (get_or-set_same new i y d l)) r)
+set_at : {A : Type 0} (R : A → A → Type 0) (i k : ℕ) (old new : List A) (y d : A) → (k ≡ i) ⊎ (k < i) → i < length new → R (get_or old i d) y →
+    (k < i → R (get_or old k d) (get_or new k d)) → R (get_or old k d) (get_or (slice_set new i y) k d)
+set_at R i k old new y d (inl e) l r p = subst (λ j. R (get_or old j d) (get_or (slice_set new i y) j d)) (sym e)
+    (subst (R (get_or old i d)) (sym (get_or-set_same new i y d l)) r)
 set_at R i k old new y d (inr m) l r p = let n : k ≢ i = omega (arith, m) in subst (R (get_or old k d)) (sym (get_or-set_other new i k y d n)) (p m)
 
 -- one more of them
-pub more_done : {A : Type 0} (R : A → A → Type 0) (i j : ℕ) (old new : List A) (x y : A) → j ≡ suc i → i < length new → x ≡ get_or new i x → ((d : A) → get_or new i d ≡ get_or old i d) → R x y → DoneTo R i old new → DoneTo R j old (slice_set new i y)
+pub more_done : {A : Type 0} (R : A → A → Type 0) (i j : ℕ) (old new : List A) (x y : A) → j ≡ suc i → i < length new → x ≡ get_or new i x →
+    ((d : A) → get_or new i d ≡ get_or old i d) → R x y → DoneTo R i old new → DoneTo R j old (slice_set new i y)
 more_done R i j old new x y e l h u r d = (
   length-set new i y ∙ d.0,
   λ k z m. let n : k ≤ i = omega (arith, m, e) in
@@ -35,5 +38,6 @@ more_done R i j old new x y e l h u r d = (
 )
 
 -- all of them
-pub all_done : {A : Type 0} (R : A → A → Type 0) (i : ℕ) (old new : List A) → length new ≤ i → DoneTo R i old new → (k : ℕ) (d : A) → k < length new → R (get_or old k d) (get_or new k d)
+pub all_done : {A : Type 0} (R : A → A → Type 0) (i : ℕ) (old new : List A) → length new ≤ i → DoneTo R i old new → (k : ℕ) (d : A) → k < length new →
+    R (get_or old k d) (get_or new k d)
 all_done R i old new h p k d l = p.1 k d (omega (arith, h, l))

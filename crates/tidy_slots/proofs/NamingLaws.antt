@@ -48,16 +48,20 @@ module _ (g : ℕ) where
   pub in-Cast : (n : Node) (a : Expression) → n ≡ Cast a → node_lacks g (node_tree n) ≡ lacks g (expression_tree a)
   in-Cast n a e = ap (λ n. node_lacks g (node_tree n)) e ∙ ap (node_lacks g) (node-Cast a)
 
-  pub in-Binary : (n : Node) (op : BinaryOp) (a b : Expression) → n ≡ Binary op a b → node_lacks g (node_tree n) ≡ (lacks g (expression_tree a) && lacks g (expression_tree b))
+  pub in-Binary : (n : Node) (op : BinaryOp) (a b : Expression) → n ≡ Binary op a b →
+      node_lacks g (node_tree n) ≡ (lacks g (expression_tree a) && lacks g (expression_tree b))
   in-Binary n op a b e = ap (λ n. node_lacks g (node_tree n)) e ∙ ap (node_lacks g) (node-Binary op a b)
 
-  pub in-Conditional : (n : Node) (a b c : Expression) → n ≡ Conditional a b c → node_lacks g (node_tree n) ≡ (lacks g (expression_tree a) && (lacks g (expression_tree b) && lacks g (expression_tree c)))
+  pub in-Conditional : (n : Node) (a b c : Expression) → n ≡ Conditional a b c →
+      node_lacks g (node_tree n) ≡ (lacks g (expression_tree a) && (lacks g (expression_tree b) && lacks g (expression_tree c)))
   in-Conditional n a b c e = ap (λ n. node_lacks g (node_tree n)) e ∙ ap (node_lacks g) (node-Conditional a b c)
 
-  pub in-Assign : (n : Node) (p : Place) (a : Expression) → n ≡ Assign p a → node_lacks g (node_tree n) ≡ (place_lacks g (place_tree p) && lacks g (expression_tree a))
+  pub in-Assign : (n : Node) (p : Place) (a : Expression) → n ≡ Assign p a →
+      node_lacks g (node_tree n) ≡ (place_lacks g (place_tree p) && lacks g (expression_tree a))
   in-Assign n p a e = ap (λ n. node_lacks g (node_tree n)) e ∙ ap (node_lacks g) (node-Assign p a)
 
-  pub in-Update : (n : Node) (op : ArithOp) (p : Place) (a : Expression) → n ≡ Update op p a → node_lacks g (node_tree n) ≡ (place_lacks g (place_tree p) && lacks g (expression_tree a))
+  pub in-Update : (n : Node) (op : ArithOp) (p : Place) (a : Expression) → n ≡ Update op p a →
+      node_lacks g (node_tree n) ≡ (place_lacks g (place_tree p) && lacks g (expression_tree a))
   in-Update n op p a e = ap (λ n. node_lacks g (node_tree n)) e ∙ ap (node_lacks g) (node-Update op p a)
 
   pub in-Count : (n : Node) (p : Place) (up after : Bool) → n ≡ Count p up after → node_lacks g (node_tree n) ≡ place_lacks g (place_tree p)
@@ -66,7 +70,8 @@ module _ (g : ℕ) where
   pub in-Comma : (n : Node) (a b : Expression) → n ≡ Comma a b → node_lacks g (node_tree n) ≡ (lacks g (expression_tree a) && lacks g (expression_tree b))
   in-Comma n a b e = ap (λ n. node_lacks g (node_tree n)) e ∙ ap (node_lacks g) (node-Comma a b)
 
-  pub in-Call : (n : Node) (m : List ℕ) (xs : List Expression) → n ≡ Call m xs → node_lacks g (node_tree n) ≡ arguments_lack g (arguments (map expression_tree xs))
+  pub in-Call : (n : Node) (m : List ℕ) (xs : List Expression) → n ≡ Call m xs →
+      node_lacks g (node_tree n) ≡ arguments_lack g (arguments (map expression_tree xs))
   in-Call n m xs e = ap (λ n. node_lacks g (node_tree n)) e ∙ ap (node_lacks g) (node-Call m xs)
 
   -- ---- lists of expressions
@@ -82,10 +87,12 @@ module _ (Q : Expression → Bool) (P : List Expression → Bool) (step : (x : E
   at_place : (xs : List Expression) (i : ℕ) (x : Expression) → i < length xs → x ≡ get_or xs i x → P (drop i xs) ≡ (Q x || P (drop (i + 1) xs))
   at_place xs i x h e = at_drop_more P xs i x h ∙ step (get_or xs i x) (drop (i + 1) xs) ∙ ap (λ y. Q y || P (drop (i + 1) xs)) (sym e)
 
-  pub found_named : (xs : List Expression) (i : ℕ) (x : Expression) → i < length xs → x ≡ get_or xs i x → P xs ≡ P (drop i xs) → (b : Bool) → b ≡ Q x → b ≡ true → true ≡ P xs
+  pub found_named : (xs : List Expression) (i : ℕ) (x : Expression) → i < length xs → x ≡ get_or xs i x → P xs ≡ P (drop i xs) → (b : Bool) →
+      b ≡ Q x → b ≡ true → true ≡ P xs
   found_named xs i x h e inv b q t = sym (inv ∙ at_place xs i x h e ∙ ap (λ y. y || P (drop (i + 1) xs)) (sym q ∙ t))
 
-  pub passed_named : (xs : List Expression) (i : ℕ) (x : Expression) → i < length xs → x ≡ get_or xs i x → P xs ≡ P (drop i xs) → (b : Bool) → b ≡ Q x → b ≡ false → P xs ≡ P (drop (i + 1) xs)
+  pub passed_named : (xs : List Expression) (i : ℕ) (x : Expression) → i < length xs → x ≡ get_or xs i x → P xs ≡ P (drop i xs) → (b : Bool) →
+      b ≡ Q x → b ≡ false → P xs ≡ P (drop (i + 1) xs)
   passed_named xs i x h e inv b q t = inv ∙ at_place xs i x h e ∙ ap (λ y. y || P (drop (i + 1) xs)) (sym q ∙ t)
 
   pub none_named : P [] ≡ false → (xs : List Expression) (i : ℕ) → length xs ≤ i → P xs ≡ P (drop i xs) → false ≡ P xs

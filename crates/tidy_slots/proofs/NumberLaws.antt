@@ -67,7 +67,8 @@ zero_before (b ∷ gone) = refl
 pub none_counted : (gone : List Bool) (before : List ℕ) → before ≡ [] → CountedTo gone 0 before 0
 none_counted gone before e = record { as_long = ap length e; in_all = sym (zero_before gone); each = λ x h. absurd (omega (arith, h)) }
 
-pub one_counted : (gone : List Bool) (i j : ℕ) (before next : List ℕ) (total sum : ℕ) (b : Bool) → j ≡ suc i → next ≡ before ++ total ∷ [] → b ≡ get_or gone i false → sum ≡ total + cond b 1 0 → CountedTo gone i before total → CountedTo gone j next sum
+pub one_counted : (gone : List Bool) (i j : ℕ) (before next : List ℕ) (total sum : ℕ) (b : Bool) → j ≡ suc i → next ≡ before ++ total ∷ [] →
+    b ≡ get_or gone i false → sum ≡ total + cond b 1 0 → CountedTo gone i before total → CountedTo gone j next sum
 one_counted gone i j before next total sum b q e h k c = record {
   as_long = ap length e ∙ pushed_long before total ∙ ap suc c.as_long ∙ sym q;
   in_all = k ∙ ap (λ z. total + cond z 1 0) h ∙ ap (λ n. n + cond (get_or gone i false) 1 0) c.in_all ∙ sym (ap (gone_before gone) q ∙ gone_next gone i);
@@ -110,14 +111,16 @@ pub none_taken : (gone : List Bool) (old : List Slot) (i : ℕ) → i ≡ length
 none_taken gone old i e h =
     let k : length old ≤ i = omega (arith, e, h) in
     let l : length gone ≤ i = omega (arith, e) in
-    sym (ap (λ z. take i old ++ left z (drop i old)) (drop_all i gone l) ∙ ap (λ z. take i old ++ z) (drop_all i old k) ∙ append-nil (take i old) ∙ take_all i old k)
+    sym (ap (λ z. take i old ++ left z (drop i old)) (drop_all i gone l) ∙ ap (λ z. take i old ++ z) (drop_all i old k) ∙ append-nil (take i old) ∙
+    take_all i old k)
 
 taken_at : (b : Bool) (s : Slot) (r w : List Slot) → cond b (s ∷ r) (s ∷ w) ≡ s ∷ cond b r w
 taken_at true s r w = refl
 taken_at false s r w = refl
 
 taken : (gone : List Bool) (old : List Slot) (i : ℕ) → i < length gone → length gone ≡ length old
-    → cond (get_or gone i false) (remove (take (suc i) old ++ left (drop (suc i) gone) (drop (suc i) old)) i) (take (suc i) old ++ left (drop (suc i) gone) (drop (suc i) old))
+    → cond (get_or gone i false) (remove (take (suc i) old ++ left (drop (suc i) gone) (drop (suc i) old)) i)
+    (take (suc i) old ++ left (drop (suc i) gone) (drop (suc i) old))
     ≡ take i old ++ left (drop i gone) (drop i old)
 taken [] old i h e = absurd (omega (arith, h))
 taken (b ∷ gone) [] i h e = absurd (omega (arith, e))
@@ -127,7 +130,8 @@ taken (b ∷ gone) (s ∷ old) (suc i) h e =
     let w = take (suc i) old ++ left (drop (suc i) gone) (drop (suc i) old) in
     taken_at (get_or gone i false) s (remove w i) w ∙ ap (λ z. s ∷ z) (taken gone old i (omega (arith, h)) (omega (arith, e)))
 
-pub one_taken : (gone : List Bool) (old new next : List Slot) (i j : ℕ) (b : Bool) → j ≡ suc i → i < length gone → length gone ≡ length old → b ≡ get_or gone i false → next ≡ cond b (remove new i) new → LeftFrom gone old j new → LeftFrom gone old i next
+pub one_taken : (gone : List Bool) (old new next : List Slot) (i j : ℕ) (b : Bool) → j ≡ suc i → i < length gone → length gone ≡ length old →
+    b ≡ get_or gone i false → next ≡ cond b (remove new i) new → LeftFrom gone old j new → LeftFrom gone old i next
 one_taken gone old new next i j b q h e k n l =
     let m = l ∙ ap (λ z. take z old ++ left (drop z gone) (drop z old)) q in
     n ∙ ap (λ z. cond z (remove new i) new) k ∙ ap (λ z. cond (get_or gone i false) (remove z i) z) m ∙ taken gone old i h e

@@ -24,7 +24,8 @@ module _ (g : ℕ → ℕ) where
   abbrev pub SameNode : Node → Node → Type 0
   SameNode n m = node_tree m ≡ renamed_node g (node_tree n)
 
-  pub whole : (e : Expression) (k : Option IntKind) (m : Node) → (out-Expression e).kind ≡ k → SameNode (out-Expression e).node m → Same e (roll-Expression (record { kind = k; node = m }))
+  pub whole : (e : Expression) (k : Option IntKind) (m : Node) → (out-Expression e).kind ≡ k → SameNode (out-Expression e).node m →
+      Same e (roll-Expression (record { kind = k; node = m }))
   whole e k m h i =
       expression-parts (roll-Expression (record { kind = k; node = m }))
       ∙ ap (λ o. Typed o.kind (node_tree o.node)) (out-roll-Expression (record { kind = k; node = m }))
@@ -74,7 +75,8 @@ module _ (g : ℕ → ℕ) where
 
   pub in-Conditional : (n : Node) (a b c x y z : Expression) → n ≡ Conditional a b c → Same a x → Same b y → Same c z → SameNode n (Conditional x y z)
   in-Conditional n a b c x y z e i j k =
-      node-Conditional x y z ∙ ap (λ t. Plain.Conditional t (expression_tree y) (expression_tree z)) i ∙ ap₂ (Plain.Conditional (renamed g (expression_tree a))) j k
+      node-Conditional x y z ∙ ap (λ t. Plain.Conditional t (expression_tree y) (expression_tree z)) i ∙
+      ap₂ (Plain.Conditional (renamed g (expression_tree a))) j k
       ∙ sym (by_form n (Conditional a b c) _ e (node-Conditional a b c))
 
   pub in-Assign : (n : Node) (p q : Place) (a b : Expression) → n ≡ Assign p a → SamePlace p q → Same a b → SameNode n (Assign q b)
@@ -93,13 +95,15 @@ module _ (g : ℕ → ℕ) where
   renamed_all [] = refl
   renamed_all (t ∷ ts) = ap (Plain.Argument (renamed g t)) (renamed_all ts)
 
-  pub in-Call : (n : Node) (m k : List ℕ) (xs ys : List Expression) → n ≡ Call m xs → k ≡ m → map expression_tree ys ≡ map (renamed g) (map expression_tree xs) → SameNode n (Call k ys)
+  pub in-Call : (n : Node) (m k : List ℕ) (xs ys : List Expression) → n ≡ Call m xs → k ≡ m →
+      map expression_tree ys ≡ map (renamed g) (map expression_tree xs) → SameNode n (Call k ys)
   in-Call n m k xs ys e h i =
       node-Call k ys ∙ ap₂ (λ m ts. Plain.Call m (arguments ts)) h i ∙ ap (Plain.Call m) (renamed_all (map expression_tree xs))
       ∙ sym (by_form n (Call m xs) _ e (node-Call m xs))
 
   -- expression by expression
-  pub each_same : (xs ys : List Expression) → length ys ≡ length xs → ((k : ℕ) (d : Expression) → k < length ys → Same (get_or xs k d) (get_or ys k d)) → map expression_tree ys ≡ map (renamed g) (map expression_tree xs)
+  pub each_same : (xs ys : List Expression) → length ys ≡ length xs →
+      ((k : ℕ) (d : Expression) → k < length ys → Same (get_or xs k d) (get_or ys k d)) → map expression_tree ys ≡ map (renamed g) (map expression_tree xs)
   each_same [] [] e h = refl
   each_same [] (y ∷ ys) e h = absurd (omega (arith, e))
   each_same (x ∷ xs) [] e h = absurd (omega (arith, e))

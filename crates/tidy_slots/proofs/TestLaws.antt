@@ -27,5 +27,6 @@ module _ (g : ℕ) where
   pub selects-Source : (s : S.Selector) (e : Expression) → s ≡ S.Source e → selector_lacks g (selector_tree s) ≡ lacks g (expression_tree e)
   selects-Source s e h = ap (λ s. selector_lacks g (selector_tree s)) h ∙ ap (selector_lacks g) (selector-Source e)
 
-  pub selects-Pick : (s : S.Selector) (l : ℕ) (z : ℤ) (r : S.Selector) → s ≡ S.Pick l z r → selector_lacks g (selector_tree s) ≡ selector_lacks g (selector_tree r)
+  pub selects-Pick : (s : S.Selector) (l : ℕ) (z : ℤ) (r : S.Selector) → s ≡ S.Pick l z r →
+      selector_lacks g (selector_tree s) ≡ selector_lacks g (selector_tree r)
   selects-Pick s l z r h = ap (λ s. selector_lacks g (selector_tree s)) h ∙ ap (selector_lacks g) (selector-Pick l z r)

@@ -28,7 +28,8 @@ use Rattle.whole_laws.proofs.Dropped.{kinds_dropped}
 -- ---- moves
 
 module _ (P : Tree → Type 0) (kept : (xs ys : Forest) → Changed Moved xs ys → Everywhere P xs → Everywhere P ys) where
-  eliminated_kept : (l : ℕ) {p : Point} {ms : List Kept} {new : List Item} → Eliminates l p ms new → Everywhere P (trees_of p.body) → Everywhere P (trees_of new)
+  eliminated_kept : (l : ℕ) {p : Point} {ms : List Kept} {new : List Item} → Eliminates l p ms new → Everywhere P (trees_of p.body) →
+      Everywhere P (trees_of new)
   eliminated_kept l (joins p new j) h = kept (trees_of p.body) (trees_of new) (joins_changed l p.at.item j.place p.at.steps p.body new j.moves) h
   eliminated_kept l (moves k p q ms new m e) h = eliminated_kept l e (kept (trees_of p.body) (trees_of q.body) (moved_changed k l p q m) h)
 
@@ -38,7 +39,8 @@ module _ (P : Tree → Type 0) (kept : (xs ys : Forest) → Changed Moved xs ys 
 
 -- ---- simplifications
 
-module _ (P : Tree → Type 0) (simplified : (xs ys : Forest) → Changed Simplified xs ys → Everywhere P xs → Everywhere P ys) (drops : (l : ℕ) (xs : Forest) → Everywhere P xs → Everywhere P (dropped (eqb l) xs)) where
+module _ (P : Tree → Type 0) (simplified : (xs ys : Forest) → Changed Simplified xs ys → Everywhere P xs → Everywhere P ys)
+    (drops : (l : ℕ) (xs : Forest) → Everywhere P xs → Everywhere P (dropped (eqb l) xs)) where
   next_kept : (old new : List Item) → IsSimplified old new → Everywhere P (trees_of old) → Everywhere P (trees_of new)
   next_kept old new s h = elim s.either [
     | inl r ↦ simplified (trees_of old) (trees_of new) r h
@@ -47,14 +49,17 @@ module _ (P : Tree → Type 0) (simplified : (xs ys : Forest) → Changed Simpli
 
   pub reached_kept : {old : List Item} {cs : List Choice} {new : List Item} → Reaches old cs new → Everywhere P (trees_of old) → Everywhere P (trees_of new)
   reached_kept none h = h
-  reached_kept (then {body = body} {new = new} c r n) h = next_kept body new (chosen_simplified c body new (in_first (choices (trees_of body)) c n.next) n.applied) (reached_kept r h)
+  reached_kept (then {body = body} {new = new} c r n) h = next_kept body new
+      (chosen_simplified c body new (in_first (choices (trees_of body)) c n.next) n.applied) (reached_kept r h)
 
 -- ---- kinds
 
-pub kinds_derived : (p : Code) (ss : List Slot) {body : List Item} {ms : List Kept} {new : List Item} → Derives body ms new → Everywhere (KindedItem p ss) (trees_of body) → Everywhere (KindedItem p ss) (trees_of new)
+pub kinds_derived : (p : Code) (ss : List Slot) {body : List Item} {ms : List Kept} {new : List Item} → Derives body ms new →
+    Everywhere (KindedItem p ss) (trees_of body) → Everywhere (KindedItem p ss) (trees_of new)
 kinds_derived p ss d h = derived_kept (KindedItem p ss) (λ xs ys r i. kinds_moved p ss r i) d h
 
-pub kinds_reached : (p : Code) (ss : List Slot) {old : List Item} {cs : List Choice} {new : List Item} → Reaches old cs new → Everywhere (KindedItem p ss) (trees_of old) → Everywhere (KindedItem p ss) (trees_of new)
+pub kinds_reached : (p : Code) (ss : List Slot) {old : List Item} {cs : List Choice} {new : List Item} → Reaches old cs new →
+    Everywhere (KindedItem p ss) (trees_of old) → Everywhere (KindedItem p ss) (trees_of new)
 kinds_reached p ss r h = reached_kept (KindedItem p ss) (λ xs ys r i. kinds_simplified p ss r i) (λ l xs i. kinds_dropped p ss (eqb l) xs i) r h
 
 -- ---- the end of the moves

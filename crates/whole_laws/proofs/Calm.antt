@@ -61,10 +61,17 @@ module _ (f : Function) (live : ℕ → Bool) where
   mutual
     calm : (a : Forest) → Everywhere (IsSourceItem F live) a → total jumps_of a ≡ 0 → is_empty (arrivals a) ≡ true → Everywhere (IsCalmItem W) a
     calm Nil h j r = tt
-    calm (Then x a) h j r = (calm_of x h.0 (omega (arith, j)) (first_empty (arrivals_in x) (arrivals a) r), calm a h.1 (omega (arith, j)) (second_empty (arrivals_in x) (arrivals a) r))
+    calm (Then x a) h j r = (
+      calm_of x h.0 (omega (arith, j)) (first_empty (arrivals_in x) (arrivals a) r),
+      calm a h.1 (omega (arith, j)) (second_empty (arrivals_in x) (arrivals a) r),
+    )
 
     calm_of : (x : Tree) → EverywhereOf (IsSourceItem F live) x → total_of jumps_of x ≡ 0 → is_empty (arrivals_in x) ≡ true → EverywhereOf (IsCalmItem W) x
-    calm_of (If t a b) h j r = (test_in t h.0, calm a h.1 (omega (arith, j)) (first_empty (arrivals a) (arrivals b) r), calm b h.2 (omega (arith, j)) (second_empty (arrivals a) (arrivals b) r))
+    calm_of (If t a b) h j r = (
+      test_in t h.0,
+      calm a h.1 (omega (arith, j)) (first_empty (arrivals a) (arrivals b) r),
+      calm b h.2 (omega (arith, j)) (second_empty (arrivals a) (arrivals b) r),
+    )
     calm_of (While t a) h j r = (test_in t h.0, calm a h.1 (omega (arith, j)) r)
     calm_of (Do a t) h j r = (test_in t h.0, calm a h.1 (omega (arith, j)) r)
     calm_of (For first t u a) h j r = (h.0, calm first h.1 (omega (arith, j)) h.0.2, calm a h.2 (omega (arith, j)) r)
@@ -86,8 +93,10 @@ module _ (f : Function) (live : ℕ → Bool) where
 
     calm_in : (c : Sections) → EverywhereIn (IsSourceItem F live) c → total_in jumps_of c ≡ 0 → is_scattered c ≡ false → EverywhereIn (IsCalmItem W) c
     calm_in NoSection h j r = tt
-    calm_in (Section cases default a ends c) h j r =
-        (calm a h.0 (omega (arith, j)) (first_false (is_empty (arrivals a)) (is_scattered c) r), calm_in c h.1 (omega (arith, j)) (second_false (is_empty (arrivals a)) (is_scattered c) r))
+    calm_in (Section cases default a ends c) h j r = (
+      calm a h.0 (omega (arith, j)) (first_false (is_empty (arrivals a)) (is_scattered c) r),
+      calm_in c h.1 (omega (arith, j)) (second_false (is_empty (arrivals a)) (is_scattered c) r),
+    )
 
 no_number : (n : ℕ) → is_some_number n ≡ false → n ≡ 0
 no_number zero h = refl

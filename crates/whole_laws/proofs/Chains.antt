@@ -51,11 +51,13 @@ step_steady {ts} {us} (converts r) s = converted_steady (program ts) (program us
 step_steady {ts} {us} (changes a b r h k) s = h.programs (program ts) (program us) r s
 
 exchanged_kinds : (a b : List Item) → KeepsKindsOf a b → (x y : List Item) → IsExchange a b x y → KeepsKindsOf x y
-exchanged_kinds a b k x y e p ss h = subst (λ z. Everywhere (KindedItem p ss) (trees_of z)) (sym e.1) (k p ss (subst (λ z. Everywhere (KindedItem p ss) (trees_of z)) e.0 h))
+exchanged_kinds a b k x y e p ss h = subst (λ z. Everywhere (KindedItem p ss) (trees_of z)) (sym e.1)
+    (k p ss (subst (λ z. Everywhere (KindedItem p ss) (trees_of z)) e.0 h))
 
 step_kinds : {ts us : List Top} → Step ts us → IsKindedProgram (program ts) → IsKindedProgram (program us)
 step_kinds {ts} {us} (converts r) h = program_converted (program ts) (program us) r h
-step_kinds {ts} {us} (changes a b r s k) h = program_kinds {R = KeepsKindsOf} (λ p ss x y m i. m p ss i) (program ts) (program us) (change_map (exchanged_kinds a b k) r) h
+step_kinds {ts} {us} (changes a b r s k) h = program_kinds {R = KeepsKindsOf} (λ p ss x y m i. m p ss i) (program ts) (program us)
+    (change_map (exchanged_kinds a b k) r) h
 
 -- ---- many
 
@@ -93,18 +95,22 @@ abbrev pub AreConvertible : List Top → Type 0
 AreConvertible [] = Unit {0}
 AreConvertible (t ∷ ts) = IsConvertible t × AreConvertible ts
 
-moved_function : (f g : Function) (ms : List Move) (ts : List Top) → f.flat ≡ true → IsConvertible (T.Function f) → IsMoved f g ms → Chain (T.Function f ∷ ts) (T.Function g ∷ ts)
+moved_function : (f g : Function) (ms : List Move) (ts : List Top) → f.flat ≡ true → IsConvertible (T.Function f) → IsMoved f g ms →
+    Chain (T.Function f ∷ ts) (T.Function g ∷ ts)
 moved_function f g ms ts flat w m =
     let made = w flat m.body m.body_is in
     let first = C.this_function f m.body ts flat m.body_is made in
     let a = converted_list m.body in
     let e : (converted f).body ≡ Some a = ap (option_map converted_list) m.body_is in
-    let second : OneBodyChanged (IsExchange a m.middle) (T.Function (converted f) ∷ ts) (T.Function (with_body (converted f) m.middle) ∷ ts) = this_function (converted f) a m.middle ts e (refl, refl) in
-    let third : OneBodyChanged (IsExchange m.middle m.new) (T.Function (with_body (converted f) m.middle) ∷ ts) (T.Function (with_body (converted f) m.new) ∷ ts) = this_function (with_body (converted f) m.middle) m.middle m.new ts refl (refl, refl) in
+    let second : OneBodyChanged (IsExchange a m.middle) (T.Function (converted f) ∷ ts) (T.Function (with_body (converted f) m.middle) ∷ ts) =
+    this_function (converted f) a m.middle ts e (refl, refl) in
+    let third : OneBodyChanged (IsExchange m.middle m.new) (T.Function (with_body (converted f) m.middle) ∷ ts)
+    (T.Function (with_body (converted f) m.new) ∷ ts) = this_function (with_body (converted f) m.middle) m.middle m.new ts refl (refl, refl) in
     let chain : Chain (T.Function f ∷ ts) (T.Function (with_body (converted f) m.new) ∷ ts) =
     next (converts first)
     (next (changes a m.middle second (derived_laws.behaviour a m.moves m.middle made m.derives) (λ p ss h. kinds_derived p ss m.derives h))
-    (next (changes m.middle m.new third (choice_laws.reached_keeps m.middle m.new m.choices m.reaches (well_made_derived m.derives made)) (λ p ss h. kinds_reached p ss m.reaches h))
+    (next (changes m.middle m.new third (choice_laws.reached_keeps m.middle m.new m.choices m.reaches (well_made_derived m.derives made))
+    (λ p ss h. kinds_reached p ss m.reaches h))
     done)) in
     subst (λ z. Chain (T.Function f ∷ ts) (T.Function z ∷ ts)) (sym m.result) chain
 

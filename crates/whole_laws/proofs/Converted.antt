@@ -45,15 +45,18 @@ own_body f a e = ap (λ o. option_map_or trees_of o Nil) e
 body_kinds : (p : Code) (f : Function) (a : List Item) → f.body ≡ Some a → IsKindedTop p (T.Function f) → IsKindedTop p (T.Function (converted f))
 body_kinds p f a e h =
     let P = KindedItem p f.slots in
-    subst (Everywhere P) (sym (converted_body f a e ∙ converted_trees a)) (convert_kept P (kinds_kept p f.slots) (trees_of a) (subst (Everywhere P) (own_body f a e) h))
+    subst (Everywhere P) (sym (converted_body f a e ∙ converted_trees a))
+    (convert_kept P (kinds_kept p f.slots) (trees_of a) (subst (Everywhere P) (own_body f a e) h))
 
 tops_kinds : (p : Code) {ts us : List Top} → OneFunctionConverted ts us → AllByRecursion (IsKindedTop p) ts → AllByRecursion (IsKindedTop p) us
 tops_kinds p (this_function f a ts flat e w) h = (body_kinds p f a e h.0, h.1)
 tops_kinds p (later_function t r) h = (h.0, tops_kinds p r h.1)
 
 changed_tops : {ts us : List Top} → OneFunctionConverted ts us → SameTops ts us
-changed_tops (this_function f a ts flat e w) =
-    (record { name = refl; result = refl; body = ap (λ o. is_some (option_map converted_list o)) e ∙ sym (ap is_some e); slots = same_slots f.slots }, same_tops ts)
+changed_tops (this_function f a ts flat e w) = (
+  record { name = refl; result = refl; body = ap (λ o. is_some (option_map converted_list o)) e ∙ sym (ap is_some e); slots = same_slots f.slots },
+  same_tops ts,
+)
 changed_tops (later_function t r) = (same_top t, changed_tops r)
 
 pub program_converted : (p q : Program) → OneFunctionConverted p.tops q.tops → IsKindedProgram p → IsKindedProgram q

@@ -137,14 +137,21 @@ moved_ended f g ms flat w m =
     let made = well_made_derived m.derives first in
     let last = choice_laws.reached_made m.middle m.new m.choices m.reaches made in
     let none = no_leap (trees_of m.middle) (no_leaps m.middle made (none_left m.derives)) in
-    let leapless = reached_kept IsNoLeap (λ xs ys r h. simplified_kept IsNoLeap leapless_stable r h) (λ l xs h. becomes (eqb l) IsNoLeap IsNoLeap (leapless_become (eqb l)) xs h) m.reaches none in
-    let free = everywhere_map (λ x. IsConverted x × IsNoLeap x) IsFree free_item (trees_of m.new) (everywhere_both IsConverted IsNoLeap (trees_of m.new) last.converted leapless) in
-    let end : IsEndedFunction (with_body (converted f) m.new) = record { made = λ e. last; leapless = λ e. leapless; free = flat_free (with_body (converted f) m.new) flat (free_body m.new free) } in
+    let leapless = reached_kept IsNoLeap (λ xs ys r h. simplified_kept IsNoLeap leapless_stable r h)
+    (λ l xs h. becomes (eqb l) IsNoLeap IsNoLeap (leapless_become (eqb l)) xs h) m.reaches none in
+    let free = everywhere_map (λ x. IsConverted x × IsNoLeap x) IsFree free_item (trees_of m.new)
+    (everywhere_both IsConverted IsNoLeap (trees_of m.new) last.converted leapless) in
+    let end : IsEndedFunction (with_body (converted f) m.new) =
+    record { made = λ e. last; leapless = λ e. leapless; free = flat_free (with_body (converted f) m.new) flat (free_body m.new free) } in
     subst IsEndedFunction (sym m.result) end
 
 pub ended_top : {t u : Top} {ms : List Move} → IsConvertible t → IsPlainTop t → MovedTop t u ms → IsEnded u
 ended_top w p (mt_moved {f = f} {g = g} {ms = ms} flat m) = moved_ended f g ms flat w m
-ended_top w p (mt_other (T.Function f) n) = record { made = λ e. absurd (true≢false (sym e ∙ n)); leapless = λ e. absurd (true≢false (sym e ∙ n)); free = unflat_free f n (p n) }
+ended_top w p (mt_other (T.Function f) n) = record {
+  made = λ e. absurd (true≢false (sym e ∙ n));
+  leapless = λ e. absurd (true≢false (sym e ∙ n));
+  free = unflat_free f n (p n);
+}
 ended_top w p (mt_other (T.Include b) n) = tt
 ended_top w p (mt_other (T.Enum es) n) = tt
 ended_top w p (mt_other (T.Global g) n) = tt

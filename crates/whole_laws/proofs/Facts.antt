@@ -48,7 +48,8 @@ module _ (P Q : ExpressionTree → Type 0) (f : (e : ExpressionTree) → P e →
   listed_map None h = tt
   listed_map (Some es) h = list_map es h
 
-module _ (V O C V' O' C' : ExpressionTree → Type 0) (R R' : Option ExpressionTree → Type 0) (v : (e : ExpressionTree) → V e → V' e) (o : (e : ExpressionTree) → O e → O' e) (c : (e : ExpressionTree) → C e → C' e)
+module _ (V O C V' O' C' : ExpressionTree → Type 0) (R R' : Option ExpressionTree → Type 0) (v : (e : ExpressionTree) → V e → V' e)
+    (o : (e : ExpressionTree) → O e → O' e) (c : (e : ExpressionTree) → C e → C' e)
     (r : (e : Option ExpressionTree) → R e → R' e) (N N' : List ℕ → Type 0) (n : (bs : List ℕ) → N bs → N' bs) where
   pub facts_map : (x : Tree) → ItemHas V O C R N x → ItemHas V' O' C' R' N' x
   facts_map (Evaluate e) h = o e h

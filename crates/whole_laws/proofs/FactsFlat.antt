@@ -89,7 +89,8 @@ module _ (V O C : ExpressionTree → Type 0) (R : Option ExpressionTree → Type
     test_for_has : (x : ExpressionTree) → AreH (test_for number k v names x)
     test_for_has x = at (constant_value x)
       where
-        at : (o : Option ℤ) → AreH (option_map_or (λ n. one (If (Source (is_number k v (number k n))) (one (Goto (names (Some x)))) Nil)) (option_map (converted k) o) Nil)
+        at : (o : Option ℤ) → AreH (option_map_or (λ n. one (If (Source (is_number k v (number k n))) (one (Goto (names (Some x)))) Nil))
+            (option_map (converted k) o) Nil)
         at None = tt
         at (Some z) = ((holds z, (tt, tt), tt), tt)
 
@@ -122,7 +123,8 @@ module _ (V O C : ExpressionTree → Type 0) (R : Option ExpressionTree → Type
 
   -- 1, the assignments of a declaration, and of a scattered switch `v = e` and `v == c` have the facts
   module _ (s : Setting) (p : Plan) (one_has : V (number Int (pos 1)))
-      (selects : (t : SelectorTree) (v : ℕ) → V (selector_source t) → IsVariable s v (switch_kind t) → v < length s.new → O (assign_number (switch_kind t) v (selector_source t)) × Tests p.number (switch_kind t) v) where
+      (selects : (t : SelectorTree) (v : ℕ) → V (selector_source t) → IsVariable s v (switch_kind t) → v < length s.new →
+      O (assign_number (switch_kind t) v (selector_source t)) × Tests p.number (switch_kind t) v) where
     -- what a declaration with initialisers becomes has the facts
     abbrev pub Becomes_so : Tree → Type 0
     Becomes_so (Local x (Some es)) = AreH (initialised p x es)
@@ -136,16 +138,26 @@ module _ (V O C : ExpressionTree → Type 0) (R : Option ExpressionTree → Type
     test_has (Some e) h = h
 
     for_has : (j : Bool) (t u : Option ExpressionTree) (a : Forest) (b e : Aim) → IfSome t V → IfSome u O → AreH a → AreH (flat_for j t u a b e)
-    for_has true t u a b e h i m =
-        ((test_has t h, everywhere_join H a (join (mark_of e) (third_items u)) m (everywhere_join H (mark_of e) (third_items u) (marks_have e) (third_has u i))), marks_have b)
+    for_has true t u a b e h i m = (
+      (
+        test_has t h,
+        everywhere_join H a (join (mark_of e) (third_items u)) m
+            (everywhere_join H (mark_of e) (third_items u) (marks_have e) (third_has u i)),
+      ),
+      marks_have b,
+    )
     for_has false t u a b e h i m = (((h, i), tt, everywhere_join H a (mark_of e) m (marks_have e)), marks_have b)
 
-    dissolved_has : (h : Here) (t : SelectorTree) (d : Sections) (ys : Forest) → V (selector_source t) → IsVariable s h.variable (switch_kind t) → h.variable < length s.new → AreH ys → AreH (dissolved p h t d ys)
+    dissolved_has : (h : Here) (t : SelectorTree) (d : Sections) (ys : Forest) → V (selector_source t) → IsVariable s h.variable (switch_kind t) →
+        h.variable < length s.new → AreH ys → AreH (dissolved p h t d ys)
     dissolved_has h t d ys o w b y =
         let k = switch_kind t in
         let names = names_of p h k d in
-        let f = selects t h.variable o w b in
-        (f.0, everywhere_join H (tests_among p.number k h.variable names d) (Then (Goto (otherwise_label p h d)) ys) (tests_among_have p.number k h.variable names f.1 d) (tt, y))
+        let f = selects t h.variable o w b in (
+          f.0,
+          everywhere_join H (tests_among p.number k h.variable names d) (Then (Goto (otherwise_label p h d)) ys)
+              (tests_among_have p.number k h.variable names f.1 d) (tt, y),
+        )
 
     loop_list : (a : Forest) (e : Aim) → AreH a → AreH (join a (mark_of e))
     loop_list a e h = everywhere_join H a (mark_of e) h (marks_have e)
@@ -166,11 +178,14 @@ module _ (V O C : ExpressionTree → Type 0) (R : Option ExpressionTree → Type
     below false v t e h = cc
 
     mutual
-      pub flat_has : (h : Here) (b e : Aim) (r : Arrivals) (a : Forest) → Everywhere F a → HaveVariables s h a → h.variable + total variables_of a ≤ Most → AreH (flat p h b e r a)
+      pub flat_has : (h : Here) (b e : Aim) (r : Arrivals) (a : Forest) → Everywhere F a → HaveVariables s h a →
+          h.variable + total variables_of a ≤ Most → AreH (flat p h b e r a)
       flat_has h b e r Nil o v n = tt
-      flat_has h b e r (Then x xs) o v n = everywhere_join H (flat_item p h b e r x) (flat p (past_item x h) b e r xs) (item_has h b e r x o.0 v.0 (omega (arith, n))) (flat_has (past_item x h) b e r xs o.1 v.1 (omega (arith, n)))
+      flat_has h b e r (Then x xs) o v n = everywhere_join H (flat_item p h b e r x) (flat p (past_item x h) b e r xs)
+          (item_has h b e r x o.0 v.0 (omega (arith, n))) (flat_has (past_item x h) b e r xs o.1 v.1 (omega (arith, n)))
 
-      item_has : (h : Here) (b e : Aim) (r : Arrivals) (x : Tree) → EverywhereOf F x → HasVariables s h x → h.variable + total_of variables_of x ≤ Most → AreH (flat_item p h b e r x)
+      item_has : (h : Here) (b e : Aim) (r : Arrivals) (x : Tree) → EverywhereOf F x → HasVariables s h x →
+          h.variable + total_of variables_of x ≤ Most → AreH (flat_item p h b e r x)
       item_has h b e r (If t x y) o v n = ((o.0.0, flat_has h b e r x o.1 v.0 (omega (arith, n)), flat_has (past x h) b e r y o.2 v.1 (omega (arith, n))), tt)
       item_has h b e r (While t a) o v n =
           let B = aim (holds_jump p.live a) (breaks a) (p.break_label h.construct) in
@@ -205,7 +220,10 @@ module _ (V O C : ExpressionTree → Type 0) (R : Option ExpressionTree → Type
           let w = scattered (is_scattered d) (IsVariable s h.variable (switch_kind t)) q v.0 in
           dissolved_has h t d (spread p i (scatter_aim p h d) e names d) o.0.0.0 w (below (is_scattered d) h.variable (total_in variables_of d) q n)
           (spread_has i (scatter_aim p h d) e names d o.1 v.1 (omega (arith, n))))
-          (λ q. (((o.0.0.0, subst (AllByRecursion C) (sym (flat_cases p i J B e d)) o.0.0.1), sections_have i J B e d o.1 v.1 (omega (arith, n))), marks_have B))
+          (λ q. (
+            ((o.0.0.0, subst (AllByRecursion C) (sym (flat_cases p i J B e d)) o.0.0.1), sections_have i J B e d o.1 v.1 (omega (arith, n))),
+            marks_have B,
+          ))
       item_has h b e r (Evaluate x) o v n = (o.0, tt)
       item_has h b e r (Return x) o v n = (o.0, tt)
       item_has h b e r (Note bs) o v n = (o.0, tt)
@@ -213,14 +231,17 @@ module _ (V O C : ExpressionTree → Type 0) (R : Option ExpressionTree → Type
       item_has h b e r (Leap l) o v n = (tt, tt)
       item_has h b e r (Land l) o v n = (tt, tt)
 
-      last_has : (h : Here) (b e : Aim) (r : Arrivals) (a : Forest) → Everywhere F a → HaveVariables s h a → h.variable + total variables_of a ≤ Most → AreH (flat_last p h b e r a)
+      last_has : (h : Here) (b e : Aim) (r : Arrivals) (a : Forest) → Everywhere F a → HaveVariables s h a →
+          h.variable + total variables_of a ≤ Most → AreH (flat_last p h b e r a)
       last_has h b e r Nil o v n = tt
       last_has h b e r (Then x xs) o v n =
           cond_has (is_gone (ending p.live xs)) (flat_last_item p h b e r x) (join (flat_item p h b e r x) (flat_last p (past_item x h) b e r xs))
           (last_item_has h b e r x o.0 v.0 (omega (arith, n)))
-          (everywhere_join H (flat_item p h b e r x) (flat_last p (past_item x h) b e r xs) (item_has h b e r x o.0 v.0 (omega (arith, n))) (last_has (past_item x h) b e r xs o.1 v.1 (omega (arith, n))))
+          (everywhere_join H (flat_item p h b e r x) (flat_last p (past_item x h) b e r xs) (item_has h b e r x o.0 v.0 (omega (arith, n)))
+          (last_has (past_item x h) b e r xs o.1 v.1 (omega (arith, n))))
 
-      last_item_has : (h : Here) (b e : Aim) (r : Arrivals) (x : Tree) → EverywhereOf F x → HasVariables s h x → h.variable + total_of variables_of x ≤ Most → AreH (flat_last_item p h b e r x)
+      last_item_has : (h : Here) (b e : Aim) (r : Arrivals) (x : Tree) → EverywhereOf F x → HasVariables s h x →
+          h.variable + total_of variables_of x ≤ Most → AreH (flat_last_item p h b e r x)
       last_item_has h b e r (Block a) o v n = last_has h b e r a o.1 v (omega (arith, n))
       last_item_has h b e r (If t x y) o v n = tt
       last_item_has h b e r (While t a) o v n = tt
@@ -240,16 +261,22 @@ module _ (V O C : ExpressionTree → Type 0) (R : Option ExpressionTree → Type
       last_item_has h b e r (Leap l) o v n = tt
       last_item_has h b e r (Land l) o v n = tt
 
-      sections_have : (h : Here) (j : Bool) (b e : Aim) (d : Sections) → EverywhereIn F d → HaveVariablesAmong s h d → h.variable + total_in variables_of d ≤ Most → EverywhereIn H (flat_sections p h j b e d)
+      sections_have : (h : Here) (j : Bool) (b e : Aim) (d : Sections) → EverywhereIn F d → HaveVariablesAmong s h d →
+          h.variable + total_in variables_of d ≤ Most → EverywhereIn H (flat_sections p h j b e d)
       sections_have h j b e NoSection o v n = tt
       sections_have h j b e (Section cases default a ends d) o v n = (
-        if_breaks_has (ending p.live a) (flat_last p h b e NoArrival a) (flat p h b e NoArrival a) (last_has h b e NoArrival a o.0 v.0 (omega (arith, n))) (flat_has h b e NoArrival a o.0 v.0 (omega (arith, n))),
+        if_breaks_has (ending p.live a) (flat_last p h b e NoArrival a) (flat p h b e NoArrival a)
+            (last_has h b e NoArrival a o.0 v.0 (omega (arith, n))) (flat_has h b e NoArrival a o.0 v.0 (omega (arith, n))),
         sections_have (past a h) j b e d o.1 v.1 (omega (arith, n)),
       )
 
-      spread_has : (h : Here) (b e : Aim) (names : Names) (d : Sections) → EverywhereIn F d → HaveVariablesAmong s h d → h.variable + total_in variables_of d ≤ Most → AreH (spread p h b e names d)
+      spread_has : (h : Here) (b e : Aim) (names : Names) (d : Sections) → EverywhereIn F d → HaveVariablesAmong s h d →
+          h.variable + total_in variables_of d ≤ Most → AreH (spread p h b e names d)
       spread_has h b e names NoSection o v n = marks_have b
       spread_has h b e names (Section cases default a ends d) o v n =
-          everywhere_join H (case_marks names cases default) (join (flat p h b e (Arrives names) a) (join (end_goto ends b) (spread p (past a h) b e names d))) (case_marks_have names cases default)
-          (everywhere_join H (flat p h b e (Arrives names) a) (join (end_goto ends b) (spread p (past a h) b e names d)) (flat_has h b e (Arrives names) a o.0 v.0 (omega (arith, n)))
-          (everywhere_join H (end_goto ends b) (spread p (past a h) b e names d) (end_has ends b) (spread_has (past a h) b e names d o.1 v.1 (omega (arith, n)))))
+          everywhere_join H (case_marks names cases default)
+          (join (flat p h b e (Arrives names) a) (join (end_goto ends b) (spread p (past a h) b e names d))) (case_marks_have names cases default)
+          (everywhere_join H (flat p h b e (Arrives names) a) (join (end_goto ends b) (spread p (past a h) b e names d))
+          (flat_has h b e (Arrives names) a o.0 v.0 (omega (arith, n)))
+          (everywhere_join H (end_goto ends b) (spread p (past a h) b e names d) (end_has ends b)
+          (spread_has (past a h) b e names d o.1 v.1 (omega (arith, n)))))

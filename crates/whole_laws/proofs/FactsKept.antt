@@ -133,7 +133,8 @@ module _ (V O C : ExpressionTree → Type 0) (R : Option ExpressionTree → Type
   facts_converted a h = subst (Everywhere H) (sym (converted_trees a)) (convert_kept H kept_by_conversion (trees_of a) h)
 
   pub facts_rewritten : {old new : List Item} → Rewrites old new → Everywhere H (trees_of old) → Everywhere H (trees_of new)
-  facts_rewritten r h = rewritten_kept H (λ xs ys c i. changed_kept H kept_by_moves c i) (λ xs ys c i. simplified_kept H stable c i) (λ l xs i. becomes (eqb l) H H (kept_by_drops (eqb l)) xs i) r h
+  facts_rewritten r h = rewritten_kept H (λ xs ys c i. changed_kept H kept_by_moves c i) (λ xs ys c i. simplified_kept H stable c i)
+      (λ l xs i. becomes (eqb l) H H (kept_by_drops (eqb l)) xs i) r h
 
   pub facts_unlabelled : (a : Forest) → Everywhere H a → Everywhere H (unlabelled a)
   facts_unlabelled a h = left H H kept_without_labels a h

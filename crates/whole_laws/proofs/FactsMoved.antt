@@ -48,7 +48,8 @@ use Rattle.whole_laws.proofs.PlainTops.{IsMovedForm, IsUnmovedForm}
 pub flat_trees : (f h : Function) (m : IsMovedForm f h) → trees_of m.body ≡ flat_body constant f.slots (length f.labels) (body_of f)
 flat_trees f h m =
     let w = m.is_flat in
-    sym (body_is m.flat_form m.body m.body_is) ∙ body_is m.flat_form w.new w.new_body ∙ w.trees ∙ ap (flat_body constant f.slots (length f.labels)) (sym (body_is f w.old w.old_body))
+    sym (body_is m.flat_form m.body m.body_is) ∙ body_is m.flat_form w.new w.new_body ∙ w.trees ∙
+    ap (flat_body constant f.slots (length f.labels)) (sym (body_is f w.old w.old_body))
 
 -- the labels whose guards are left, and their slots
 abbrev pub labels_of : (f h : Function) → IsMovedForm f h → List ℕ
@@ -64,7 +65,8 @@ Left f h m l = is_among l (labels_of f h m) ≡ true
 abbrev pub reached_of : (f h : Function) → IsMovedForm f h → Function
 reached_of f h m = with_body (converted m.flat_form) m.new
 
-pub plain_trees : (f h : Function) (m : IsMovedForm f h) → body_of h ≡ tidy (join (trees_of (declared (reached_of f h m) (labels_of f h m))) (plain_list (slot_of f h m) (trees_of m.new)))
+pub plain_trees : (f h : Function) (m : IsMovedForm f h) → body_of h ≡ tidy
+    (join (trees_of (declared (reached_of f h m) (labels_of f h m))) (plain_list (slot_of f h m) (trees_of m.new)))
 plain_trees f h m = ap body_of m.plain ∙ P.flat_body m.names (reached_of f h m) m.new
 
 pub left_trees : (f h : Function) (m : IsUnmovedForm f h) → body_of h ≡ tidy (unlabelled (body_of f))
@@ -102,7 +104,8 @@ pub guards_known : (f h : Function) (m : IsMovedForm f h) → Everywhere (λ x. 
 guards_known f h m =
     everywhere_both (ArmLabels (Left f h m)) PicksFit (trees_of m.new)
     (among_labels m.names (length m.flat_form.labels) m.new m.named m.ranged.labels)
-    (everywhere_map (λ x. HasSelectorKind x × HasPicks x) PicksFit picks_fit (trees_of m.new) (everywhere_both HasSelectorKind HasPicks (trees_of m.new) m.made.selectors m.made.picks))
+    (everywhere_map (λ x. HasSelectorKind x × HasPicks x) PicksFit picks_fit (trees_of m.new)
+    (everywhere_both HasSelectorKind HasPicks (trees_of m.new) m.made.selectors m.made.picks))
 
 -- ---- facts
 
@@ -127,8 +130,10 @@ module _ (V O C : ExpressionTree → Type 0) (R : Option ExpressionTree → Type
         let there = body_is f w.old w.old_body in
         let more = w.more_slots in
         let variables = subst (HaveVariables (setting f m.flat_form) (first_here (length f.slots))) (sym there) w.variables in
-        let bound : length f.slots + total variables_of (body_of f) ≤ length m.flat_form.slots = subst (λ a. length f.slots + total variables_of a ≤ length m.flat_form.slots) (sym there) (omega (arith, more)) in
-        let flat = flat_has V O C R N (setting f m.flat_form) (plan_of f) one selects (first_here (length f.slots)) Stays Stays NoArrival (body_of f) k variables bound in
+        let bound : length f.slots + total variables_of (body_of f) ≤ length m.flat_form.slots =
+        subst (λ a. length f.slots + total variables_of a ≤ length m.flat_form.slots) (sym there) (omega (arith, more)) in
+        let flat = flat_has V O C R N (setting f m.flat_form) (plan_of f) one selects (first_here (length f.slots)) Stays Stays NoArrival (body_of f)
+        k variables bound in
         facts_rewritten V O C R N of_value m.rewritten (facts_converted V O C R N of_value m.body (subst (Everywhere H) (sym (flat_trees f h m)) flat))
 
     pub facts_of_plain : GuardFacts V O C R N (slot_of f h m) (Left f h m) → Everywhere Source (body_of f) → Everywhere H (body_of h)
@@ -136,8 +141,10 @@ module _ (V O C : ExpressionTree → Type 0) (R : Option ExpressionTree → Type
         let a = trees_of (declared (reached_of f h m) (labels_of f h m)) in
         let b = plain_list (slot_of f h m) (trees_of m.new) in
         let decls = declarations_have g.zero _ _ a (are_declared (reached_of f h m) (labels_of f h m)) in
-        let items = facts_plain V O C R N (slot_of f h m) (Left f h m) g (trees_of m.new) (everywhere_both H (λ x. ArmLabels (Left f h m) x × PicksFit x) (trees_of m.new) (facts_moved k) (guards_known f h m)) in
+        let items = facts_plain V O C R N (slot_of f h m) (Left f h m) g (trees_of m.new)
+        (everywhere_both H (λ x. ArmLabels (Left f h m) x × PicksFit x) (trees_of m.new) (facts_moved k) (guards_known f h m)) in
         subst (Everywhere H) (sym (plain_trees f h m)) (facts_tidy V O C R N (join a b) (join_everywhere H a b decls items))
 
   pub facts_of_unmoved : (f h : Function) (m : IsUnmovedForm f h) → Everywhere H (body_of f) → Everywhere H (body_of h)
-  facts_of_unmoved f h m k = subst (Everywhere H) (sym (left_trees f h m)) (facts_tidy V O C R N (unlabelled (body_of f)) (facts_unlabelled V O C R N of_value (body_of f) k))
+  facts_of_unmoved f h m k = subst (Everywhere H) (sym (left_trees f h m))
+      (facts_tidy V O C R N (unlabelled (body_of f)) (facts_unlabelled V O C R N of_value (body_of f) k))

@@ -27,7 +27,8 @@ pub plain_cases : (slot : ℕ → ℕ) (c : Sections) → all_cases (plain_secti
 plain_cases slot NoSection = refl
 plain_cases slot (Section cases default a ends c) = ap (λ es. cases ++ es) (plain_cases slot c)
 
-give_cases : (cases : List ExpressionTree) (default : Bool) (a : Forest) (ends : Bool) (c : Sections) → all_cases (give cases default a ends c) ≡ cases ++ all_cases c
+give_cases : (cases : List ExpressionTree) (default : Bool) (a : Forest) (ends : Bool) (c : Sections) →
+    all_cases (give cases default a ends c) ≡ cases ++ all_cases c
 give_cases cases default Nil false NoSection = refl
 give_cases cases default Nil false (Section cases' default' b ends c) = append_assoc cases cases' (all_cases c)
 give_cases cases default Nil true c = refl
@@ -40,7 +41,8 @@ put_cases false cases default a ends c = give_cases cases default a ends c
 
 pub tidy_cases : (c : Sections) → all_cases (tidy_sections c) ≡ all_cases c
 tidy_cases NoSection = refl
-tidy_cases (Section cases default a ends c) = put_cases (not ends && last_break (tidy a)) cases default (tidy a) ends (tidy_sections c) ∙ ap (λ es. cases ++ es) (tidy_cases c)
+tidy_cases (Section cases default a ends c) = put_cases (not ends && last_break (tidy a)) cases default (tidy a) ends (tidy_sections c) ∙
+    ap (λ es. cases ++ es) (tidy_cases c)
 
 -- ---- guards
 

@@ -203,12 +203,14 @@ module _ (n : ℕ) where
 -- ---- the assignments of declarations
 
 module _ (v c : ℕ) where
-  cells_counted : (k : IntKind) (x i : ℕ) (es : List ExpressionTree) (m : ℕ) → AllByRecursion (λ e. counted_at 2 e ≤ v) es → Everywhere (Counts v (v + 3) c) (assigned_cells k x i es m)
+  cells_counted : (k : IntKind) (x i : ℕ) (es : List ExpressionTree) (m : ℕ) → AllByRecursion (λ e. counted_at 2 e ≤ v) es →
+      Everywhere (Counts v (v + 3) c) (assigned_cells k x i es m)
   cells_counted k x i (e ∷ es) m h = (let a = h.0 in omega (arith, a), cells_counted k x (suc i) es m h.1)
   cells_counted k x i [] zero h = tt
   cells_counted k x i [] (suc m) h = (omega arith, cells_counted k x (suc i) [] m tt)
 
-  assigned_counted : (k : IntKind) (x : ℕ) (o : Option ℕ) (es : List ExpressionTree) → AllByRecursion (λ e. counted_at 2 e ≤ v) es → Everywhere (Counts v (v + 3) c) (assigned k x o es)
+  assigned_counted : (k : IntKind) (x : ℕ) (o : Option ℕ) (es : List ExpressionTree) → AllByRecursion (λ e. counted_at 2 e ≤ v) es →
+      Everywhere (Counts v (v + 3) c) (assigned k x o es)
   assigned_counted k x None [] h = tt
   assigned_counted k x None (e ∷ es) h = (let a = h.0 in omega (arith, a), tt)
   assigned_counted k x (Some m) es h = cells_counted k x 0 es (m - length es) h
@@ -257,7 +259,8 @@ module _ (slot : ℕ → ℕ) (f : Function) (n labels most : ℕ) (some : 0 < l
   item_counted (Do a t) h = test_fits t h.1.0 h.1.1.0 h.1.1.1
   item_counted (For first t u a) h = (used_more t h.0.0, some_more u h.0.1)
   item_counted (Switch s d) h = (
-    let a = simple_selector slot (n + 1) labels (omega arith) (switch_kind s) s h.1.1.0 h.1.1.1 (used f n (n + 1) (omega arith) (selector_source s) h.1.0) in omega (arith, a, some, all),
+    let a = simple_selector slot (n + 1) labels (omega arith) (switch_kind s) s h.1.1.0 h.1.1.1
+        (used f n (n + 1) (omega arith) (selector_source s) h.1.0) in omega (arith, a, some, all),
     subst (AllByRecursion (λ e. counted_at 3 e ≤ most)) (sym (plain_cases slot d)) (list_more 3 n most (all_cases d) (omega (arith, all)) h.0.1),
   )
   item_counted (Block a) h = tt
@@ -274,7 +277,8 @@ module _ (slot : ℕ → ℕ) (f : Function) (n labels most : ℕ) (some : 0 < l
 
 -- ---- a function with jumps
 
-module _ (f h : Function) (m : IsMovedForm f h) (params : f.params ≤ length f.slots) (form : Everywhere (HasSourceForm f) (body_of f)) (some : 0 < length m.flat_form.labels) (is_simple : IsSimple m.new) where
+module _ (f h : Function) (m : IsMovedForm f h) (params : f.params ≤ length f.slots) (form : Everywhere (HasSourceForm f) (body_of f))
+    (some : 0 < length m.flat_form.labels) (is_simple : IsSimple m.new) where
   abbrev before : ℕ
   before = most_counted (body_of f)
 
@@ -293,7 +297,8 @@ module _ (f h : Function) (m : IsMovedForm f h) (params : f.params ≤ length f.
 
   from_counts : (x : Tree) → Of x → H x
   from_counts x i =
-      facts_map (λ e. counted_at 2 e ≤ before + 1) (λ e. counted e ≤ before + 1 + 3) (λ e. counted_at 3 e ≤ before) (Value before) (λ e. counted e ≤ before + 6) (λ e. counted_at 3 e ≤ before) (λ e. most_if e ≤ before) (λ e. most_if e ≤ before) value
+      facts_map (λ e. counted_at 2 e ≤ before + 1) (λ e. counted e ≤ before + 1 + 3) (λ e. counted_at 3 e ≤ before) (Value before)
+      (λ e. counted e ≤ before + 6) (λ e. counted_at 3 e ≤ before) (λ e. most_if e ≤ before) (λ e. most_if e ≤ before) value
       (λ e j. omega (arith, j)) (λ e j. j) (λ e j. j) AnyNote AnyNote (λ bs j. j) x i
 
   dropped_less : (e : ExpressionTree) → Value before e → counted e ≤ before + 6
@@ -306,17 +311,20 @@ module _ (f h : Function) (m : IsMovedForm f h) (params : f.params ≤ length f.
   case_value k v z = let a = case_counted k v z in (omega (arith, a), omega (arith, a))
 
   selects : (t : SelectorTree) (v : ℕ) → Value before (selector_source t) → IsVariable (setting f m.flat_form) v (switch_kind t) → v < length m.flat_form.slots
-      → (counted (assign_number (switch_kind t) v (selector_source t)) ≤ before + 6) × Tests (Value before) (λ e. counted e ≤ before + 6) (λ e. counted_at 3 e ≤ before) (λ e. most_if e ≤ before) AnyNote constant (switch_kind t) v
+      → (counted (assign_number (switch_kind t) v (selector_source t)) ≤ before + 6) ×
+      Tests (Value before) (λ e. counted e ≤ before + 6) (λ e. counted_at 3 e ≤ before) (λ e. most_if e ≤ before) AnyNote constant (switch_kind t) v
   selects t v s w b = (let a = s.0 in omega (arith, a), λ z. case_value (switch_kind t) v (converted (switch_kind t) z))
 
   abbrev Known : Tree → Type 0
-  Known x = FromSource (Value before) (λ e. counted e ≤ before + 6) (λ e. counted_at 3 e ≤ before) (λ e. most_if e ≤ before) AnyNote dropped_less f h m one selects x
+  Known x = FromSource (Value before) (λ e. counted e ≤ before + 6) (λ e. counted_at 3 e ≤ before) (λ e. most_if e ≤ before) AnyNote dropped_less f h
+      m one selects x
 
   from_source : (x : Tree) → Of x → Known x
   from_source (Local x None) g = (tt, tt)
   from_source (Local x (Some es)) g = (
     from_counts (Local x (Some es)) g,
-    everywhere_map Of H from_counts (assigned (entry_or no_slot f.slots x).kind x (entry_or no_slot f.slots x).cells es) (assigned_counted (before + 1) before (entry_or no_slot f.slots x).kind x (entry_or no_slot f.slots x).cells es g),
+    everywhere_map Of H from_counts (assigned (entry_or no_slot f.slots x).kind x (entry_or no_slot f.slots x).cells es)
+        (assigned_counted (before + 1) before (entry_or no_slot f.slots x).kind x (entry_or no_slot f.slots x).cells es g),
   )
   from_source (Evaluate e) g = (from_counts (Evaluate e) g, tt)
   from_source (Return e) g = (from_counts (Return e) g, tt)
@@ -340,13 +348,15 @@ module _ (f h : Function) (m : IsMovedForm f h) (params : f.params ≤ length f.
   source = everywhere_map Of Known from_source (body_of f) (measured f before (before + 1) (omega arith) (body_of f) form (omega arith))
 
   moved : Everywhere H (trees_of m.new)
-  moved = facts_moved (Value before) (λ e. counted e ≤ before + 6) (λ e. counted_at 3 e ≤ before) (λ e. most_if e ≤ before) AnyNote dropped_less f h m one selects source
+  moved = facts_moved (Value before) (λ e. counted e ≤ before + 6) (λ e. counted_at 3 e ≤ before) (λ e. most_if e ≤ before) AnyNote dropped_less f h m
+      one selects source
 
   tests : Everywhere (HasFewTests before) (trees_of m.new)
   tests =
       let c = coded constant f.slots (length f.labels) (body_of f) in
       let p = numbered (marks (flat c (first_here (length f.slots)) Stays Stays NoArrival (body_of f))) c in
-      let start : tested (trees_of (converted_list m.body)) ≡ tested (convert (flat_body constant f.slots (length f.labels) (body_of f))) = ap tested (converted_trees m.body ∙ ap convert (flat_trees f h m)) in
+      let start : tested (trees_of (converted_list m.body)) ≡ tested (convert (flat_body constant f.slots (length f.labels) (body_of f))) =
+      ap tested (converted_trees m.body ∙ ap convert (flat_trees f h m)) in
       let few = flat_tested p (first_here (length f.slots)) Stays Stays NoArrival (body_of f) in
       moved_tests before (omega (arith, start, few)) m.rewritten
 
@@ -359,15 +369,20 @@ module _ (f h : Function) (m : IsMovedForm f h) (params : f.params ≤ length f.
       let a = decls f h m params in
       let b = items f h m params in
       let all = everywhere_both RepeatsNone (ItemLabels (λ l. l < labels)) (trees_of m.new) simple m.ranged.labels in
-      let known = everywhere_both H (λ x. HasFewTests before x × (RepeatsNone x × ItemLabels (λ l. l < labels) x)) (trees_of m.new) moved (everywhere_both (HasFewTests before) (λ x. RepeatsNone x × ItemLabels (λ l. l < labels) x) (trees_of m.new) tests all) in
+      let known = everywhere_both H (λ x. HasFewTests before x × (RepeatsNone x × ItemLabels (λ l. l < labels) x)) (trees_of m.new) moved
+      (everywhere_both (HasFewTests before) (λ x. RepeatsNone x × ItemLabels (λ l. l < labels) x) (trees_of m.new) tests all) in
       let declarations =
-      declarations_have (λ e. counted_at 2 e ≤ most) (λ e. counted e ≤ most) (λ e. counted_at 3 e ≤ most) (λ e. most_if e ≤ most) AnyNote (λ e i. omega (arith, i)) (omega arith) _ _ a
+      declarations_have (λ e. counted_at 2 e ≤ most) (λ e. counted e ≤ most) (λ e. counted_at 3 e ≤ most) (λ e. most_if e ≤ most) AnyNote
+      (λ e i. omega (arith, i)) (omega arith) _ _ a
       (are_declared (reached_of f h m) (labels_of f h m)) in
-      let others = plain_everywhere (slot_of f h m) (Simple (slot_of f h m) f before labels most some refl) (Counts most most most) (item_counted (slot_of f h m) f before labels most some refl) (trees_of m.new) known in
+      let others = plain_everywhere (slot_of f h m) (Simple (slot_of f h m) f before labels most some refl) (Counts most most most)
+      (item_counted (slot_of f h m) f before labels most some refl) (trees_of m.new) known in
       subst (Everywhere (Counts most most most)) (sym (plain_trees f h m))
-      (facts_tidy (λ e. counted_at 2 e ≤ most) (λ e. counted e ≤ most) (λ e. counted_at 3 e ≤ most) (λ e. most_if e ≤ most) AnyNote (join a b) (join_everywhere (Counts most most most) a b declarations others))
+      (facts_tidy (λ e. counted_at 2 e ≤ most) (λ e. counted e ≤ most) (λ e. counted_at 3 e ≤ most) (λ e. most_if e ≤ most) AnyNote (join a b)
+      (join_everywhere (Counts most most most) a b declarations others))
 
   pub moved_few : most_counted (body_of h) ≤ most
   moved_few =
-      let plain = subst (Everywhere IsPlainItem) (sym (plain_trees f h m)) (tidy_plain (body_before f h m params) (plain_of h (body_before f h m params) (moved_ready f h m params))) in
+      let plain = subst (Everywhere IsPlainItem) (sym (plain_trees f h m))
+      (tidy_plain (body_before f h m params) (plain_of h (body_before f h m params) (moved_ready f h m params))) in
       few most (body_of h) (everywhere_both (Counts most most most) IsPlainItem (body_of h) plain_counts plain)

@@ -36,7 +36,8 @@ module _ (all : List Top) where
     pub no_slots : (n : List ℕ) → IsNoSlot (look_up ss n)
     pub unbound : (n : List ℕ) → IsFree n → look_up ss n ≡ None
 
-  bind_file : (name : List ℕ) (b : Meaning) (ss : List Scope) → slot_in b ≡ None → ((n : List ℕ) → IsFree n → name ≢ n) → AreOfFile ss → AreOfFile (bind name b ss)
+  bind_file : (name : List ℕ) (b : Meaning) (ss : List Scope) → slot_in b ≡ None → ((n : List ℕ) → IsFree n → name ≢ n) → AreOfFile ss →
+      AreOfFile (bind name b ss)
   bind_file name b [] g d o = record {
     no_slots = λ n. at n (bytes_eq n name);
     unbound = λ n f. ap (λ t. option_or (cond t (Some b) None) None) (other_name n name (λ e. d n f (sym e)));
@@ -54,9 +55,11 @@ module _ (all : List Top) where
       at n true = g
       at n false = o.no_slots n
 
-  constants_file : (xs : List EnumItem) (ss : List Scope) → ((n : List ℕ) → IsFree n → Each (λ (x : EnumItem). x.name ≢ n) xs) → AreOfFile ss → AreOfFile (bind_constants xs ss)
+  constants_file : (xs : List EnumItem) (ss : List Scope) → ((n : List ℕ) → IsFree n → Each (λ (x : EnumItem). x.name ≢ n) xs) → AreOfFile ss →
+      AreOfFile (bind_constants xs ss)
   constants_file [] ss d o = o
-  constants_file (x ∷ xs) ss d o = constants_file xs (bind x.name (AConstant x.value) ss) (λ n f. (d n f).1) (bind_file x.name (AConstant x.value) ss refl (λ n f. (d n f).0) o)
+  constants_file (x ∷ xs) ss d o = constants_file xs (bind x.name (AConstant x.value) ss) (λ n f. (d n f).1)
+      (bind_file x.name (AConstant x.value) ss refl (λ n f. (d n f).0) o)
 
   pub top_file : (t : Top) (ss : List Scope) → ((n : List ℕ) → IsFree n → TopIsOther n t) → AreOfFile ss → AreOfFile (behind_top ss t)
   top_file (T.Enum xs) ss d o = constants_file xs ss d o
@@ -78,14 +81,18 @@ module _ (all : List Top) where
   library_none [] n e = refl
   library_none (m ∷ ms) n e =
       let p = parts (bytes_eq m n) (list_any (λ w. bytes_eq w n) ms) e in
-      ap (λ t. cond t (Some AFunction) (found n (map (λ k. (k, AFunction)) ms))) (other_name n m (λ q. true≢false (sym ((bytes_eq-Decides m n).1 (sym q)) ∙ p.0))) ∙ library_none ms n p.1
+      ap (λ t. cond t (Some AFunction) (found n (map (λ k. (k, AFunction)) ms)))
+      (other_name n m (λ q. true≢false (sym ((bytes_eq-Decides m n).1 (sym q)) ∙ p.0))) ∙ library_none ms n p.1
     where
       parts : (x y : Bool) → (x || y) ≡ false → (x ≡ false) × (y ≡ false)
       parts true y e = cc
       parts false y e = (refl, e)
 
   pub start_file : AreOfFile at_start
-  start_file = record { no_slots = λ n. either (found n (map (λ m. (m, AFunction)) known_functions)) (library_found known_functions n); unbound = λ n f. ap (λ o. option_or o None) (library_none known_functions n f.1) }
+  start_file = record {
+    no_slots = λ n. either (found n (map (λ m. (m, AFunction)) known_functions)) (library_found known_functions n);
+    unbound = λ n f. ap (λ o. option_or o None) (library_none known_functions n f.1);
+  }
     where
       either : (o : Option Meaning) → IsNoSlot o → IsNoSlot (option_or o None)
       either None h = tt
@@ -93,11 +100,14 @@ module _ (all : List Top) where
 
 -- ---- functions
 
-pub body_bound : (f : Function) (ss : List Scope) (o : Option (List Item)) → f.body ≡ o → BodyIsBound f ss f.body → AreBound f.slots (with_parameters f.params 0 f.slots (inside ss)) (body_of f)
+pub body_bound : (f : Function) (ss : List Scope) (o : Option (List Item)) → f.body ≡ o → BodyIsBound f ss f.body →
+    AreBound f.slots (with_parameters f.params 0 f.slots (inside ss)) (body_of f)
 body_bound f ss None e h = subst (AreBound f.slots (with_parameters f.params 0 f.slots (inside ss))) (sym (ap (λ b. option_map_or trees_of b Nil) e)) tt
-body_bound f ss (Some a) e h = subst (AreBound f.slots (with_parameters f.params 0 f.slots (inside ss))) (sym (ap (λ b. option_map_or trees_of b Nil) e)) (subst (BodyIsBound f ss) e h)
+body_bound f ss (Some a) e h = subst (AreBound f.slots (with_parameters f.params 0 f.slots (inside ss)))
+    (sym (ap (λ b. option_map_or trees_of b Nil) e)) (subst (BodyIsBound f ss) e h)
 
-pub bound_body : (f : Function) (ss : List Scope) (o : Option (List Item)) → f.body ≡ o → AreBound f.slots (with_parameters f.params 0 f.slots (inside ss)) (body_of f) → BodyIsBound f ss o
+pub bound_body : (f : Function) (ss : List Scope) (o : Option (List Item)) → f.body ≡ o →
+    AreBound f.slots (with_parameters f.params 0 f.slots (inside ss)) (body_of f) → BodyIsBound f ss o
 bound_body f ss None e h = tt
 bound_body f ss (Some a) e h = subst (AreBound f.slots (with_parameters f.params 0 f.slots (inside ss))) (ap (λ b. option_map_or trees_of b Nil) e) h
 
@@ -121,13 +131,17 @@ both_local p n (Land l) h = tt
 both_local p n (Arrival e) h = tt
 both_local p n (Note bs) h = tt
 
-pub declares_in : (counts : FlatCounts) (ts : List Top) (f : Function) → IsResolvedFunction counts ts f → Everywhere (DeclaresIn f.params (length f.slots)) (body_of f)
+pub declares_in : (counts : FlatCounts) (ts : List Top) (f : Function) → IsResolvedFunction counts ts f →
+    Everywhere (DeclaresIn f.params (length f.slots)) (body_of f)
 declares_in counts ts f r =
-    everywhere_map (λ x. Declared (λ y. f.params ≤ y) x × ItemSlots (λ y. y < length f.slots) x) (DeclaresIn f.params (length f.slots)) (both_local f.params (length f.slots)) (body_of f)
-    (everywhere_both (Declared (λ y. f.params ≤ y)) (ItemSlots (λ y. y < length f.slots)) (body_of f) (function_declared counts ts f r) (function_ranged counts ts f r).slots)
+    everywhere_map (λ x. Declared (λ y. f.params ≤ y) x × ItemSlots (λ y. y < length f.slots) x) (DeclaresIn f.params (length f.slots))
+    (both_local f.params (length f.slots)) (body_of f)
+    (everywhere_both (Declared (λ y. f.params ≤ y)) (ItemSlots (λ y. y < length f.slots)) (body_of f) (function_declared counts ts f r)
+    (function_ranged counts ts f r).slots)
 
 -- a function with the same declaration is bound where its body is
-pub function_over : (f h : Function) (ss : List Scope) → SameDeclaration f h → FunctionIsBound f ss → BodyIsBound h (behind_top ss (T.Function h)) h.body → FunctionIsBound h ss
+pub function_over : (f h : Function) (ss : List Scope) → SameDeclaration f h → FunctionIsBound f ss →
+    BodyIsBound h (behind_top ss (T.Function h)) h.body → FunctionIsBound h ss
 function_over f h ss d b body = record {
   named = subst (λ n. IsFunctionName n ss) (sym d.name) b.named;
   unknown = ap is_known d.name ∙ b.unknown;

@@ -44,7 +44,8 @@ body_spelled f (Some a) e h d =
 no_labels : (ls : List (List ℕ)) → ls ≡ [] → AllDiffer ls
 no_labels ls e = subst AllDiffer (sym e) tt
 
-function_spelled : (f h : Function) → SameDeclaration f h → h.labels ≡ [] → FunctionIsSpelled f → AreSpelled h (body_of h) → 1 + depth (body_of h) ≤ most → FunctionIsSpelled h
+function_spelled : (f h : Function) → SameDeclaration f h → h.labels ≡ [] → FunctionIsSpelled f → AreSpelled h (body_of h) →
+    1 + depth (body_of h) ≤ most → FunctionIsSpelled h
 function_spelled f h d ls s items shallow = record {
   named = subst IsName (sym d.name) s.named;
   parameters = subst ParametersPrint (sym d.parameters) s.parameters;
@@ -60,7 +61,8 @@ pub record IsShort (h : Function) : Type 0 where
 
 module _ (p : Program) (r : IsResolved p) (Own : Function → Function → Type 0) (own : (f h : Function) → Own f h → HasOwnNames p.tops h)
     (short : (f h : Function) → Own f h → IsResolvedFunction flat_counts p.tops f → IsShort h) (us : List Top) where
-  moved_spelled : (f h : Function) (m : IsMovedForm f h) → Own f h → IsResolvedFunction flat_counts p.tops f → IsResolvedFunction flat_counts us h → FunctionIsSpelled f → FunctionIsSpelled h
+  moved_spelled : (f h : Function) (m : IsMovedForm f h) → Own f h → IsResolvedFunction flat_counts p.tops f → IsResolvedFunction flat_counts us h →
+      FunctionIsSpelled f → FunctionIsSpelled h
   moved_spelled f h m o g k s =
       let params = g.form.parameters in
       let n = own f h o in
@@ -85,6 +87,7 @@ module _ (p : Program) (r : IsResolved p) (Own : Function → Function → Type 
   top_spelled (pt_declared f e) g k s = s
   top_spelled (pt_other t n) g k s = s
 
-  pub tops_spelled : {ts vs : List Top} → PlainTops Own ts vs → Each (IsResolvedTop flat_counts p.tops) ts → Each (IsResolvedTop flat_counts us) vs → Each TopIsSpelled ts → Each TopIsSpelled vs
+  pub tops_spelled : {ts vs : List Top} → PlainTops Own ts vs → Each (IsResolvedTop flat_counts p.tops) ts → Each (IsResolvedTop flat_counts us) vs →
+      Each TopIsSpelled ts → Each TopIsSpelled vs
   tops_spelled pt_none g k s = tt
   tops_spelled (pt_more t w) g k s = (top_spelled t g.0 k.0 s.0, tops_spelled w g.1 k.1 s.1)

@@ -66,7 +66,8 @@ case_labels names [] false = refl
 case_labels names (e ∷ es) default = case_labels names es default
 
 module _ (number : IntKind → ℤ → ExpressionTree) (k : IntKind) (v : ℕ) (names : Names) where
-  test_by : (e : ExpressionTree) (o : Option ℤ) → notes (option_map_or (λ n. one (If (Source (is_number k v (number k n))) (one (Goto (names (Some e)))) Nil)) o Nil) ≡ []
+  test_by : (e : ExpressionTree) (o : Option ℤ) → notes
+      (option_map_or (λ n. one (If (Source (is_number k v (number k n))) (one (Goto (names (Some e)))) Nil)) o Nil) ≡ []
   test_by e None = refl
   test_by e (Some n) = refl
 
@@ -123,7 +124,8 @@ module _ (live : ℕ → Bool) where
   mutual
     none_stays : (a : Forest) → ending live a ≡ Gone → notes a ≡ []
     none_stays Nil h = refl
-    none_stays (Then x a) h = let k = later_gone (ending live a) (ending_of live x) h in none_both (notes_in x) (notes a) (none_stays_of x k.1) (none_stays a k.0)
+    none_stays (Then x a) h = let k = later_gone (ending live a) (ending_of live x) h in
+        none_both (notes_in x) (notes a) (none_stays_of x k.1) (none_stays a k.0)
 
     none_stays_of : (x : Tree) → ending_of live x ≡ Gone → notes_in x ≡ []
     none_stays_of (Block a) h = none_stays a h
@@ -191,7 +193,8 @@ module _ (p : Plan) where
   ahead h a = aim (holds_jump p.live a) (continues a) (p.continue_label h.construct)
 
   -- of a list that ends by a `break`, by whether its later part stays
-  last_by : (h : Here) (b c : Aim) (r : Arrivals) (x : Tree) (a : Forest) → ending p.live (Then x a) ≡ Breaks → (ending_of p.live x ≡ Breaks → notes (flat_last_item p h b c r x) ≡ notes_in x)
+  last_by : (h : Here) (b c : Aim) (r : Arrivals) (x : Tree) (a : Forest) → ending p.live (Then x a) ≡ Breaks →
+      (ending_of p.live x ≡ Breaks → notes (flat_last_item p h b c r x) ≡ notes_in x)
       → notes (flat_item p h b c r x) ≡ notes_in x → (ending p.live a ≡ Breaks → notes (flat_last p (past_item x h) b c r a) ≡ notes a)
       → (g : Bool) → is_gone (ending p.live a) ≡ g → notes (flat_last p h b c r (Then x a)) ≡ notes_in x ++ notes a
   last_by h b c r x a e last item rest true g =
@@ -201,10 +204,12 @@ module _ (p : Plan) where
   last_by h b c r x a e last item rest false g =
       ap (λ q. notes (cond q (flat_last_item p h b c r x) (join (flat_item p h b c r x) (flat_last p (past_item x h) b c r a)))) g
       ∙ notes_join (flat_item p h b c r x) (flat_last p (past_item x h) b c r a)
-      ∙ both (notes (flat_item p h b c r x)) (notes_in x) (notes (flat_last p (past_item x h) b c r a)) (notes a) item (rest (later_first (ending p.live a) (ending_of p.live x) g e))
+      ∙ both (notes (flat_item p h b c r x)) (notes_in x) (notes (flat_last p (past_item x h) b c r a)) (notes a) item
+      (rest (later_first (ending p.live a) (ending_of p.live x) g e))
 
   -- of the list of a section, by how it ends
-  section_by : (h : Here) (b c : Aim) (a : Forest) → notes (flat p h b c NoArrival a) ≡ notes a → (ending p.live a ≡ Breaks → notes (flat_last p h b c NoArrival a) ≡ notes a)
+  section_by : (h : Here) (b c : Aim) (a : Forest) → notes (flat p h b c NoArrival a) ≡ notes a →
+      (ending p.live a ≡ Breaks → notes (flat_last p h b c NoArrival a) ≡ notes a)
       → (e : Ending) → ending p.live a ≡ e → notes (if_breaks e (flat_last p h b c NoArrival a) (flat p h b c NoArrival a)) ≡ notes a
   section_by h b c a whole last Breaks i = last i
   section_by h b c a whole last Gone i = whole
@@ -216,7 +221,8 @@ module _ (p : Plan) where
     flat_notes h b c r Nil = refl
     flat_notes h b c r (Then x a) =
         notes_join (flat_item p h b c r x) (flat p (past_item x h) b c r a)
-        ∙ both (notes (flat_item p h b c r x)) (notes_in x) (notes (flat p (past_item x h) b c r a)) (notes a) (flat_notes_of h b c r x) (flat_notes (past_item x h) b c r a)
+        ∙ both (notes (flat_item p h b c r x)) (notes_in x) (notes (flat p (past_item x h) b c r a)) (notes a) (flat_notes_of h b c r x)
+        (flat_notes (past_item x h) b c r a)
 
     flat_notes_of : (h : Here) (b c : Aim) (r : Arrivals) (x : Tree) → notes (flat_item p h b c r x) ≡ notes_in x
     flat_notes_of h b c r (If t x y) =
@@ -224,10 +230,12 @@ module _ (p : Plan) where
         ∙ both (notes (flat p h b c r x)) (notes x) (notes (flat p (past x h) b c r y)) (notes y) (flat_notes h b c r x) (flat_notes (past x h) b c r y)
     flat_notes_of h b c r (While t a) =
         let d = flat p (inside (While t a) h) (behind h a) (ahead h a) r a in
-        made_loop (While t (join d (mark_of (ahead h a)))) (notes a) (behind h a) (loop_notes d a (ahead h a) (flat_notes (inside (While t a) h) (behind h a) (ahead h a) r a))
+        made_loop (While t (join d (mark_of (ahead h a)))) (notes a) (behind h a)
+        (loop_notes d a (ahead h a) (flat_notes (inside (While t a) h) (behind h a) (ahead h a) r a))
     flat_notes_of h b c r (Do a t) =
         let d = flat p (inside (Do a t) h) (behind h a) (ahead h a) r a in
-        made_loop (Do (join d (mark_of (ahead h a))) t) (notes a) (behind h a) (loop_notes d a (ahead h a) (flat_notes (inside (Do a t) h) (behind h a) (ahead h a) r a))
+        made_loop (Do (join d (mark_of (ahead h a))) t) (notes a) (behind h a)
+        (loop_notes d a (ahead h a) (flat_notes (inside (Do a t) h) (behind h a) (ahead h a) r a))
     flat_notes_of h b c r (For first t u a) =
         let i = inside (For first t u a) h in
         let e = flat p i b c NoArrival first in
@@ -252,7 +260,8 @@ module _ (p : Plan) where
         let out = aim jumpy (kept_breaks p.live d) (p.break_label h.construct) in
         let e = flat_sections p i jumpy out c d in
         made_switch (is_scattered d) (dissolved p h s d ys) (Then (Switch s e) (mark_of out)) (notes_among d)
-        (behind_none (tests_among p.number (switch_kind s) h.variable names d) (Then (Goto (otherwise_label p h d)) ys) (tests_none p.number (switch_kind s) h.variable names d) ∙ spread_notes i (scatter_aim p h d) c names d)
+        (behind_none (tests_among p.number (switch_kind s) h.variable names d) (Then (Goto (otherwise_label p h d)) ys)
+        (tests_none p.number (switch_kind s) h.variable names d) ∙ spread_notes i (scatter_aim p h d) c names d)
         (made_loop (Switch s e) (notes_among d) out (sections_notes i jumpy out c d))
     flat_notes_of h b c r (Evaluate e) = refl
     flat_notes_of h b c r (Return e) = refl
@@ -263,7 +272,8 @@ module _ (p : Plan) where
 
     last_notes : (h : Here) (b c : Aim) (r : Arrivals) (a : Forest) → ending p.live a ≡ Breaks → notes (flat_last p h b c r a) ≡ notes a
     last_notes h b c r Nil e = refl
-    last_notes h b c r (Then x a) e = last_by h b c r x a e (λ i. last_notes_of h b c r x i) (flat_notes_of h b c r x) (λ i. last_notes (past_item x h) b c r a i) (is_gone (ending p.live a)) refl
+    last_notes h b c r (Then x a) e = last_by h b c r x a e (λ i. last_notes_of h b c r x i) (flat_notes_of h b c r x)
+        (λ i. last_notes (past_item x h) b c r a i) (is_gone (ending p.live a)) refl
 
     last_notes_of : (h : Here) (b c : Aim) (r : Arrivals) (x : Tree) → ending_of p.live x ≡ Breaks → notes (flat_last_item p h b c r x) ≡ notes_in x
     last_notes_of h b c r (Block a) e = last_notes h b c r a e
@@ -288,7 +298,8 @@ module _ (p : Plan) where
     sections_notes : (h : Here) (jumpy : Bool) (b c : Aim) (d : Sections) → notes_among (flat_sections p h jumpy b c d) ≡ notes_among d
     sections_notes h jumpy b c NoSection = refl
     sections_notes h jumpy b c (Section cases default a ends d) =
-        both (notes (if_breaks (ending p.live a) (flat_last p h b c NoArrival a) (flat p h b c NoArrival a))) (notes a) (notes_among (flat_sections p (past a h) jumpy b c d)) (notes_among d)
+        both (notes (if_breaks (ending p.live a) (flat_last p h b c NoArrival a) (flat p h b c NoArrival a))) (notes a)
+        (notes_among (flat_sections p (past a h) jumpy b c d)) (notes_among d)
         (section_by h b c a (flat_notes h b c NoArrival a) (λ i. last_notes h b c NoArrival a i) (ending p.live a) refl) (sections_notes (past a h) jumpy b c d)
 
     spread_notes : (h : Here) (b c : Aim) (names : Names) (d : Sections) → notes (spread p h b c names d) ≡ notes_among d
@@ -296,7 +307,8 @@ module _ (p : Plan) where
     spread_notes h b c names (Section cases default a ends d) =
         behind_none (case_marks names cases default) _ (case_labels names cases default)
         ∙ notes_join (flat p h b c (Arrives names) a) (join (end_goto ends b) (spread p (past a h) b c names d))
-        ∙ both (notes (flat p h b c (Arrives names) a)) (notes a) (notes (join (end_goto ends b) (spread p (past a h) b c names d))) (notes_among d) (flat_notes h b c (Arrives names) a)
+        ∙ both (notes (flat p h b c (Arrives names) a)) (notes a) (notes (join (end_goto ends b) (spread p (past a h) b c names d))) (notes_among d)
+        (flat_notes h b c (Arrives names) a)
         (behind_none (end_goto ends b) (spread p (past a h) b c names d) (goto_at_end ends b) ∙ spread_notes (past a h) b c names d)
 
 pub flat_body_notes : (number : IntKind → ℤ → ExpressionTree) (slots : List Slot) (n : ℕ) (a : Forest) → notes (flat_body number slots n a) ≡ notes a
@@ -311,15 +323,18 @@ mutual
   pub unlabelled_notes : (a : Forest) → notes (unlabelled a) ≡ notes a
   unlabelled_notes Nil = refl
   unlabelled_notes (Then x a) =
-      notes_join (unlabelled_item x) (unlabelled a) ∙ both (notes (unlabelled_item x)) (notes_in x) (notes (unlabelled a)) (notes a) (unlabelled_notes_of x) (unlabelled_notes a)
+      notes_join (unlabelled_item x) (unlabelled a) ∙ both (notes (unlabelled_item x)) (notes_in x) (notes (unlabelled a)) (notes a)
+      (unlabelled_notes_of x) (unlabelled_notes a)
 
   unlabelled_notes_of : (x : Tree) → notes (unlabelled_item x) ≡ notes_in x
   unlabelled_notes_of (If t a b) =
-      notes_one (If t (unlabelled a) (unlabelled b)) ∙ both (notes (unlabelled a)) (notes a) (notes (unlabelled b)) (notes b) (unlabelled_notes a) (unlabelled_notes b)
+      notes_one (If t (unlabelled a) (unlabelled b)) ∙ both (notes (unlabelled a)) (notes a) (notes (unlabelled b)) (notes b) (unlabelled_notes a)
+      (unlabelled_notes b)
   unlabelled_notes_of (While t a) = notes_one (While t (unlabelled a)) ∙ unlabelled_notes a
   unlabelled_notes_of (Do a t) = notes_one (Do (unlabelled a) t) ∙ unlabelled_notes a
   unlabelled_notes_of (For first t u a) =
-      notes_one (For (unlabelled first) t u (unlabelled a)) ∙ both (notes (unlabelled first)) (notes first) (notes (unlabelled a)) (notes a) (unlabelled_notes first) (unlabelled_notes a)
+      notes_one (For (unlabelled first) t u (unlabelled a)) ∙ both (notes (unlabelled first)) (notes first) (notes (unlabelled a)) (notes a)
+      (unlabelled_notes first) (unlabelled_notes a)
   unlabelled_notes_of (Switch s c) = notes_one (Switch s (unlabelled_among c)) ∙ unlabelled_notes_in c
   unlabelled_notes_of (Block a) = notes_one (Block (unlabelled a)) ∙ unlabelled_notes a
   unlabelled_notes_of (Mark l) = refl
@@ -327,4 +342,5 @@ mutual
 
   unlabelled_notes_in : (c : Sections) → notes_among (unlabelled_among c) ≡ notes_among c
   unlabelled_notes_in NoSection = refl
-  unlabelled_notes_in (Section cases default a ends c) = both (notes (unlabelled a)) (notes a) (notes_among (unlabelled_among c)) (notes_among c) (unlabelled_notes a) (unlabelled_notes_in c)
+  unlabelled_notes_in (Section cases default a ends c) = both (notes (unlabelled a)) (notes a) (notes_among (unlabelled_among c)) (notes_among c)
+      (unlabelled_notes a) (unlabelled_notes_in c)

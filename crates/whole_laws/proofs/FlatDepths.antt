@@ -135,11 +135,13 @@ for_depth true t u a b c =
     let m = mark_flat b in
     let s = nesting_some a in
     omega (arith, i, j, k, l, m, s)
-for_depth false t u a b c = let i = nesting-join a (mark_of c) in let k = mark_flat c in let m = mark_flat b in let s = nesting_some a in omega (arith, i, k, m, s)
+for_depth false t u a b c = let i = nesting-join a (mark_of c) in let k = mark_flat c in let m = mark_flat b in let s = nesting_some a in
+    omega (arith, i, k, m, s)
 
 module _ (p : Plan) where
   loop_depth : (a : Forest) (b c : Aim) (n : ℕ) → nesting a ≤ n → max (1 + nesting (join a (mark_of c))) (nesting (mark_of b)) ≤ 1 + n
-  loop_depth a b c n h = let i = nesting-join a (mark_of c) in let k = mark_flat c in let m = mark_flat b in let s = nesting_some a in omega (arith, h, i, k, m, s)
+  loop_depth a b c n h = let i = nesting-join a (mark_of c) in let k = mark_flat c in let m = mark_flat b in let s = nesting_some a in
+      omega (arith, h, i, k, m, s)
 
   mutual
     pub flat_depth : (h : Here) (b c : Aim) (r : Arrivals) (a : Forest) → Everywhere IsPlainItem a → nesting (flat p h b c r a) ≤ nesting a
@@ -184,9 +186,11 @@ module _ (p : Plan) where
         let w = tests_among_depth p.number (switch_kind s) h.variable n d in
         let m = mark_flat B in
         let z = nesting_in_some d in
-        choose (is_scattered d) (dissolved p h s d y) (Then (Switch s (flat_sections p i (is_jumpy_switch p c d) B c d)) (mark_of B)) (1 + nesting_in d) (omega (arith, l, k, w, z)) (omega (arith, e, m))
+        choose (is_scattered d) (dissolved p h s d y) (Then (Switch s (flat_sections p i (is_jumpy_switch p c d) B c d)) (mark_of B))
+        (1 + nesting_in d) (omega (arith, l, k, w, z)) (omega (arith, e, m))
     item_depth h b c r (Local x None) o = omega arith
-    item_depth h b c r (Local x (Some es)) o = let i = assigned_flat (entry_or no_slot p.slots x).kind x (entry_or no_slot p.slots x).cells es in omega (arith, i)
+    item_depth h b c r (Local x (Some es)) o = let i = assigned_flat (entry_or no_slot p.slots x).kind x (entry_or no_slot p.slots x).cells es in
+        omega (arith, i)
     item_depth h b c r Break o = let i = break_flat b in omega (arith, i)
     item_depth h b c r Continue o = let i = continue_flat c in omega (arith, i)
     item_depth h b c r (Goto l) o = omega arith
@@ -206,7 +210,8 @@ module _ (p : Plan) where
         let j = last_depth (past_item x h) b c r xs o.1 in
         let k = nesting-join (flat_item p h b c r x) (flat_last p (past_item x h) b c r xs) in
         let l = last_item_depth h b c r x o.0 in
-        choose (is_gone (ending p.live xs)) (flat_last_item p h b c r x) (join (flat_item p h b c r x) (flat_last p (past_item x h) b c r xs)) (max (1 + nesting_of x) (nesting xs)) (omega (arith, l)) (omega (arith, i, j, k))
+        choose (is_gone (ending p.live xs)) (flat_last_item p h b c r x) (join (flat_item p h b c r x) (flat_last p (past_item x h) b c r xs))
+        (max (1 + nesting_of x) (nesting xs)) (omega (arith, l)) (omega (arith, i, j, k))
 
     last_item_depth : (h : Here) (b c : Aim) (r : Arrivals) (x : Tree) → EverywhereOf IsPlainItem x → nesting (flat_last_item p h b c r x) ≤ 1 + nesting_of x
     last_item_depth h b c r (Block a) o = let i = last_depth h b c r a o.1 in omega (arith, i)
@@ -215,7 +220,8 @@ module _ (p : Plan) where
     sections_depth : (h : Here) (j : Bool) (b c : Aim) (d : Sections) → EverywhereIn IsPlainItem d → nesting_in (flat_sections p h j b c d) ≤ nesting_in d
     sections_depth h j b c NoSection o = omega arith
     sections_depth h j b c (Section cases default a ends d) o =
-        let i = by_ending (ending p.live a) (flat_last p h b c NoArrival a) (flat p h b c NoArrival a) (nesting a) (last_depth h b c NoArrival a o.0) (flat_depth h b c NoArrival a o.0) in
+        let i = by_ending (ending p.live a) (flat_last p h b c NoArrival a) (flat p h b c NoArrival a) (nesting a) (last_depth h b c NoArrival a o.0)
+        (flat_depth h b c NoArrival a o.0) in
         let k = sections_depth (past a h) j b c d o.1 in
         omega (arith, i, k)
 

@@ -88,7 +88,12 @@ good_top p s k (ft_flat {f = f} {g = g} jumps w) =
       ranged = flat_ranged f g s w;
       made = flat_made f g s w;
       convertible = λ e a i. subst IsWellMade (ap convert (body_is g a i) ∙ sym (converted_trees a)) (flat_converted f g s w);
-      signature = record { name = sym w.name; result = sym w.result; body = some_both f.body g.body w.old w.new w.old_body w.new_body; slots = grown f.slots g.slots w.slots };
+      signature = record {
+        name = sym w.name;
+        result = sym w.result;
+        body = some_both f.body g.body w.old w.new w.old_body w.new_body;
+        slots = grown f.slots g.slots w.slots;
+      };
       kinded = form_kinded p f g s w k;
     }
 good_top p s k (ft_unlabelled {f = f} {g = g} free w) =
@@ -97,7 +102,12 @@ good_top p s k (ft_unlabelled {f = f} {g = g} free w) =
       ranged = left_ranged f g s free w;
       made = left_made f g s free w;
       convertible = λ e a i. absurd (true≢false (sym e ∙ w.flat));
-      signature = record { name = sym w.name; result = sym w.result; body = some_both f.body g.body w.old w.new w.old_body w.new_body; slots = subst (Grown f.slots) (sym w.slots) (same_slots f.slots) };
+      signature = record {
+        name = sym w.name;
+        result = sym w.result;
+        body = some_both f.body g.body w.old w.new w.old_body w.new_body;
+        slots = subst (Grown f.slots) (sym w.slots) (same_slots f.slots);
+      };
       kinded = left_kinded f g s free w p k;
     }
 good_top p s k (ft_declared f e) =
@@ -169,7 +179,8 @@ all_tops P Q k (t ∷ ts) h = (k t h.0, all_tops P Q k ts h.1)
 pub source_steady : (p : Program) → IsSource p → IsSteady p
 source_steady p s =
     let r = recursion_from_All IsSourceTop p.tops s.tops in
-    steady_laws.of_programs p (All-from_recursion IsTopInRange p.tops (all_tops IsSourceTop IsTopInRange top_ranged p.tops r)) (All-from_recursion IsTopUnflat p.tops (all_tops IsSourceTop IsTopUnflat top_unflat p.tops r))
+    steady_laws.of_programs p (All-from_recursion IsTopInRange p.tops (all_tops IsSourceTop IsTopInRange top_ranged p.tops r))
+    (All-from_recursion IsTopUnflat p.tops (all_tops IsSourceTop IsTopUnflat top_unflat p.tops r))
 
 pub record IsFlatProgram (p q : Program) : Type 0 where
   pub steady : IsSteady q
@@ -181,7 +192,8 @@ pub flat_program : (p q : Program) → IsSource p → FlatTops p.tops q.tops →
 flat_program p q s w =
     let c = code_of p in
     let g = good_tops c (recursion_from_All IsSourceTop p.tops s.tops) (recursion_from_All (IsKindedTop c) p.tops s.kinded) w in
-    let r = loose_laws.of_programs p q (All-from_recursion IsTopInRange q.tops (are_ranged c g)) (All-from_recursion IsTopMadeWell q.tops (are_made c g)) (are_looser c g) (source_steady p s) in
+    let r = loose_laws.of_programs p q (All-from_recursion IsTopInRange q.tops (are_ranged c g))
+    (All-from_recursion IsTopMadeWell q.tops (are_made c g)) (are_looser c g) (source_steady p s) in
     record {
       steady = r.0;
       same = r.1;

@@ -165,7 +165,8 @@ by_ending Gone x y n h g = g
 by_ending Jumps x y n h g = g
 by_ending Otherwise x y n h g = g
 
-if_tested : (o : Option ℕ) (t : TestTree) (a b : Forest) → tested (option_map_or (λ l. jump_tree l (source_tree t)) o (one (If t (convert a) (convert b)))) ≤ max (most_tested t) (max (after a) (after b))
+if_tested : (o : Option ℕ) (t : TestTree) (a b : Forest) → tested
+    (option_map_or (λ l. jump_tree l (source_tree t)) o (one (If t (convert a) (convert b)))) ≤ max (most_tested t) (max (after a) (after b))
 if_tested None t a b = omega arith
 if_tested (Some l) t a b = omega arith
 
@@ -251,11 +252,13 @@ module _ (p : Plan) where
         let e = sections_tested i (is_jumpy_switch p c d) B c d in
         let m = none_mark B in
         let q = after-more (Switch s (flat_sections p i (is_jumpy_switch p c d) B c d)) (mark_of B) in
-        choose (is_scattered d) (dissolved p h s d y) (Then (Switch s (flat_sections p i (is_jumpy_switch p c d) B c d)) (mark_of B)) _ (omega (arith, o, k, l, z)) (omega (arith, e, m, q))
+        choose (is_scattered d) (dissolved p h s d y) (Then (Switch s (flat_sections p i (is_jumpy_switch p c d) B c d)) (mark_of B))
+        _ (omega (arith, o, k, l, z)) (omega (arith, e, m, q))
     item_tested h b c r (Mark l) = let i = none_flag (p.live l) (p.source l) in omega (arith, i)
     item_tested h b c r (Arrival e) = let i = none_arrival r e in omega (arith, i)
     item_tested h b c r (Local x None) = omega arith
-    item_tested h b c r (Local x (Some es)) = let i = none_assigned (entry_or no_slot p.slots x).kind x (entry_or no_slot p.slots x).cells es in omega (arith, i)
+    item_tested h b c r (Local x (Some es)) = let i = none_assigned (entry_or no_slot p.slots x).kind x (entry_or no_slot p.slots x).cells es in
+        omega (arith, i)
     item_tested h b c r Break = let i = none_break b in omega (arith, i)
     item_tested h b c r Continue = let i = none_continue c in omega (arith, i)
     item_tested h b c r (Goto l) = omega arith
@@ -273,7 +276,8 @@ module _ (p : Plan) where
         let j = last_tested (past_item x h) b c r xs in
         let k = after-join (flat_item p h b c r x) (flat_last p (past_item x h) b c r xs) in
         let m = last_item_tested h b c r x in
-        choose (is_gone (ending p.live xs)) (flat_last_item p h b c r x) (join (flat_item p h b c r x) (flat_last p (past_item x h) b c r xs)) _ (omega (arith, m)) (omega (arith, i, j, k))
+        choose (is_gone (ending p.live xs)) (flat_last_item p h b c r x) (join (flat_item p h b c r x) (flat_last p (past_item x h) b c r xs))
+        _ (omega (arith, m)) (omega (arith, i, j, k))
 
     last_item_tested : (h : Here) (b c : Aim) (r : Arrivals) (x : Tree) → after (flat_last_item p h b c r x) ≤ most_counted_of x
     last_item_tested h b c r (Block a) = last_tested h b c r a
@@ -282,7 +286,8 @@ module _ (p : Plan) where
     sections_tested : (h : Here) (j : Bool) (b c : Aim) (d : Sections) → tested_in (convert_sections (flat_sections p h j b c d)) ≤ most_counted_in d
     sections_tested h j b c NoSection = omega arith
     sections_tested h j b c (Section cases default a ends d) =
-        let i = by_ending (ending p.live a) (flat_last p h b c NoArrival a) (flat p h b c NoArrival a) (most_counted a) (last_tested h b c NoArrival a) (flat_tested h b c NoArrival a) in
+        let i = by_ending (ending p.live a) (flat_last p h b c NoArrival a) (flat p h b c NoArrival a) (most_counted a)
+        (last_tested h b c NoArrival a) (flat_tested h b c NoArrival a) in
         let k = sections_tested (past a h) j b c d in
         omega (arith, i, k)
 

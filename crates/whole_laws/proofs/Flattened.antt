@@ -128,7 +128,8 @@ module _ (f g : Function) (s : IsSourceFunction f) (w : IsFlatForm f g) where
     labels = λ l. refl;
     slots = λ x h. cells_stay f.slots g.slots w.slots x h.1;
     number = refl;
-    items = everywhere_map (IsSourceItem (setting f f) (is_named (body_of f))) (IsSourceItem (setting f g) (is_named (body_of f))) (source_item f g (is_named (body_of f)) w.slots) (body_of f) s.items;
+    items = everywhere_map (IsSourceItem (setting f f) (is_named (body_of f))) (IsSourceItem (setting f g) (is_named (body_of f)))
+        (source_item f g (is_named (body_of f)) w.slots) (body_of f) s.items;
     variables = subst (HaveVariables (setting f g) (first_here (length f.slots))) (sym (body_is f w.old w.old_body)) w.variables;
     bound = s.good.cases;
   }
@@ -171,8 +172,10 @@ module _ (f g : Function) (s : IsSourceFunction f) (w : IsFlatForm f g) where
       let c = w.params in
       made_laws.in_range g w.flat (omega (arith, p, m, c))
       (subst (λ a. IsFlatInRange (length g.slots) (length g.labels) a) (sym flat_trees)
-      (subst (λ n. IsFlatInRange n (length g.labels) (flat_body constant f.slots (length f.labels) (body_of f))) (sym (m ∙ ap (λ a. length f.slots + total variables_of a) (sym (body_is f w.old w.old_body))))
-      (subst (λ n. IsFlatInRange (length f.slots + total variables_of (body_of f)) n (flat_body constant f.slots (length f.labels) (body_of f))) (sym (w.labels ∙ ap (label_count f.slots (length f.labels)) (sym (body_is f w.old w.old_body))))
+      (subst (λ n. IsFlatInRange n (length g.labels) (flat_body constant f.slots (length f.labels) (body_of f)))
+      (sym (m ∙ ap (λ a. length f.slots + total variables_of a) (sym (body_is f w.old w.old_body))))
+      (subst (λ n. IsFlatInRange (length f.slots + total variables_of (body_of f)) n (flat_body constant f.slots (length f.labels) (body_of f)))
+      (sym (w.labels ∙ ap (label_count f.slots (length f.labels)) (sym (body_is f w.old w.old_body))))
       (made_laws.ranges f.slots (length f.labels) (body_of f) s.good s.ranged.slots))))
 
 -- ---- a function without jumps is looser
@@ -228,7 +231,8 @@ module _ (f g : Function) (s : IsSourceFunction f) (free : has_jumps (body_of f)
       calm = subst (λ ss. Everywhere (IsCalmItem (with_slots ss)) (body_of f)) (sym w.slots) (source_calm f s free)
 
   pub left_plain : Everywhere IsPlainItem (body_of g)
-  left_plain = subst (Everywhere IsPlainItem) (sym left_trees) (left (IsCalmItem (without_labels f f)) IsPlainItem (plain_left (without_labels f f)) (body_of f) (source_calm f s free))
+  left_plain = subst (Everywhere IsPlainItem) (sym left_trees)
+      (left (IsCalmItem (without_labels f f)) IsPlainItem (plain_left (without_labels f f)) (body_of f) (source_calm f s free))
 
   pub left_kinded : (p : Code) → Everywhere (KindedItem p f.slots) (body_of f) → Everywhere (KindedItem p g.slots) (body_of g)
   left_kinded p h = subst (λ ss. Everywhere (KindedItem p ss) (body_of g)) (sym w.slots)

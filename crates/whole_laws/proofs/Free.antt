@@ -23,12 +23,14 @@ pub both : (a b : Bool) → a ≡ true → b ≡ true → (a && b) ≡ true
 both true b p q = q
 both false b p q = p
 
-section_roll : (z : Section-F Item Section) → section_tree (roll-Section z) ≡ section_layer (Real.map-Section Item Section Tree SectionTree tree_of section_tree z)
+section_roll : (z : Section-F Item Section) → section_tree (roll-Section z) ≡ section_layer
+    (Real.map-Section Item Section Tree SectionTree tree_of section_tree z)
 unfolding section_tree tree_of
 section_roll z = fold-roll-Section Tree SectionTree layer section_layer z
 
 module _ (L : Item-F Bool Bool → Bool) (T : Tree → Type 0)
-    (own : (y : Item-F Item Section) → T (layer (map-Item Item Section Tree SectionTree tree_of section_tree y)) → L (map-Item Item Section Bool Bool (holds_throughout L) (section_holds_throughout L) y) ≡ true) where
+    (own : (y : Item-F Item Section) → T (layer (map-Item Item Section Tree SectionTree tree_of section_tree y)) →
+    L (map-Item Item Section Bool Bool (holds_throughout L) (section_holds_throughout L) y) ≡ true) where
   abbrev holds : Item → Bool
   holds x = holds_throughout L x
 
@@ -64,7 +66,8 @@ module _ (L : Item-F Bool Bool → Bool) (T : Tree → Type 0)
   abbrev real : Item-F I C → Item-F Item Section
   real y = map-Item I C Item Section item_of section_of y
 
-  layered : (y : Item-F I C) → EverywhereOf T (layer (map-Item Item Section Tree SectionTree tree_of section_tree (real y))) → throughout_step L (map-Item Item Section Bool Bool holds section_holds (real y)) ≡ true
+  layered : (y : Item-F I C) → EverywhereOf T (layer (map-Item Item Section Tree SectionTree tree_of section_tree (real y))) →
+      throughout_step L (map-Item Item Section Bool Bool holds section_holds (real y)) ≡ true
   layered (If t a b) h = both _ _ (own (real (If t a b)) h.0) (both _ _ (list_holds a h.1) (list_holds b h.2))
   layered (While t a) h = both _ _ (own (real (While t a)) h.0) (list_holds a h.1)
   layered (Do a t) h = both _ _ (own (real (Do a t)) h.0) (list_holds a h.1)
@@ -86,9 +89,11 @@ module _ (L : Item-F Bool Bool → Bool) (T : Tree → Type 0)
 
   item_holds : (x : Item) → P x
   item_holds = ind-Item P Q
-      (λ x y e. subst (λ (z : Item-F Item Section). P (roll-Item z)) e (λ h. fold-roll-Item Bool Bool (throughout_step L) section_throughout_step _ ∙ layered y (subst (EverywhereOf T) (tree-roll _) h)))
+      (λ x y e. subst (λ (z : Item-F Item Section). P (roll-Item z)) e
+      (λ h. fold-roll-Item Bool Bool (throughout_step L) section_throughout_step _ ∙ layered y (subst (EverywhereOf T) (tree-roll _) h)))
       (λ x y e. subst (λ (z : Section-F Item Section). Q (roll-Section z)) e
-      (λ h. fold-roll-Section Bool Bool (throughout_step L) section_throughout_step _ ∙ list_holds y.list (subst (λ (z : SectionTree). Everywhere T z.list) (section_roll _) h)))
+      (λ h. fold-roll-Section Bool Bool (throughout_step L) section_throughout_step _ ∙
+      list_holds y.list (subst (λ (z : SectionTree). Everywhere T z.list) (section_roll _) h)))
 
   pub items_hold : (xs : List Item) → Everywhere T (trees_of xs) → all_hold_throughout L xs ≡ true
   unfolding trees_of
@@ -105,7 +110,8 @@ IsFree (Z.Leap l) = ⊥
 IsFree (Z.Arrival e) = ⊥
 IsFree _ = Unit {0}
 
-own_free : (y : Item-F Item Section) → IsFree (layer (map-Item Item Section Tree SectionTree tree_of section_tree y)) → is_jump_free_layer (map-Item Item Section Bool Bool (holds_throughout is_jump_free_layer) (section_holds_throughout is_jump_free_layer) y) ≡ true
+own_free : (y : Item-F Item Section) → IsFree (layer (map-Item Item Section Tree SectionTree tree_of section_tree y)) →
+    is_jump_free_layer (map-Item Item Section Bool Bool (holds_throughout is_jump_free_layer) (section_holds_throughout is_jump_free_layer) y) ≡ true
 own_free (Goto l) h = absurd h
 own_free (Mark l) h = absurd h
 own_free (Leap l) h = absurd h
@@ -139,7 +145,8 @@ source_test_layer (OpenTest.AndOff l t) h = absurd (subst IsSourceTest (fold-rol
 source_test_layer (OpenTest.OrOn l t) h = absurd (subst IsSourceTest (fold-roll-Test TestTree test_layer (OpenTest.OrOn l t)) h)
 
 source_test : (t : Test) → IsSourceTest (test_tree t) → is_source_test t ≡ true
-source_test t h = subst (λ z. is_source_test z ≡ true) (roll-out-Test t) (source_test_layer (out-Test t) (subst (λ z. IsSourceTest (test_tree z)) (sym (roll-out-Test t)) h))
+source_test t h = subst (λ z. is_source_test z ≡ true) (roll-out-Test t)
+    (source_test_layer (out-Test t) (subst (λ z. IsSourceTest (test_tree z)) (sym (roll-out-Test t)) h))
 
 source_selector_layer : (y : Selector-F Selector) → IsSourceSelector (selector_tree (roll-Selector y)) → is_source_selector (roll-Selector y) ≡ true
 unfolding selector_tree
@@ -147,9 +154,11 @@ source_selector_layer (OpenSelector.Source e) h = subst (λ z. is_source_selecto
 source_selector_layer (OpenSelector.Pick l n t) h = absurd (subst IsSourceSelector (fold-roll-Selector SelectorTree selector_layer (OpenSelector.Pick l n t)) h)
 
 source_selector : (t : Selector) → IsSourceSelector (selector_tree t) → is_source_selector t ≡ true
-source_selector t h = subst (λ z. is_source_selector z ≡ true) (roll-out-Selector t) (source_selector_layer (out-Selector t) (subst (λ z. IsSourceSelector (selector_tree z)) (sym (roll-out-Selector t)) h))
+source_selector t h = subst (λ z. is_source_selector z ≡ true) (roll-out-Selector t)
+    (source_selector_layer (out-Selector t) (subst (λ z. IsSourceSelector (selector_tree z)) (sym (roll-out-Selector t)) h))
 
-own_plain : (y : Item-F Item Section) → IsPlainItem (layer (map-Item Item Section Tree SectionTree tree_of section_tree y)) → is_plain_layer (map-Item Item Section Bool Bool (holds_throughout is_plain_layer) (section_holds_throughout is_plain_layer) y) ≡ true
+own_plain : (y : Item-F Item Section) → IsPlainItem (layer (map-Item Item Section Tree SectionTree tree_of section_tree y)) →
+    is_plain_layer (map-Item Item Section Bool Bool (holds_throughout is_plain_layer) (section_holds_throughout is_plain_layer) y) ≡ true
 own_plain (Goto l) h = absurd h
 own_plain (Mark l) h = absurd h
 own_plain (Leap l) h = absurd h

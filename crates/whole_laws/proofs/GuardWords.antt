@@ -36,11 +36,13 @@ or_second false b e = e
 
 pub tail_append : (a b : List ℕ) → IsTail a → IsTail b → IsTail (a ++ b)
 tail_append [] b h g = g
-tail_append (c ∷ a) b h g = and_both (is_word_byte c) (list_all is_word_byte (a ++ b)) (and_first (is_word_byte c) _ h) (tail_append a b (and_second (is_word_byte c) _ h) g)
+tail_append (c ∷ a) b h g = and_both (is_word_byte c) (list_all is_word_byte (a ++ b)) (and_first (is_word_byte c) _ h)
+    (tail_append a b (and_second (is_word_byte c) _ h) g)
 
 pub word_tail : (w : List ℕ) → is_word w ≡ true → IsTail w
 word_tail [] e = cc
-word_tail (c ∷ cs) e = and_both (is_word_byte c) (list_all is_word_byte cs) (or_first (is_letter c) (is_digit c) (and_first (is_letter c) _ e)) (and_second (is_letter c) _ e)
+word_tail (c ∷ cs) e = and_both (is_word_byte c) (list_all is_word_byte cs) (or_first (is_letter c) (is_digit c) (and_first (is_letter c) _ e))
+    (and_second (is_letter c) _ e)
 
 -- ---- numbers
 
@@ -51,7 +53,8 @@ digits_tail : (k n : ℕ) (acc : List ℕ) → IsTail acc → IsTail (digits_ont
 digits_tail zero n acc h = h
 digits_tail (suc k) n acc h =
     let d = digit_glyph false (n % 10) in
-    let one : IsTail (d ∷ acc) = and_both (is_word_byte d) (list_all is_word_byte acc) (or_second (is_letter d) (is_digit d) (glyph_digit (n % 10) (omega arith))) h in
+    let one : IsTail (d ∷ acc) = and_both (is_word_byte d) (list_all is_word_byte acc)
+    (or_second (is_letter d) (is_digit d) (glyph_digit (n % 10) (omega arith))) h in
     cond_tail (n / 10 == 0) (d ∷ acc) (digits_onto k 10 false (n / 10) (d ∷ acc)) one (digits_tail k (n / 10) (d ∷ acc) one)
   where
     cond_tail : (b : Bool) (x y : List ℕ) → IsTail x → IsTail y → IsTail (cond b x y)

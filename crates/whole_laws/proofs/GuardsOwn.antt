@@ -73,12 +73,18 @@ module _ (m : List ℕ) where
 
 all_new : (used gs : List (List ℕ)) → AreNew used gs → Each (λ m. has_name used m ≡ false) gs
 all_new used [] h = tt
-all_new used (g ∷ gs) h = (h.0, each_map (λ m. has_name (g ∷ used) m ≡ false) (λ m. has_name used m ≡ false) (λ m e. rest_not m g used e) gs (all_new (g ∷ used) gs h.1))
+all_new used (g ∷ gs) h = (
+  h.0,
+  each_map (λ m. has_name (g ∷ used) m ≡ false) (λ m. has_name used m ≡ false) (λ m e. rest_not m g used e) gs
+      (all_new (g ∷ used) gs h.1),
+)
 
 all_differ : (used gs : List (List ℕ)) → AreNew used gs → AllDiffer gs
 all_differ used [] h = tt
-all_differ used (g ∷ gs) h =
-    (each_map (λ m. has_name (g ∷ used) m ≡ false) (λ m. m ≢ g) (λ m e i. first_not m g used e (sym i)) gs (all_new (g ∷ used) gs h.1), all_differ (g ∷ used) gs h.1)
+all_differ used (g ∷ gs) h = (
+  each_map (λ m. has_name (g ∷ used) m ≡ false) (λ m. m ≢ g) (λ m e i. first_not m g used e (sym i)) gs (all_new (g ∷ used) gs h.1),
+  all_differ (g ∷ used) gs h.1,
+)
 
 -- ---- the guards that are left
 
@@ -131,7 +137,8 @@ module _ (p : Program) (g : Function) (params : g.params ≤ length g.slots) (n 
   IsGood m = IsGuardName m × (has_name Elsewhere m ≡ false)
 
   all_good : Each IsGood given
-  all_good = each_both IsGuardName (λ m. has_name Elsewhere m ≡ false) given (are_guard_names (with_names (names_used (names p)) (own_names g)) g.labels n.labels) (all_new Elsewhere given n.guards)
+  all_good = each_both IsGuardName (λ m. has_name Elsewhere m ≡ false) given
+      (are_guard_names (with_names (names_used (names p)) (own_names g)) g.labels n.labels) (all_new Elsewhere given n.guards)
 
   abbrev chosen : List (List ℕ)
   chosen = names_left xs 0 given
@@ -153,7 +160,8 @@ module _ (p : Program) (g : Function) (params : g.params ≤ length g.slots) (n 
   abbrev variables : List Slot
   variables = drop g.params g.slots
 
-  each_own : (P : List ℕ → Type 0) → Each (λ (s : Slot). P s.name) variables → ((m : List ℕ) → IsGood m → P m) → Each (λ (s : Slot). P s.name) (drop g.params (g.slots ++ map guard_slot chosen))
+  each_own : (P : List ℕ → Type 0) → Each (λ (s : Slot). P s.name) variables → ((m : List ℕ) → IsGood m → P m) →
+      Each (λ (s : Slot). P s.name) (drop g.params (g.slots ++ map guard_slot chosen))
   each_own P h f =
       subst (Each (λ (s : Slot). P s.name)) (sym (drop_append g.params g.slots (map guard_slot chosen) params))
       (each_append (λ (s : Slot). P s.name) variables (map guard_slot chosen) h (each_guard P chosen (each_map IsGood P f chosen good)))
@@ -164,7 +172,8 @@ module _ (p : Program) (g : Function) (params : g.params ≤ length g.slots) (n 
       let names_of = map (λ (s : Slot). s.name) variables in
       subst AllDiffer (sym e)
       (differ_append names_of chosen n.variables.apart (differ_left xs 0 given (all_differ Elsewhere given n.guards))
-      (each_map IsGood (λ m. Each (λ x. x ≢ m) names_of) (λ m h. each_name (λ x. x ≢ m) variables (each_dropped (λ (s : Slot). s.name ≢ m) g.params g.slots (in_slots m h))) chosen good))
+      (each_map IsGood (λ m. Each (λ x. x ≢ m) names_of) (λ m h. each_name (λ x. x ≢ m) variables
+      (each_dropped (λ (s : Slot). s.name ≢ m) g.params g.slots (in_slots m h))) chosen good))
 
   abbrev Beside : List Slot → List ℕ → Type 0
   Beside taken m = Each (λ (t : Slot). t.name ≢ m) taken
@@ -175,13 +184,16 @@ module _ (p : Program) (g : Function) (params : g.params ≤ length g.slots) (n 
     unknown = each_own (λ m. is_known m ≡ false) n.variables.unknown (λ m h. guard_unknown m h.0);
     free = each_own (IsFreeIn p.tops) n.variables.free (λ m h. in_file m h.1);
     apart = apart;
-    beside = subst (λ taken. Each (λ (s : Slot). Beside taken s.name) (drop g.params (g.slots ++ map guard_slot chosen))) (sym (take_append g.params g.slots (map guard_slot chosen) params))
+    beside = subst (λ taken. Each (λ (s : Slot). Beside taken s.name) (drop g.params (g.slots ++ map guard_slot chosen)))
+        (sym (take_append g.params g.slots (map guard_slot chosen) params))
         (each_own (Beside (take g.params g.slots)) n.variables.beside (λ m h. each_taken (λ (t : Slot). t.name ≢ m) g.params g.slots (in_slots m h)));
   }
 
-pub plain_names_own : (p : Program) (g : Function) → g.flat ≡ true → g.params ≤ length g.slots → HasNames p g → HasOwnNames p.tops (plain_function (guard_names (names p) g) g)
+pub plain_names_own : (p : Program) (g : Function) → g.flat ≡ true → g.params ≤ length g.slots → HasNames p g →
+    HasOwnNames p.tops (plain_function (guard_names (names p) g) g)
 plain_names_own p g flat params n = at g.body refl
   where
     at : (o : Option (List Item)) → g.body ≡ o → HasOwnNames p.tops (plain_function (guard_names (names p) g) g)
     at None e = subst (HasOwnNames p.tops) (sym (no_body (guard_names (names p) g) g e)) n.variables
-    at (Some xs) e = subst (HasOwnNames p.tops) (sym (ap (plain_body (guard_names (names p) g) g) e ∙ plain_flat (guard_names (names p) g) g xs flat)) (guards_own p g params n xs)
+    at (Some xs) e = subst (HasOwnNames p.tops) (sym (ap (plain_body (guard_names (names p) g) g) e ∙ plain_flat (guard_names (names p) g) g xs flat))
+        (guards_own p g params n xs)

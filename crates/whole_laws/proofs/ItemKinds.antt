@@ -173,11 +173,19 @@ module _ (n : Names) (result : Option IntKind) where
   from_kinds (Do a t) h i = let s = of_test t h in (record { kinds = s.0.0; values = s.0.1 }, (s.1, other_fits result (Do a t) tt))
   from_kinds (For first t u a) h i =
       let s = of_some t h.0 in
-      let k = first_some (Known n) IsOperand u h.1 in (record { kinds = (s.0.0, first_some K W u k); values = (s.0.1, second_some (Known n) IsOperand u h.1) }, ((s.1, second_some K W u k), other_fits result (For first t u a) tt))
-  from_kinds (Switch s c) h i =
-      (record { kinds = (h.0.0.0, all_in_cases K c (firsts K W (all_cases c) h.1)); values = h.0.1 }, ((h.0.0.1, all_in_cases W c (seconds K W (all_cases c) h.1)), other_fits result (Switch s c) tt))
+      let k = first_some (Known n) IsOperand u h.1 in (
+        record { kinds = (s.0.0, first_some K W u k); values = (s.0.1, second_some (Known n) IsOperand u h.1) },
+        ((s.1, second_some K W u k), other_fits result (For first t u a) tt),
+      )
+  from_kinds (Switch s c) h i = (
+    record { kinds = (h.0.0.0, all_in_cases K c (firsts K W (all_cases c) h.1)); values = h.0.1 },
+    ((h.0.0.1, all_in_cases W c (seconds K W (all_cases c) h.1)), other_fits result (Switch s c) tt),
+  )
   from_kinds (Local x es) h i =
-      let k = firsts_listed (Known n) HasValue es h in (record { kinds = firsts_listed K W es k; values = seconds_listed (Known n) HasValue es h }, (seconds_listed K W es k, other_fits result (Local x es) tt))
+      let k = firsts_listed (Known n) HasValue es h in (
+        record { kinds = firsts_listed K W es k; values = seconds_listed (Known n) HasValue es h },
+        (seconds_listed K W es k, other_fits result (Local x es) tt),
+      )
   from_kinds (Arm l e) h i = let s = of_some e h in (record { kinds = s.0.0; values = tt }, (s.1, other_fits result (Arm l e) tt))
   from_kinds (Arrival e) h i = absurd i
   from_kinds (Block a) h i = (record { kinds = tt; values = tt }, (tt, other_fits result (Block a) tt))

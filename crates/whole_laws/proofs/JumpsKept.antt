@@ -121,7 +121,8 @@ module _ (p : Plan) where
   by_ending Jumps n x y h k = k
   by_ending Otherwise n x y h k = k
 
-  by_last : (e f : Ending) (m n : ℕ) (x y : Forest) → later e f ≡ Breaks → (e ≡ Gone → f ≡ Breaks → m + n ≤ Gotos x) → (e ≡ Breaks → m + n ≤ Gotos y) → m + n ≤ Gotos (cond (is_gone e) x y)
+  by_last : (e f : Ending) (m n : ℕ) (x y : Forest) → later e f ≡ Breaks → (e ≡ Gone → f ≡ Breaks → m + n ≤ Gotos x) →
+      (e ≡ Breaks → m + n ≤ Gotos y) → m + n ≤ Gotos (cond (is_gone e) x y)
   by_last Gone f m n x y e h k = h refl e
   by_last Breaks f m n x y e h k = k refl
   by_last Jumps f m n x y e h k = cc
@@ -139,12 +140,16 @@ module _ (p : Plan) where
     item_kept : (h : Here) (b c : Aim) (r : Arrivals) (x : Tree) → total_of jumps_of x ≤ Gotos (flat_item p h b c r x)
     item_kept h b c r (If t x y) = let i = jumps_kept h b c r x in let j = jumps_kept (past x h) b c r y in omega (arith, i, j)
     item_kept h b c r (While t a) =
-        let i = jumps_kept (inside (While t a) h) (aim (holds_jump p.live a) (breaks a) (p.break_label h.construct)) (aim (holds_jump p.live a) (continues a) (p.continue_label h.construct)) r a in
-        let j = loop_kept _ (aim (holds_jump p.live a) (breaks a) (p.break_label h.construct)) (aim (holds_jump p.live a) (continues a) (p.continue_label h.construct)) _ i in
+        let i = jumps_kept (inside (While t a) h) (aim (holds_jump p.live a) (breaks a) (p.break_label h.construct))
+        (aim (holds_jump p.live a) (continues a) (p.continue_label h.construct)) r a in
+        let j = loop_kept _ (aim (holds_jump p.live a) (breaks a) (p.break_label h.construct))
+        (aim (holds_jump p.live a) (continues a) (p.continue_label h.construct)) _ i in
         omega (arith, j)
     item_kept h b c r (Do a t) =
-        let i = jumps_kept (inside (Do a t) h) (aim (holds_jump p.live a) (breaks a) (p.break_label h.construct)) (aim (holds_jump p.live a) (continues a) (p.continue_label h.construct)) r a in
-        let j = loop_kept _ (aim (holds_jump p.live a) (breaks a) (p.break_label h.construct)) (aim (holds_jump p.live a) (continues a) (p.continue_label h.construct)) _ i in
+        let i = jumps_kept (inside (Do a t) h) (aim (holds_jump p.live a) (breaks a) (p.break_label h.construct))
+        (aim (holds_jump p.live a) (continues a) (p.continue_label h.construct)) r a in
+        let j = loop_kept _ (aim (holds_jump p.live a) (breaks a) (p.break_label h.construct))
+        (aim (holds_jump p.live a) (continues a) (p.continue_label h.construct)) _ i in
         omega (arith, j)
     item_kept h b c r (For first t u a) =
         let B = aim (holds_jump p.live a) (breaks a) (p.break_label h.construct) in
@@ -182,7 +187,8 @@ module _ (p : Plan) where
     last_kept : (h : Here) (b c : Aim) (r : Arrivals) (a : Forest) → ending p.live a ≡ Breaks → total jumps_of a ≤ Gotos (flat_last p h b c r a)
     last_kept h b c r Nil e = cc
     last_kept h b c r (Then x xs) e =
-        by_last (ending p.live xs) (ending_of p.live x) (total_of jumps_of x) (total jumps_of xs) (flat_last_item p h b c r x) (join (flat_item p h b c r x) (flat_last p (past_item x h) b c r xs)) e
+        by_last (ending p.live xs) (ending_of p.live x) (total_of jumps_of x) (total jumps_of xs) (flat_last_item p h b c r x)
+        (join (flat_item p h b c r x) (flat_last p (past_item x h) b c r xs)) e
         (λ g f. (let i = last_item_kept h b c r x f in let j = gone_free xs g in omega (arith, i, j)))
         (λ f.
         let i = item_kept h b c r x in
@@ -213,7 +219,8 @@ module _ (p : Plan) where
     sections_kept : (h : Here) (j : Bool) (b c : Aim) (d : Sections) → total_in jumps_of d ≤ total_in (weight 1 0) (flat_sections p h j b c d)
     sections_kept h j b c NoSection = omega arith
     sections_kept h j b c (Section cases default a ends d) =
-        let i = by_ending (ending p.live a) (total jumps_of a) (flat_last p h b c NoArrival a) (flat p h b c NoArrival a) (λ e. last_kept h b c NoArrival a e) (jumps_kept h b c NoArrival a) in
+        let i = by_ending (ending p.live a) (total jumps_of a) (flat_last p h b c NoArrival a) (flat p h b c NoArrival a)
+        (λ e. last_kept h b c NoArrival a e) (jumps_kept h b c NoArrival a) in
         let k = sections_kept (past a h) j b c d in
         omega (arith, i, k)
 

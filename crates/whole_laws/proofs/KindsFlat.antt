@@ -67,9 +67,12 @@ none_below k n r l = let h = r.from_least in grind (arith, ints, h, l)
 
 -- of a negative number that isn't the least
 pub negated_in_kind : (k : IntKind) (n : ℕ) → IsInRange k (negsuc n) → int_le (negsuc n) (least k) ≡ false → IsInRange k (pos (suc n))
-negated_in_kind Char n r e = let l = r.from_least in let h : suc n ≤ 127 = grind (arith, ints, e, l) in record { from_least = grind (arith, ints); to_greatest = grind (arith, ints, h) }
-negated_in_kind Int n r e = let l = r.from_least in let h : suc n ≤ 2147483647 = grind (arith, ints, e, l) in record { from_least = grind (arith, ints); to_greatest = grind (arith, ints, h) }
-negated_in_kind Long n r e = let l = r.from_least in let h : suc n ≤ 9223372036854775807 = grind (arith, ints, e, l) in record { from_least = grind (arith, ints); to_greatest = grind (arith, ints, h) }
+negated_in_kind Char n r e = let l = r.from_least in let h : suc n ≤ 127 = grind (arith, ints, e, l) in
+    record { from_least = grind (arith, ints); to_greatest = grind (arith, ints, h) }
+negated_in_kind Int n r e = let l = r.from_least in let h : suc n ≤ 2147483647 = grind (arith, ints, e, l) in
+    record { from_least = grind (arith, ints); to_greatest = grind (arith, ints, h) }
+negated_in_kind Long n r e = let l = r.from_least in let h : suc n ≤ 9223372036854775807 = grind (arith, ints, e, l) in
+    record { from_least = grind (arith, ints); to_greatest = grind (arith, ints, h) }
 negated_in_kind UChar n r e = absurd (none_below UChar n r refl)
 negated_in_kind UInt n r e = absurd (none_below UInt n r refl)
 negated_in_kind ULong n r e = absurd (none_below ULong n r refl)
@@ -109,10 +112,12 @@ module _ (c : Code) (old ts : List Slot) where
   slot_assigned : (x : ℕ) (k : IntKind) (e : ExpressionTree) → x < length ts → (entry_or no_slot ts x).kind ≡ k → IsK e → IsK (assign_number k x e)
   slot_assigned x k e b q h = subst (λ j. IsK (Typed (Some j) (Assign (Var (H.Slot x)) e))) q (k_assign (Var (H.Slot x)) e (k_var (H.Slot x) b) h)
 
-  cell_assigned : (x i : ℕ) (k : IntKind) (e : ExpressionTree) → x < length ts → (entry_or no_slot ts x).kind ≡ k → IsInRange Int (pos i) → IsK e → IsK (assign_cell k x i e)
+  cell_assigned : (x i : ℕ) (k : IntKind) (e : ExpressionTree) → x < length ts → (entry_or no_slot ts x).kind ≡ k → IsInRange Int (pos i) → IsK e →
+      IsK (assign_cell k x i e)
   cell_assigned x i k e b q r h =
       let n : IsK (Typed (Some Int) (Number (pos i))) = k_number (Some Int) (pos i) r in
-      subst (λ j. IsK (Typed (Some j) (Assign (Cell (H.Slot x) (Typed (Some Int) (Number (pos i)))) e))) q (k_assign (Cell (H.Slot x) (Typed (Some Int) (Number (pos i)))) e (k_cell (H.Slot x) (Typed (Some Int) (Number (pos i))) b n) h)
+      subst (λ j. IsK (Typed (Some j) (Assign (Cell (H.Slot x) (Typed (Some Int) (Number (pos i)))) e))) q
+      (k_assign (Cell (H.Slot x) (Typed (Some Int) (Number (pos i)))) e (k_cell (H.Slot x) (Typed (Some Int) (Number (pos i))) b n) h)
 
   marks_kinded : (b : Aim) → AreK (mark_of b)
   marks_kinded Stays = tt
@@ -160,9 +165,16 @@ module _ (c : Code) (old ts : List Slot) where
   test_kinded None h k = (k_number (Some Int) (pos 1) (one_in_kind Int), tt)
   test_kinded (Some e) h k = (h, k)
 
-  for_kinded : (j : Bool) (t u : Option ExpressionTree) (a : Forest) (b e : Aim) → IfSome t IsK → IfSome t (λ e. HasKind (kind_of e)) → IfSome u IsK → AreK a → AreK (flat_for j t u a b e)
-  for_kinded true t u a b e h k i m =
-      ((test_kinded t h k, everywhere_join K a (join (mark_of e) (third_items u)) m (everywhere_join K (mark_of e) (third_items u) (marks_kinded e) (third_kinded u i))), marks_kinded b)
+  for_kinded : (j : Bool) (t u : Option ExpressionTree) (a : Forest) (b e : Aim) → IfSome t IsK → IfSome t (λ e. HasKind (kind_of e)) → IfSome u IsK →
+      AreK a → AreK (flat_for j t u a b e)
+  for_kinded true t u a b e h k i m = (
+    (
+      test_kinded t h k,
+      everywhere_join K a (join (mark_of e) (third_items u)) m
+          (everywhere_join K (mark_of e) (third_items u) (marks_kinded e) (third_kinded u i)),
+    ),
+    marks_kinded b,
+  )
   for_kinded false t u a b e h k i m = (((h, i), tt, everywhere_join K a (mark_of e) m (marks_kinded e)), marks_kinded b)
 
   selector_kinded : (s : SelectorTree) → KindedSelector c ts s → IsK (selector_source s)
@@ -192,9 +204,21 @@ module _ (c : Code) (old ts : List Slot) where
     test_for_kinded : (x : ExpressionTree) → AreK (test_for constant k v names x)
     test_for_kinded x = at (constant_value x)
       where
-        at : (o : Option ℤ) → AreK (option_map_or (λ n. one (If (Source (is_number k v (constant k n))) (one (Goto (names (Some x)))) Nil)) (option_map (converted k) o) Nil)
+        at : (o : Option ℤ) → AreK (option_map_or (λ n. one (If (Source (is_number k v (constant k n))) (one (Goto (names (Some x)))) Nil))
+            (option_map (converted k) o) Nil)
         at None = tt
-        at (Some z) = (((k_binary Equal (Typed (Some k) (Read (Var (H.Slot v)))) (constant k (converted k z)) (slot_read v k b q) (constant_kinded k (converted k z) e (converted-in_range k z)), tt), (tt, tt), tt), tt)
+        at (Some z) = (
+          (
+            (
+              k_binary Equal (Typed (Some k) (Read (Var (H.Slot v)))) (constant k (converted k z)) (slot_read v k b q)
+                  (constant_kinded k (converted k z) e (converted-in_range k z)),
+              tt,
+            ),
+            (tt, tt),
+            tt,
+          ),
+          tt,
+        )
 
     tests_for_kinded : (es : List ExpressionTree) → AreK (tests_for constant k v names es)
     tests_for_kinded [] = tt
@@ -234,12 +258,21 @@ module _ (c : Code) (old ts : List Slot) where
   small_in : (i : ℕ) → i ≤ 1024 → IsInRange Int (pos i)
   small_in i h = record { from_least = grind (arith, ints); to_greatest = grind (arith, ints, h) }
 
-  cells_kinded : (k : IntKind) (x i : ℕ) (es : List ExpressionTree) (m : ℕ) → x < length ts → (entry_or no_slot ts x).kind ≡ k → i + length es + m ≤ 1024 → AreKinded c ts es → AreK (assigned_cells k x i es m)
-  cells_kinded k x i (e ∷ es) m b q h g = (cell_assigned x i k e b q (small_in i (omega (arith, h))) g.0, cells_kinded k x (suc i) es m b q (omega (arith, h)) g.1)
+  cells_kinded : (k : IntKind) (x i : ℕ) (es : List ExpressionTree) (m : ℕ) → x < length ts → (entry_or no_slot ts x).kind ≡ k →
+      i + length es + m ≤ 1024 → AreKinded c ts es → AreK (assigned_cells k x i es m)
+  cells_kinded k x i (e ∷ es) m b q h g = (
+    cell_assigned x i k e b q (small_in i (omega (arith, h))) g.0,
+    cells_kinded k x (suc i) es m b q
+        (omega (arith, h)) g.1,
+  )
   cells_kinded k x i [] zero b q h g = tt
-  cells_kinded k x i [] (suc m) b q h g = (cell_assigned x i k zero_tree b q (small_in i (omega (arith, h))) (k_number (Some Int) (pos 0) zero_in), cells_kinded k x (suc i) [] m b q (omega (arith, h)) tt)
+  cells_kinded k x i [] (suc m) b q h g = (
+    cell_assigned x i k zero_tree b q (small_in i (omega (arith, h))) (k_number (Some Int) (pos 0) zero_in),
+    cells_kinded k x (suc i) [] m b q (omega (arith, h)) tt,
+  )
 
-  assigned_kinded : (k : IntKind) (x : ℕ) (o : Option ℕ) (es : List ExpressionTree) → x < length ts → (entry_or no_slot ts x).kind ≡ k → IfSome o (λ n. (length es ≤ n) × (n ≤ 1024)) → AreKinded c ts es → AreK (assigned k x o es)
+  assigned_kinded : (k : IntKind) (x : ℕ) (o : Option ℕ) (es : List ExpressionTree) → x < length ts → (entry_or no_slot ts x).kind ≡ k →
+      IfSome o (λ n. (length es ≤ n) × (n ≤ 1024)) → AreKinded c ts es → AreK (assigned k x o es)
   assigned_kinded k x None [] b q h g = tt
   assigned_kinded k x None (e ∷ es) b q h g = (slot_assigned x k e b q g.0, tt)
   assigned_kinded k x (Some n) es b q h g = let l = h.0 in let r = h.1 in cells_kinded k x 0 es (n - length es) b q (omega (arith, l, r)) g
@@ -267,13 +300,15 @@ module _ (c : Code) (s : Setting) (p : Plan) (slots : p.slots ≡ s.old) (number
       subst (λ ss. AreG (assigned (entry_or no_slot ss x).kind x (entry_or no_slot ss x).cells es)) (sym slots)
       (assigned_kinded c s.old s.new (entry_or no_slot s.old x).kind x (entry_or no_slot s.old x).cells es g.0 g.1 o.1.1 o.0.1)
 
-  dissolved_kinded : (h : Here) (t : SelectorTree) (d : Sections) (ys : Forest) → KindedSelector c s.new t → h.variable < length s.new → (entry_or no_slot s.new h.variable).kind ≡ switch_kind t → AreG ys → AreG (dissolved p h t d ys)
+  dissolved_kinded : (h : Here) (t : SelectorTree) (d : Sections) (ys : Forest) → KindedSelector c s.new t → h.variable < length s.new →
+      (entry_or no_slot s.new h.variable).kind ≡ switch_kind t → AreG ys → AreG (dissolved p h t d ys)
   dissolved_kinded h t d ys o b q y =
       let k = switch_kind t in
       let names = names_of p h k d in (
         slot_assigned c s.old s.new h.variable k (selector_source t) b q (selector_kinded c s.old s.new t o),
         everywhere_join G (tests_among p.number k h.variable names d) (Then (Goto (otherwise_label p h d)) ys)
-            (subst (λ f. AreG (tests_among f k h.variable names d)) (sym number) (tests_among_kinded c s.old s.new k h.variable names (promoted_twice c s.old s.new (operand_kind (kind_of (selector_source t)))) b q d))
+            (subst (λ f. AreG (tests_among f k h.variable names d)) (sym number)
+            (tests_among_kinded c s.old s.new k h.variable names (promoted_twice c s.old s.new (operand_kind (kind_of (selector_source t)))) b q d))
             (tt, y),
       )
 
@@ -296,27 +331,36 @@ module _ (c : Code) (s : Setting) (p : Plan) (slots : p.slots ≡ s.old) (number
   below false v t e h = cc
 
   mutual
-    pub flat_kinded : (h : Here) (b e : Aim) (r : Arrivals) (a : Forest) → Everywhere F a → HaveVariables s h a → h.variable + total variables_of a ≤ N → AreG (flat p h b e r a)
+    pub flat_kinded : (h : Here) (b e : Aim) (r : Arrivals) (a : Forest) → Everywhere F a → HaveVariables s h a →
+        h.variable + total variables_of a ≤ N → AreG (flat p h b e r a)
     flat_kinded h b e r Nil o v n = tt
-    flat_kinded h b e r (Then x xs) o v n = everywhere_join G (flat_item p h b e r x) (flat p (past_item x h) b e r xs) (item_kinded h b e r x o.0 v.0 (omega (arith, n))) (flat_kinded (past_item x h) b e r xs o.1 v.1 (omega (arith, n)))
+    flat_kinded h b e r (Then x xs) o v n = everywhere_join G (flat_item p h b e r x) (flat p (past_item x h) b e r xs)
+        (item_kinded h b e r x o.0 v.0 (omega (arith, n))) (flat_kinded (past_item x h) b e r xs o.1 v.1 (omega (arith, n)))
 
-    item_kinded : (h : Here) (b e : Aim) (r : Arrivals) (x : Tree) → EverywhereOf F x → HasVariables s h x → h.variable + total_of variables_of x ≤ N → AreG (flat_item p h b e r x)
-    item_kinded h b e r (If t x y) o v n = ((o.0.0, flat_kinded h b e r x o.1 v.0 (omega (arith, n)), flat_kinded (past x h) b e r y o.2 v.1 (omega (arith, n))), tt)
+    item_kinded : (h : Here) (b e : Aim) (r : Arrivals) (x : Tree) → EverywhereOf F x → HasVariables s h x →
+        h.variable + total_of variables_of x ≤ N → AreG (flat_item p h b e r x)
+    item_kinded h b e r (If t x y) o v n =
+        ((o.0.0, flat_kinded h b e r x o.1 v.0 (omega (arith, n)), flat_kinded (past x h) b e r y o.2 v.1 (omega (arith, n))), tt)
     item_kinded h b e r (While t a) o v n =
         let B = aim (holds_jump p.live a) (breaks a) (p.break_label h.construct) in
-        let E = aim (holds_jump p.live a) (continues a) (p.continue_label h.construct) in
-        ((o.0.0, loop_list (flat p (inside (While t a) h) B E r a) E (flat_kinded (inside (While t a) h) B E r a o.1 v (omega (arith, n)))), marks_kinded c s.old s.new B)
+        let E = aim (holds_jump p.live a) (continues a) (p.continue_label h.construct) in (
+          (o.0.0, loop_list (flat p (inside (While t a) h) B E r a) E (flat_kinded (inside (While t a) h) B E r a o.1 v (omega (arith, n)))),
+          marks_kinded c s.old s.new B,
+        )
     item_kinded h b e r (Do a t) o v n =
         let B = aim (holds_jump p.live a) (breaks a) (p.break_label h.construct) in
-        let E = aim (holds_jump p.live a) (continues a) (p.continue_label h.construct) in
-        ((o.0.0, loop_list (flat p (inside (Do a t) h) B E r a) E (flat_kinded (inside (Do a t) h) B E r a o.1 v (omega (arith, n)))), marks_kinded c s.old s.new B)
+        let E = aim (holds_jump p.live a) (continues a) (p.continue_label h.construct) in (
+          (o.0.0, loop_list (flat p (inside (Do a t) h) B E r a) E (flat_kinded (inside (Do a t) h) B E r a o.1 v (omega (arith, n)))),
+          marks_kinded c s.old s.new B,
+        )
     item_kinded h b e r (For first t u a) o v n =
         let B = aim (holds_jump p.live a) (breaks a) (p.break_label h.construct) in
         let E = aim (holds_jump p.live a) (continues a) (p.continue_label h.construct) in
         let i = inside (For first t u a) h in
         everywhere_join G (flat p i b e NoArrival first) (flat_for (holds_jump p.live a) t u (flat p (past first i) B E r a) B E)
         (flat_kinded i b e NoArrival first o.1 v.0 (omega (arith, n)))
-        (for_kinded c s.old s.new (holds_jump p.live a) t u (flat p (past first i) B E r a) B E o.0.0.0 o.0.1 o.0.0.1 (flat_kinded (past first i) B E r a o.2 v.1 (omega (arith, n))))
+        (for_kinded c s.old s.new (holds_jump p.live a) t u (flat p (past first i) B E r a) B E o.0.0.0 o.0.1 o.0.0.1
+        (flat_kinded (past first i) B E r a o.2 v.1 (omega (arith, n))))
     item_kinded h b e r (Block a) o v n = flat_kinded h b e r a o.1 v (omega (arith, n))
     item_kinded h b e r (Local x None) o v n = tt
     item_kinded h b e r (Local x (Some es)) o v n = local_kinded x es o
@@ -343,14 +387,18 @@ module _ (c : Code) (s : Setting) (p : Plan) (slots : p.slots ≡ s.old) (number
     item_kinded h b e r (Leap l) o v n = (tt, tt)
     item_kinded h b e r (Land l) o v n = (tt, tt)
 
-    last_kinded : (h : Here) (b e : Aim) (r : Arrivals) (a : Forest) → Everywhere F a → HaveVariables s h a → h.variable + total variables_of a ≤ N → AreG (flat_last p h b e r a)
+    last_kinded : (h : Here) (b e : Aim) (r : Arrivals) (a : Forest) → Everywhere F a → HaveVariables s h a → h.variable + total variables_of a ≤ N →
+        AreG (flat_last p h b e r a)
     last_kinded h b e r Nil o v n = tt
     last_kinded h b e r (Then x xs) o v n =
-        cond_kinded c s.old s.new (is_gone (ending p.live xs)) (flat_last_item p h b e r x) (join (flat_item p h b e r x) (flat_last p (past_item x h) b e r xs))
+        cond_kinded c s.old s.new (is_gone (ending p.live xs)) (flat_last_item p h b e r x)
+        (join (flat_item p h b e r x) (flat_last p (past_item x h) b e r xs))
         (last_item_kinded h b e r x o.0 v.0 (omega (arith, n)))
-        (everywhere_join G (flat_item p h b e r x) (flat_last p (past_item x h) b e r xs) (item_kinded h b e r x o.0 v.0 (omega (arith, n))) (last_kinded (past_item x h) b e r xs o.1 v.1 (omega (arith, n))))
+        (everywhere_join G (flat_item p h b e r x) (flat_last p (past_item x h) b e r xs) (item_kinded h b e r x o.0 v.0 (omega (arith, n)))
+        (last_kinded (past_item x h) b e r xs o.1 v.1 (omega (arith, n))))
 
-    last_item_kinded : (h : Here) (b e : Aim) (r : Arrivals) (x : Tree) → EverywhereOf F x → HasVariables s h x → h.variable + total_of variables_of x ≤ N → AreG (flat_last_item p h b e r x)
+    last_item_kinded : (h : Here) (b e : Aim) (r : Arrivals) (x : Tree) → EverywhereOf F x → HasVariables s h x →
+        h.variable + total_of variables_of x ≤ N → AreG (flat_last_item p h b e r x)
     last_item_kinded h b e r (Block a) o v n = last_kinded h b e r a o.1 v (omega (arith, n))
     last_item_kinded h b e r (If t x y) o v n = tt
     last_item_kinded h b e r (While t a) o v n = tt
@@ -370,19 +418,25 @@ module _ (c : Code) (s : Setting) (p : Plan) (slots : p.slots ≡ s.old) (number
     last_item_kinded h b e r (Leap l) o v n = tt
     last_item_kinded h b e r (Land l) o v n = tt
 
-    sections_kinded : (h : Here) (j : Bool) (b e : Aim) (d : Sections) → EverywhereIn F d → HaveVariablesAmong s h d → h.variable + total_in variables_of d ≤ N → EverywhereIn G (flat_sections p h j b e d)
+    sections_kinded : (h : Here) (j : Bool) (b e : Aim) (d : Sections) → EverywhereIn F d → HaveVariablesAmong s h d →
+        h.variable + total_in variables_of d ≤ N → EverywhereIn G (flat_sections p h j b e d)
     sections_kinded h j b e NoSection o v n = tt
     sections_kinded h j b e (Section cases default a ends d) o v n = (
-      if_kinded c s.old s.new (ending p.live a) (flat_last p h b e NoArrival a) (flat p h b e NoArrival a) (last_kinded h b e NoArrival a o.0 v.0 (omega (arith, n))) (flat_kinded h b e NoArrival a o.0 v.0 (omega (arith, n))),
+      if_kinded c s.old s.new (ending p.live a) (flat_last p h b e NoArrival a) (flat p h b e NoArrival a)
+          (last_kinded h b e NoArrival a o.0 v.0 (omega (arith, n))) (flat_kinded h b e NoArrival a o.0 v.0 (omega (arith, n))),
       sections_kinded (past a h) j b e d o.1 v.1 (omega (arith, n)),
     )
 
-    spread_kinded : (h : Here) (b e : Aim) (names : Names) (d : Sections) → EverywhereIn F d → HaveVariablesAmong s h d → h.variable + total_in variables_of d ≤ N → AreG (spread p h b e names d)
+    spread_kinded : (h : Here) (b e : Aim) (names : Names) (d : Sections) → EverywhereIn F d → HaveVariablesAmong s h d →
+        h.variable + total_in variables_of d ≤ N → AreG (spread p h b e names d)
     spread_kinded h b e names NoSection o v n = marks_kinded c s.old s.new b
     spread_kinded h b e names (Section cases default a ends d) o v n =
-        everywhere_join G (case_marks names cases default) (join (flat p h b e (Arrives names) a) (join (end_goto ends b) (spread p (past a h) b e names d))) (case_kinded c s.old s.new names cases default)
-        (everywhere_join G (flat p h b e (Arrives names) a) (join (end_goto ends b) (spread p (past a h) b e names d)) (flat_kinded h b e (Arrives names) a o.0 v.0 (omega (arith, n)))
-        (everywhere_join G (end_goto ends b) (spread p (past a h) b e names d) (end_kinded c s.old s.new ends b) (spread_kinded (past a h) b e names d o.1 v.1 (omega (arith, n)))))
+        everywhere_join G (case_marks names cases default) (join (flat p h b e (Arrives names) a)
+        (join (end_goto ends b) (spread p (past a h) b e names d))) (case_kinded c s.old s.new names cases default)
+        (everywhere_join G (flat p h b e (Arrives names) a) (join (end_goto ends b) (spread p (past a h) b e names d))
+        (flat_kinded h b e (Arrives names) a o.0 v.0 (omega (arith, n)))
+        (everywhere_join G (end_goto ends b) (spread p (past a h) b e names d) (end_kinded c s.old s.new ends b)
+        (spread_kinded (past a h) b e names d o.1 v.1 (omega (arith, n)))))
 
 -- ---- of a function
 
@@ -415,14 +469,18 @@ source_item c ss ts more (Land l) h = (tt, tt)
 source_item c ss ts more (Arrival e) h = (tt, tt)
 source_item c ss ts more (Note bs) h = (tt, tt)
 
-pub form_kinded : (c : Code) (f g : Function) → IsSourceFunction f → IsFlatForm f g → Everywhere (KindedItem c f.slots) (body_of f) → Everywhere (KindedItem c g.slots) (body_of g)
+pub form_kinded : (c : Code) (f g : Function) → IsSourceFunction f → IsFlatForm f g → Everywhere (KindedItem c f.slots) (body_of f) →
+    Everywhere (KindedItem c g.slots) (body_of g)
 form_kinded c f g s w k =
     let facts = everywhere_both HasForKind (HasFewCells f.slots) (body_of f) s.for_kinds s.few_cells in
     let all = everywhere_both (KindedItem c f.slots) (λ x. HasForKind x × HasFewCells f.slots x) (body_of f) k facts in
-    let ready = everywhere_map (λ x. KindedItem c f.slots x × (HasForKind x × HasFewCells f.slots x)) (S c f.slots g.slots) (source_item c f.slots g.slots (grown f.slots g.slots w.slots)) (body_of f) all in
+    let ready = everywhere_map (λ x. KindedItem c f.slots x × (HasForKind x × HasFewCells f.slots x)) (S c f.slots g.slots)
+    (source_item c f.slots g.slots (grown f.slots g.slots w.slots)) (body_of f) all in
     let there = body_is f w.old w.old_body in
     let more = w.more_slots in
     let variables = subst (HaveVariables (setting f g) (first_here (length f.slots))) (sym there) w.variables in
-    let bound : length f.slots + total variables_of (body_of f) ≤ length g.slots = subst (λ a. length f.slots + total variables_of a ≤ length g.slots) (sym there) (omega (arith, more)) in
+    let bound : length f.slots + total variables_of (body_of f) ≤ length g.slots =
+    subst (λ a. length f.slots + total variables_of a ≤ length g.slots) (sym there) (omega (arith, more)) in
     subst (Everywhere (KindedItem c g.slots)) (sym (flat_trees f g s w))
-    (flat_kinded c (setting f g) (plan_of f) refl refl (slot_grows f.slots g.slots w.slots) (first_here (length f.slots)) Stays Stays NoArrival (body_of f) ready variables bound)
+    (flat_kinded c (setting f g) (plan_of f) refl refl (slot_grows f.slots g.slots w.slots) (first_here (length f.slots)) Stays Stays NoArrival
+    (body_of f) ready variables bound)

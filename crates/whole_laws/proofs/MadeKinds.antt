@@ -77,15 +77,18 @@ module _ (k : Names) where
   constant_known kind (pos n) e r = subst (IsConstantOf kind) (sym (constant_pos kind n)) (record { value = number_known kind (pos n) r; same = refl })
   constant_known kind (negsuc n) e r = at (int_le (negsuc n) (least kind)) refl
     where
-      at : (b : Bool) → int_le (negsuc n) (least kind) ≡ b → IsConstantOf kind (cond b (least_constant kind) (Typed (Some kind) (Unary Minus (number kind (pos (suc n))))))
+      at : (b : Bool) → int_le (negsuc n) (least kind) ≡ b → IsConstantOf kind
+          (cond b (least_constant kind) (Typed (Some kind) (Unary Minus (number kind (pos (suc n))))))
       at true h = record { value = least_known kind e; same = refl }
       at false h = record { value = negated_known kind (pos (suc n)) e (negated_in_kind kind n r h); same = refl }
 
   -- ---- variables
 
   pub read_known : (x : ℕ) (kind : IntKind) → IsFreeNumber k x kind → Value k (Typed (Some kind) (Read (Var (Home.Slot x))))
-  read_known x kind h =
-      (((some_map (slice_get k.slots x) _ (λ s. (s.cells ≡ None) × (Some kind ≡ Some s.kind)) (λ s i. (i.1, sym (ap Some i.0))) h, tt), (tt, tt)), record { operand = tt; kind = tt })
+  read_known x kind h = (
+    ((some_map (slice_get k.slots x) _ (λ s. (s.cells ≡ None) × (Some kind ≡ Some s.kind)) (λ s i. (i.1, sym (ap Some i.0))) h, tt), (tt, tt)),
+    record { operand = tt; kind = tt },
+  )
 
   pub assign_known : (x : ℕ) (kind : IntKind) (e : ExpressionTree) → IsFreeNumber k x kind → Value k e → Value k (assign_number kind x e)
   assign_known x kind e h v =
@@ -101,11 +104,14 @@ module _ (k : Names) where
       (((((place, n.1), v.1), (n.0.0, v.0.0)), (free, (n.0.1, v.0.1))), record { operand = tt; kind = tt })
 
   -- `v == c`
-  pub test_known : (v : ℕ) (kind : IntKind) (z : ℤ) → promoted kind ≡ kind → IsFreeNumber k v kind → Value k (is_number kind v (constant kind (converted kind z)))
+  pub test_known : (v : ℕ) (kind : IntKind) (z : ℤ) → promoted kind ≡ kind → IsFreeNumber k v kind →
+      Value k (is_number kind v (constant kind (converted kind z)))
   test_known v kind z e h =
       let a = read_known v kind h in
-      let c = constant_known kind (converted kind z) e (converted-in_range kind z) in
-      ((((a.1, c.value.1, sym (ap (of_both (binary_kind Equal) (Some kind)) c.same)), (a.0.0, c.value.0.0)), (tt, (a.0.1, c.value.0.1))), record { operand = tt; kind = tt })
+      let c = constant_known kind (converted kind z) e (converted-in_range kind z) in (
+        (((a.1, c.value.1, sym (ap (of_both (binary_kind Equal) (Some kind)) c.same)), (a.0.0, c.value.0.0)), (tt, (a.0.1, c.value.0.1))),
+        record { operand = tt; kind = tt },
+      )
 
   -- ---- guards
 
@@ -116,14 +122,17 @@ module _ (k : Names) where
     pub off_known : Value k (guard_off x)
     off_known = ((((guard_known.1, refl), guard_known.0.0), (tt, guard_known.0.1)), record { operand = tt; kind = tt })
 
-    both_kinds : (e : ExpressionTree) → HasKind (kind_of e) → (f : IntKind → IntKind → IntKind) → ((i j : IntKind) → f i j ≡ Int) → Some Int ≡ of_both f (Some Int) (kind_of e)
+    both_kinds : (e : ExpressionTree) → HasKind (kind_of e) → (f : IntKind → IntKind → IntKind) → ((i j : IntKind) → f i j ≡ Int) →
+        Some Int ≡ of_both f (Some Int) (kind_of e)
     both_kinds e i f g = let j = kind_there (kind_of e) i in sym (ap (of_both f (Some Int)) j.1 ∙ ap Some (g Int j.0))
 
     pub and_known : (e : ExpressionTree) → Value k e → Value k (Typed (Some Int) (Binary AndThen (guard_off x) e))
-    and_known e v = let a = off_known in ((((a.1, v.1, both_kinds e v.1.kind (binary_kind AndThen) (λ i j. refl)), (a.0.0, v.0.0)), (tt, (a.0.1, v.0.1))), record { operand = tt; kind = tt })
+    and_known e v = let a = off_known in
+        ((((a.1, v.1, both_kinds e v.1.kind (binary_kind AndThen) (λ i j. refl)), (a.0.0, v.0.0)), (tt, (a.0.1, v.0.1))), record { operand = tt; kind = tt })
 
     pub or_known : (e : ExpressionTree) → Value k e → Value k (Typed (Some Int) (Binary OrElse (guard x) e))
-    or_known e v = let a = guard_known in ((((a.1, v.1, both_kinds e v.1.kind (binary_kind OrElse) (λ i j. refl)), (a.0.0, v.0.0)), (tt, (a.0.1, v.0.1))), record { operand = tt; kind = tt })
+    or_known e v = let a = guard_known in
+        ((((a.1, v.1, both_kinds e v.1.kind (binary_kind OrElse) (λ i j. refl)), (a.0.0, v.0.0)), (tt, (a.0.1, v.0.1))), record { operand = tt; kind = tt })
 
   unequal_kind : (e : ExpressionTree) → HasKind (kind_of e) → Some Int ≡ of_both (binary_kind Unequal) (kind_of e) (Some Int)
   unequal_kind e i = let j = kind_there (kind_of e) i in sym (ap (λ o. of_both (binary_kind Unequal) o (Some Int)) j.1)
@@ -155,7 +164,8 @@ module _ (k : Names) where
     pub same : kind_of e ≡ Some own
     pub promotes : promoted own ≡ kind
 
-  pub picked_known : (slot : ℕ → ℕ) (Left : ℕ → Type 0) (kind : IntKind) → promoted kind ≡ kind → (s : SelectorTree) → ((l : ℕ) → Left l → IsFreeNumber k (slot l) Int) → IsPickable kind (selector_source s) → SelectorLabels Left s → ArePicks kind s
+  pub picked_known : (slot : ℕ → ℕ) (Left : ℕ → Type 0) (kind : IntKind) → promoted kind ≡ kind → (s : SelectorTree) →
+      ((l : ℕ) → Left l → IsFreeNumber k (slot l) Int) → IsPickable kind (selector_source s) → SelectorLabels Left s → ArePicks kind s
       → IsPickable kind (picked slot kind s)
   picked_known slot Left kind e (Selects x) f v q p = v
   picked_known slot Left kind e (Pick l n s) f v q p =
@@ -163,7 +173,16 @@ module _ (k : Names) where
       let c = constant_known kind n e p.0 in
       let r = picked_known slot Left kind e s f v q.1 p.1 in
       record {
-        value = ((((g.1, c.value.1, r.value.1, sym (kinds r.own r.promotes (kind_of (constant kind n)) (kind_of (picked slot kind s)) c.same r.same)), (g.0.0, c.value.0.0, r.value.0.0)), (tt, (g.0.1, c.value.0.1, r.value.0.1))), record { operand = tt; kind = tt });
+        value = (
+          (
+            (
+              (g.1, c.value.1, r.value.1, sym (kinds r.own r.promotes (kind_of (constant kind n)) (kind_of (picked slot kind s)) c.same r.same)),
+              (g.0.0, c.value.0.0, r.value.0.0),
+            ),
+            (tt, (g.0.1, c.value.0.1, r.value.0.1)),
+          ),
+          record { operand = tt; kind = tt },
+        );
         own = kind;
         same = refl;
         promotes = e;

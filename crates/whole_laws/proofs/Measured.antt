@@ -32,7 +32,8 @@ some_number : (n : ℕ) → is_some_number n ≡ true → 0 < n
 some_number zero e = cc
 some_number (suc n) e = omega arith
 
-pub has_label : (slots : List Slot) (n : ℕ) (body : Forest) → IsGoodSource n body → Everywhere (ItemSlots (λ x. x < length slots)) body → has_jumps body ≡ true → 0 < label_count slots n body
+pub has_label : (slots : List Slot) (n : ℕ) (body : Forest) → IsGoodSource n body → Everywhere (ItemSlots (λ x. x < length slots)) body →
+    has_jumps body ≡ true → 0 < label_count slots n body
 has_label slots n body good ranged jumps =
     let p = coded constant slots n body in
     let q = numbered (marks (flat p (first_here (length slots)) Stays Stays NoArrival body)) p in
@@ -49,7 +50,8 @@ module _ (ts : List Top) (f h : Function) (g : IsResolvedFunction flat_counts ts
   m = d.form
 
   pub limits : IsWithinLimits f (counts_of (measured_form (body_of f)))
-  limits = with_jumps (has_jumps (body_of f)) (counts_of (measured_form (body_of f))) (IsWithinLimits f) m.jumps (subst (λ o. IfSome o (IsWithinLimits f)) (counted_plainly flat_counts ts f g) g.untangled)
+  limits = with_jumps (has_jumps (body_of f)) (counts_of (measured_form (body_of f))) (IsWithinLimits f) m.jumps
+      (subst (λ o. IfSome o (IsWithinLimits f)) (counted_plainly flat_counts ts f g) g.untangled)
 
   labels_are : length m.flat_form.labels ≡ label_count f.slots (length f.labels) (body_of f)
   labels_are = m.is_flat.labels ∙ ap (label_count f.slots (length f.labels)) (sym (body_is f m.is_flat.old m.is_flat.old_body))

@@ -106,7 +106,8 @@ module _ (f h : Function) (m : IsMovedForm f h) (params : f.params ≤ length f.
   slot_named : (k : ℕ) → h.params ≤ k → k < length h.slots → IsName (slot_name h.slots k)
   slot_named k a b =
       let e = entry_there h.slots k b in
-      subst IsName (sym (name_at h.slots k (entry_or no_slot h.slots k) e)) (in_drop (λ (s : Slot). IsName s.name) h.params h.slots k (entry_or no_slot h.slots k) own.words a e)
+      subst IsName (sym (name_at h.slots k (entry_or no_slot h.slots k) e))
+      (in_drop (λ (s : Slot). IsName s.name) h.params h.slots k (entry_or no_slot h.slots k) own.words a e)
 
   longer : length m.flat_form.slots ≤ length h.slots
   longer = let e = moved_length f h m params in omega (arith, e)
@@ -131,17 +132,20 @@ module _ (f h : Function) (m : IsMovedForm f h) (params : f.params ≤ length f.
   abbrev Returns : Option ExpressionTree → Type 0
   Returns o = IfSome o A
 
-  cells_print : (k : IntKind) (x i : ℕ) (es : List ExpressionTree) (n : ℕ) → IsName (slot_name h.slots x) → i + length es + n ≤ 1024 → AllByRecursion A es → Everywhere (HasText h) (assigned_cells k x i es n)
+  cells_print : (k : IntKind) (x i : ℕ) (es : List ExpressionTree) (n : ℕ) → IsName (slot_name h.slots x) → i + length es + n ≤ 1024 →
+      AllByRecursion A es → Everywhere (HasText h) (assigned_cells k x i es n)
   cells_print k x i (e ∷ es) n a b v = (((a, omega (arith, b)), v.0), cells_print k x (suc i) es n a (omega (arith, b)) v.1)
   cells_print k x i [] zero a b v = tt
   cells_print k x i [] (suc n) a b v = (((a, omega (arith, b)), omega arith), cells_print k x (suc i) [] n a (omega (arith, b)) tt)
 
-  assigned_print : (k : IntKind) (x : ℕ) (o : Option ℕ) (es : List ExpressionTree) → IsName (slot_name h.slots x) → AreInitialisers 1024 o es → AllByRecursion A es → Everywhere (HasText h) (assigned k x o es)
+  assigned_print : (k : IntKind) (x : ℕ) (o : Option ℕ) (es : List ExpressionTree) → IsName (slot_name h.slots x) → AreInitialisers 1024 o es →
+      AllByRecursion A es → Everywhere (HasText h) (assigned k x o es)
   assigned_print k x None [] a i v = tt
   assigned_print k x None (e ∷ es) a i v = ((a, v.0), tt)
   assigned_print k x (Some n) es a i v = let l = i.0 in let q = i.1 in cells_print k x 0 es (n - length es) a (omega (arith, l, q)) v
 
-  selects : (t : SelectorTree) (v : ℕ) → A (selector_source t) → IsVariable (setting f m.flat_form) v (switch_kind t) → v < length m.flat_form.slots → A (assign_number (switch_kind t) v (selector_source t)) × Tests A A A Returns IsComment constant (switch_kind t) v
+  selects : (t : SelectorTree) (v : ℕ) → A (selector_source t) → IsVariable (setting f m.flat_form) v (switch_kind t) → v < length m.flat_form.slots →
+      A (assign_number (switch_kind t) v (selector_source t)) × Tests A A A Returns IsComment constant (switch_kind t) v
   selects t v i w b =
       let n = w.new in
       let a = n.0 in
@@ -157,13 +161,15 @@ module _ (f h : Function) (m : IsMovedForm f h) (params : f.params ≤ length f.
   abbrev FromSource : Tree → Type 0
   FromSource x = Source A A A Returns IsComment (λ e i. i) f h m one selects x
 
-  local_print : (x : ℕ) (es : List ExpressionTree) → IsInitialised f.slots (Local x (Some es)) → f.params ≤ x → AllByRecursion A es → Everywhere (HasText h) (initialised (plan_of f) x es)
+  local_print : (x : ℕ) (es : List ExpressionTree) → IsInitialised f.slots (Local x (Some es)) → f.params ≤ x → AllByRecursion A es →
+      Everywhere (HasText h) (initialised (plan_of f) x es)
   local_print x es i a v = at (slice_get f.slots x) refl i
     where
       initialisers : (s r : Slot) → Some s ≡ Some r → AreInitialisers 1024 s.cells es → AreInitialisers 1024 r.cells es
       initialisers s r e j = subst (λ c. AreInitialisers 1024 c es) (ap cells_in e) j
 
-      at : (o : Option Slot) → slice_get f.slots x ≡ o → IsSomeAnd o (λ (s : Slot). AreInitialisers 1024 s.cells es) → Everywhere (HasText h) (initialised (plan_of f) x es)
+      at : (o : Option Slot) → slice_get f.slots x ≡ o → IsSomeAnd o (λ (s : Slot). AreInitialisers 1024 s.cells es) →
+          Everywhere (HasText h) (initialised (plan_of f) x es)
       at None e j = absurd j
       at (Some s) e j =
           let b = slice_get_within f.slots x s e in
@@ -172,7 +178,8 @@ module _ (f h : Function) (m : IsMovedForm f h) (params : f.params ≤ length f.
           let w = m.is_flat in
           let q = w.more_slots in
           let l = longer in
-          assigned_print r.kind x r.cells es (slot_named x (omega (arith, a, p)) (omega (arith, b, q, l))) (initialisers s r (sym e ∙ entry_there f.slots x b) j) v
+          assigned_print r.kind x r.cells es (slot_named x (omega (arith, a, p)) (omega (arith, b, q, l)))
+          (initialisers s r (sym e ∙ entry_there f.slots x b) j) v
 
   abbrev Given : Tree → Type 0
   Given x = HasText h x × (IsInitialised f.slots x × Declared (λ y. f.params ≤ y) x)
@@ -192,7 +199,8 @@ module _ (f h : Function) (m : IsMovedForm f h) (params : f.params ≤ length f.
       let p = moved_params f h m params in
       slot_named (slot_of f h m l) (omega (arith, low, q, p, params)) (omega (arith, high, e))
 
-  picks : (s : SelectorTree) (k : IntKind) → promoted k ≡ k → A (selector_source s) → SelectorLabels (Left f h m) s → ArePicks k s → A (picked (slot_of f h m) k s)
+  picks : (s : SelectorTree) (k : IntKind) → promoted k ≡ k → A (selector_source s) → SelectorLabels (Left f h m) s → ArePicks k s →
+      A (picked (slot_of f h m) k s)
   picks (Selects e) k q i l p = i
   picks (Pick n z s) k q i l p = (guard_named n l.0, constant_prints h.slots k z q p.0, picks s k q i l.1 p.1)
 
@@ -220,7 +228,8 @@ module _ (f h : Function) (m : IsMovedForm f h) (params : f.params ≤ length f.
   text_there counts all r s =
       facts_of_plain A A A Returns IsComment (λ e i. i) f h m one selects guards
       (everywhere_map Given FromSource from_source (body_of f)
-      (everywhere_both (HasText h) (λ x. IsInitialised f.slots x × Declared (λ y. f.params ≤ y) x) (body_of f) (spelled_prints f h.slots name_over (body_of f) s)
+      (everywhere_both (HasText h) (λ x. IsInitialised f.slots x × Declared (λ y. f.params ≤ y) x) (body_of f)
+      (spelled_prints f h.slots name_over (body_of f) s)
       (everywhere_both (IsInitialised f.slots) (Declared (λ y. f.params ≤ y)) (body_of f) r.initialised (function_declared counts all f r))))
 
   -- ---- first parts and declarations
@@ -255,7 +264,8 @@ module _ (f h : Function) (m : IsMovedForm f h) (params : f.params ≤ length f.
   declarations_simple : (base end : ℕ) (a : Forest) → AreDeclarations base end a → length m.flat_form.slots ≤ base → end ≤ length h.slots → Everywhere Simple a
   declarations_simple base end Nil none l q = tt
   declarations_simple base end (Then x a) (one_more (variable y) r) l q = ((tt, inl refl), declarations_simple base end a r l q)
-  declarations_simple base end (Then x a) (one_more (guarding y i j) r) l q = ((tt, inr (refl, omega (arith, l, i), omega (arith, j, q))), declarations_simple base end a r l q)
+  declarations_simple base end (Then x a) (one_more (guarding y i j) r) l q =
+      ((tt, inr (refl, omega (arith, l, i), omega (arith, j, q))), declarations_simple base end a r l q)
 
   first_nil : (first : Forest) → first ≡ Nil → plain_list (slot_of f h m) first ≡ Nil
   first_nil first e = ap (plain_list (slot_of f h m)) e
@@ -288,8 +298,10 @@ module _ (f h : Function) (m : IsMovedForm f h) (params : f.params ≤ length f.
       let e = moved_length f h m params in
       subst (Everywhere Simple) (sym (plain_trees f h m))
       (tidy_everywhere Simple (λ x i. (nil_tidy x i.0, locals_tidy Zeros x i.1)) (join d (plain_list slot new))
-      (join_everywhere Simple d (plain_list slot new) (declarations_simple _ _ d (are_declared (reached_of f h m) (labels_of f h m)) (omega arith) (omega (arith, e)))
-      (plain_everywhere slot (λ x. IsConverted x × IsPlainFor x) Simple item_simple new (everywhere_both IsConverted IsPlainFor new m.made.converted m.made.loops))))
+      (join_everywhere Simple d (plain_list slot new) (declarations_simple _ _ d (are_declared (reached_of f h m) (labels_of f h m)) (omega arith)
+      (omega (arith, e)))
+      (plain_everywhere slot (λ x. IsConverted x × IsPlainFor x) Simple item_simple new
+      (everywhere_both IsConverted IsPlainFor new m.made.converted m.made.loops))))
 
   module _ (counts : FlatCounts) (all : List Top) (resolved : IsResolvedFunction counts all h) where
     -- a guard is a number, and its value 0
@@ -349,12 +361,18 @@ module _ (f h : Function) (m : IsMovedForm f h) (params : f.params ≤ length f.
     ready counts' ts' r s =
         let a = body_of h in
         let simple = all_simple in
-        let plain = subst (Everywhere IsPlainItem) (sym (plain_trees f h m)) (tidy_plain (body_before f h m params) (plain_of h (body_before f h m params) (moved_ready f h m params))) in
-        let locals = everywhere_map (λ x. OfLocals Zeros x × (Declared (λ y. h.params ≤ y) x × ItemSlots (λ y. y < length h.slots) x)) (OfLocals (Printed h)) printed a
-        (everywhere_both (OfLocals Zeros) (λ x. Declared (λ y. h.params ≤ y) x × ItemSlots (λ y. y < length h.slots) x) a (everywhere_map Simple (OfLocals Zeros) (λ x i. i.1) a simple)
-        (everywhere_both (Declared (λ y. h.params ≤ y)) (ItemSlots (λ y. y < length h.slots)) a (function_declared counts all h resolved) (function_ranged counts all h resolved).slots)) in
+        let plain = subst (Everywhere IsPlainItem) (sym (plain_trees f h m))
+        (tidy_plain (body_before f h m params) (plain_of h (body_before f h m params) (moved_ready f h m params))) in
+        let locals = everywhere_map (λ x. OfLocals Zeros x × (Declared (λ y. h.params ≤ y) x × ItemSlots (λ y. y < length h.slots) x))
+        (OfLocals (Printed h)) printed a
+        (everywhere_both (OfLocals Zeros) (λ x. Declared (λ y. h.params ≤ y) x × ItemSlots (λ y. y < length h.slots) x) a
+        (everywhere_map Simple (OfLocals Zeros) (λ x i. i.1) a simple)
+        (everywhere_both (Declared (λ y. h.params ≤ y)) (ItemSlots (λ y. y < length h.slots)) a (function_declared counts all h resolved)
+        (function_ranged counts all h resolved).slots)) in
         everywhere_both (HasText h) (λ x. IsPlainItem x × (NilFirst x × OfLocals (Printed h) x)) a (text_there counts' ts' r s)
-        (everywhere_both IsPlainItem (λ x. NilFirst x × OfLocals (Printed h) x) a plain (everywhere_both NilFirst (OfLocals (Printed h)) a (everywhere_map Simple NilFirst (λ x i. i.0) a simple) locals))
+        (everywhere_both IsPlainItem (λ x. NilFirst x × OfLocals (Printed h) x) a plain
+        (everywhere_both NilFirst (OfLocals (Printed h)) a (everywhere_map Simple NilFirst (λ x i. i.0) a simple) locals))
 
-    pub moved_items : (counts' : FlatCounts) (ts' : List Top) → IsResolvedFunction counts' ts' f → AreSpelled f (body_of f) → most_counted (body_of h) ≤ most → AreSpelled h (body_of h)
+    pub moved_items : (counts' : FlatCounts) (ts' : List Top) → IsResolvedFunction counts' ts' f → AreSpelled f (body_of f) →
+        most_counted (body_of h) ≤ most → AreSpelled h (body_of h)
     moved_items counts' ts' r s w = spelled_list h (body_of h) (ready counts' ts' r s) w

@@ -41,7 +41,8 @@ module _ (p : Program) where
   top_own c (T.Global g) r h = tt
   top_own c (T.Note bytes) r h = tt
 
-  pub tops_own : (c : Code) (ts : List Top) → AllByRecursion (IsTopReady c given) ts → AllByRecursion (TopHasNames p) ts → AllByRecursion (IsTopOwn p.tops given) ts
+  pub tops_own : (c : Code) (ts : List Top) → AllByRecursion (IsTopReady c given) ts → AllByRecursion (TopHasNames p) ts →
+      AllByRecursion (IsTopOwn p.tops given) ts
   tops_own c [] r h = tt
   tops_own c (t ∷ ts) r h = (top_own c t r.0 h.0, tops_own c ts r.1 h.1)
 

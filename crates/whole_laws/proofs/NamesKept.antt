@@ -54,7 +54,11 @@ pub extended : (n : ℕ) (ss ts : List Slot) → ExtendSlots ss ts → take n ts
 extended n [] ts h e c = tt
 extended n (s ∷ ss) [] h e c = absurd h
 extended zero (s ∷ ss) (t ∷ ts) h e c = (record { kind = sym h.0; cells = sym h.1; constant = λ f. c.0 }, extended zero ss ts h.2 refl c.1)
-extended (suc n) (s ∷ ss) (t ∷ ts) h e c = (subst (SameVariable s) (sym (same_first n s t ss ts e)) (self_variable s), extended n ss ts h.2 (same_rest n s t ss ts e) c)
+extended (suc n) (s ∷ ss) (t ∷ ts) h e c = (
+  subst (SameVariable s) (sym (same_first n s t ss ts e)) (self_variable s),
+  extended n ss ts h.2
+      (same_rest n s t ss ts e) c,
+)
 
 -- the variable in the same place
 abbrev pub Found : Slot → Option Slot → Type 0
@@ -75,7 +79,8 @@ pub record KeepsNames (n k : Names) : Type 0 where
 some_found : (a : Option Slot) (s : Slot) → a ≡ Some s → Found s a
 some_found a s e = subst (Found s) (sym e) (self_variable s)
 
-pub names_kept : (n k : Names) → KeepsSlots n.slots k.slots → ((m : List ℕ) → variable k (H.Global m) ≡ variable n (H.Global m)) → ((m : List ℕ) → callee k m ≡ callee n m) → KeepsNames n k
+pub names_kept : (n k : Names) → KeepsSlots n.slots k.slots → ((m : List ℕ) → variable k (H.Global m) ≡ variable n (H.Global m)) →
+    ((m : List ℕ) → callee k m ≡ callee n m) → KeepsNames n k
 names_kept n k h g c = record { variables = at; callees = c }
   where
     at : (h : Home) (s : Slot) → variable n h ≡ Some s → Found s (variable k h)
@@ -109,7 +114,11 @@ module _ (n k : Names) (kept : KeepsNames n k) where
   const_over s v w e (inr h) = inr (e.constant h)
 
   array_for_over : (defined : Bool) (s : Slot) (x : ExpressionTree) → IsArrayFor n defined s x → IsArrayFor k defined s x
-  array_for_over defined s (Typed kind (Array h)) i = (i.0, some_over (λ v. (v.kind ≡ s.kind) × KeepsConst s v) (λ v. (v.kind ≡ s.kind) × KeepsConst s v) (λ v w e j. (e.kind ∙ j.0, const_over s v w e j.1)) h i.1)
+  array_for_over defined s (Typed kind (Array h)) i = (
+    i.0,
+    some_over (λ v. (v.kind ≡ s.kind) × KeepsConst s v)
+        (λ v. (v.kind ≡ s.kind) × KeepsConst s v) (λ v w e j. (e.kind ∙ j.0, const_over s v w e j.1)) h i.1,
+  )
   array_for_over defined s (Typed kind (Number z)) i = absurd i
   array_for_over defined s (Typed kind (Character b)) i = absurd i
   array_for_over defined s (Typed kind (EnumName m z)) i = absurd i
@@ -131,7 +140,11 @@ module _ (n k : Names) (kept : KeepsNames n k) where
 
   arguments_over : (defined : Bool) (ss : List Slot) (xs : Arguments) → ArgumentsFit n defined ss xs → ArgumentsFit k defined ss xs
   arguments_over defined [] NoArgument h = tt
-  arguments_over defined (s ∷ ss) (Argument x xs) h = (cells_over s.cells (HasValue x) (IsArrayFor n defined s x) (IsArrayFor k defined s x) (array_for_over defined s x) h.0, arguments_over defined ss xs h.1)
+  arguments_over defined (s ∷ ss) (Argument x xs) h = (
+    cells_over s.cells (HasValue x) (IsArrayFor n defined s x) (IsArrayFor k defined s x)
+        (array_for_over defined s x) h.0,
+    arguments_over defined ss xs h.1,
+  )
   arguments_over defined [] (Argument x xs) h = absurd h
   arguments_over defined (s ∷ ss) NoArgument h = absurd h
 

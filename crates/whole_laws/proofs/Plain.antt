@@ -28,7 +28,8 @@ module _ (slot : ℕ → ℕ) where
     plain_notes_of (If t a b) = both (notes (plain_list slot a)) (notes a) (notes (plain_list slot b)) (notes b) (plain_notes a) (plain_notes b)
     plain_notes_of (While t a) = plain_notes a
     plain_notes_of (Do a t) = plain_notes a
-    plain_notes_of (For first t u a) = both (notes (plain_list slot first)) (notes first) (notes (plain_list slot a)) (notes a) (plain_notes first) (plain_notes a)
+    plain_notes_of (For first t u a) = both (notes (plain_list slot first)) (notes first) (notes (plain_list slot a)) (notes a) (plain_notes first)
+        (plain_notes a)
     plain_notes_of (Switch s c) = plain_notes_in c
     plain_notes_of (Block a) = plain_notes a
     plain_notes_of (Arm l e) = refl
@@ -37,7 +38,8 @@ module _ (slot : ℕ → ℕ) where
 
     plain_notes_in : (c : Sections) → notes_among (plain_sections slot c) ≡ notes_among c
     plain_notes_in NoSection = refl
-    plain_notes_in (Section cases default a ends c) = both (notes (plain_list slot a)) (notes a) (notes_among (plain_sections slot c)) (notes_among c) (plain_notes a) (plain_notes_in c)
+    plain_notes_in (Section cases default a ends c) = both (notes (plain_list slot a)) (notes a) (notes_among (plain_sections slot c)) (notes_among c)
+        (plain_notes a) (plain_notes_in c)
 
 declarations : (base end : ℕ) (a : Forest) → AreDeclarations base end a → notes a ≡ []
 declarations base end Nil none = refl
@@ -62,7 +64,8 @@ cut_notes Nil e = refl
 cut_notes (Then x Nil) e = sym (ap (λ l. l ++ []) (break_none x e))
 cut_notes (Then x (Then y a)) e = ap (λ l. notes_in x ++ l) (cut_notes (Then y a) e)
 
-give_notes : (cases : List ExpressionTree) (default : Bool) (a : Forest) (ends : Bool) (c : Sections) → notes_among (give cases default a ends c) ≡ notes a ++ notes_among c
+give_notes : (cases : List ExpressionTree) (default : Bool) (a : Forest) (ends : Bool) (c : Sections) →
+    notes_among (give cases default a ends c) ≡ notes a ++ notes_among c
 give_notes cases default Nil false NoSection = refl
 give_notes cases default Nil false (Section cases' default' b ends c) = refl
 give_notes cases default Nil true c = refl
@@ -74,7 +77,8 @@ second_holds false y h = cc
 
 put_notes : (b : Bool) (cases : List ExpressionTree) (default : Bool) (a : Forest) (ends : Bool) (c : Sections) → (not ends && last_break a) ≡ b
     → notes_among (cond b (give cases default (without_last a) true c) (give cases default a ends c)) ≡ notes a ++ notes_among c
-put_notes true cases default a ends c e = give_notes cases default (without_last a) true c ∙ ap (λ l. l ++ notes_among c) (cut_notes a (second_holds (not ends) (last_break a) e))
+put_notes true cases default a ends c e = give_notes cases default (without_last a) true c ∙ ap (λ l. l ++ notes_among c)
+    (cut_notes a (second_holds (not ends) (last_break a) e))
 put_notes false cases default a ends c e = give_notes cases default a ends c
 
 mutual
@@ -94,11 +98,13 @@ mutual
   tidy_notes_in : (c : Sections) → notes_among (tidy_sections c) ≡ notes_among c
   tidy_notes_in NoSection = refl
   tidy_notes_in (Section cases default a ends c) =
-      put_notes (not ends && last_break (tidy a)) cases default (tidy a) ends (tidy_sections c) refl ∙ both (notes (tidy a)) (notes a) (notes_among (tidy_sections c)) (notes_among c) (tidy_notes a) (tidy_notes_in c)
+      put_notes (not ends && last_break (tidy a)) cases default (tidy a) ends (tidy_sections c) refl ∙
+      both (notes (tidy a)) (notes a) (notes_among (tidy_sections c)) (notes_among c) (tidy_notes a) (tidy_notes_in c)
 
 -- ---- functions
 
-by_flat : (b : Bool) (names : List (List ℕ)) (f : Function) (xs : List Item) → notes (body_of (cond b (with_guard_variables names f xs) (record f { body = Some (tidied xs) }))) ≡ notes (trees_of xs)
+by_flat : (b : Bool) (names : List (List ℕ)) (f : Function) (xs : List Item) →
+    notes (body_of (cond b (with_guard_variables names f xs) (record f { body = Some (tidied xs) }))) ≡ notes (trees_of xs)
 by_flat true names f xs =
     let ls = labels_left xs 0 names in
     ap notes (P.flat_body names f xs)
@@ -107,7 +113,8 @@ by_flat true names f xs =
     ∙ plain_notes (slot_among _ ls) (trees_of xs)
 by_flat false names f xs = ap notes (tidied_trees xs) ∙ tidy_notes (trees_of xs)
 
-by_body : (names : List (List ℕ)) (f : Function) (o : Option (List Item)) → f.body ≡ o → notes (body_of (plain_body names f o)) ≡ notes (option_map_or trees_of o Nil)
+by_body : (names : List (List ℕ)) (f : Function) (o : Option (List Item)) → f.body ≡ o →
+    notes (body_of (plain_body names f o)) ≡ notes (option_map_or trees_of o Nil)
 by_body names f None e = ap (λ o. notes (option_map_or trees_of o Nil)) e
 by_body names f (Some xs) e = by_flat f.flat names f xs
 

@@ -71,7 +71,8 @@ first_name (suc k) (suc n) (s ∷ ss) (t ∷ ts) e b = first_name k n ss ts (ap 
 
 -- ---- the scopes of the plain form of a function with jumps, in those of the file
 
-module _ (f h : Function) (m : IsMovedForm f h) (params : f.params ≤ length f.slots) (ts : List Top) (own : HasOwnNames ts h) (file : List Scope) (no_slots : (n : List ℕ) → IsNoSlot (look_up file n))
+module _ (f h : Function) (m : IsMovedForm f h) (params : f.params ≤ length f.slots) (ts : List Top) (own : HasOwnNames ts h) (file : List Scope)
+    (no_slots : (n : List ℕ) → IsNoSlot (look_up file n))
     (unbound : (n : List ℕ) → IsFreeIn ts n → is_known n ≡ false → look_up file n ≡ None) where
   abbrev P : ℕ
   P = h.params
@@ -104,17 +105,23 @@ module _ (f h : Function) (m : IsMovedForm f h) (params : f.params ≤ length f.
   nowhere : Each (λ k. IsNowhere (slot_name h.slots k)) ks
   nowhere =
       let D = drop P h.slots in
-      let besides = each_map (λ (s : Slot). Each (λ (t : Slot). t.name ≢ s.name) (take P h.slots)) (λ s. found s.name parameters ≡ None) (λ s d. found_beside P 0 h.slots [] s.name d) D own.beside in
-      let free = each_map (λ (s : Slot). IsFreeIn ts s.name × (is_known s.name ≡ false)) (λ s. look_up file s.name ≡ None) (λ s d. unbound s.name d.0 d.1) D (each_both (λ (s : Slot). IsFreeIn ts s.name) (λ s. is_known s.name ≡ false) D own.free own.unknown) in
-      each_under (slot_name h.slots) IsNowhere ks (subst (Each IsNowhere) (sym names) (each_name IsNowhere D (each_both (λ (s : Slot). found s.name parameters ≡ None) (λ s. look_up file s.name ≡ None) D besides free)))
+      let besides = each_map (λ (s : Slot). Each (λ (t : Slot). t.name ≢ s.name) (take P h.slots)) (λ s. found s.name parameters ≡ None)
+      (λ s d. found_beside P 0 h.slots [] s.name d) D own.beside in
+      let free = each_map (λ (s : Slot). IsFreeIn ts s.name × (is_known s.name ≡ false)) (λ s. look_up file s.name ≡ None)
+      (λ s d. unbound s.name d.0 d.1) D (each_both (λ (s : Slot). IsFreeIn ts s.name) (λ s. is_known s.name ≡ false) D own.free own.unknown) in
+      each_under (slot_name h.slots) IsNowhere ks
+      (subst (Each IsNowhere) (sym names)
+      (each_name IsNowhere D (each_both (λ (s : Slot). found s.name parameters ≡ None) (λ s. look_up file s.name ≡ None) D besides free)))
 
   slot_bound : (k : ℕ) → P ≤ k → k < length h.slots → look_up last (slot_name h.slots k) ≡ Some (AVariable (Home.Slot k))
   slot_bound k a b =
       let w = within in
-      ap (λ o. option_or o (look_up file (slot_name h.slots k))) (found_declared h.slots P (length h.slots - P) parameters k a (omega (arith, a, b, w)) distinct)
+      ap (λ o. option_or o (look_up file (slot_name h.slots k)))
+      (found_declared h.slots P (length h.slots - P) parameters k a (omega (arith, a, b, w)) distinct)
 
   others : (n : List ℕ) (b : Meaning) → look_up base n ≡ Some b → look_up last n ≡ Some b
-  others n b e = ap (λ o. option_or o (look_up file n)) (found_undeclared h.slots ks parameters n (each_map (λ k. IsNowhere (slot_name h.slots k)) (λ k. slot_name h.slots k ≢ n) differ ks nowhere)) ∙ e
+  others n b e = ap (λ o. option_or o (look_up file n)) (found_undeclared h.slots ks parameters n
+      (each_map (λ k. IsNowhere (slot_name h.slots k)) (λ k. slot_name h.slots k ≢ n) differ ks nowhere)) ∙ e
     where
       differ : (k : ℕ) → IsNowhere (slot_name h.slots k) → slot_name h.slots k ≢ n
       differ k w q = none_some b (sym ((λ i. option_or (w.0 i) (w.1 i))) ∙ ap (look_up base) q ∙ e)
@@ -122,7 +129,8 @@ module _ (f h : Function) (m : IsMovedForm f h) (params : f.params ≤ length f.
   same_base : with_parameters f.params 0 f.slots (inside file) ≡ base
   same_base =
       let d = moved_declared f h m params in
-      sym ((λ i. with_parameters (moved_params f h m params i) 0 h.slots (inside file)) ∙ parameters_take f.params 0 f.slots h.slots (inside file) (ap (λ n. take n h.slots) (sym (moved_params f h m params)) ∙ d.parameters))
+      sym ((λ i. with_parameters (moved_params f h m params i) 0 h.slots (inside file)) ∙
+      parameters_take f.params 0 f.slots h.slots (inside file) (ap (λ n. take n h.slots) (sym (moved_params f h m params)) ∙ d.parameters))
       ∙ parameters_bound P 0 h.slots [] file
 
   named : (k : ℕ) → look_up base (slot_name f.slots k) ≡ Some (AVariable (Home.Slot k)) → slot_name h.slots k ≡ slot_name f.slots k
@@ -138,7 +146,8 @@ module _ (f h : Function) (m : IsMovedForm f h) (params : f.params ≤ length f.
           let p = moved_params f h m params in
           let d = moved_declared f h m params in
           first_name k f.params f.slots h.slots (ap (λ n. take n h.slots) (sym p) ∙ d.parameters) (omega (arith, b, s, p))
-      at (before q) = absurd (no_file (look_up file (slot_name f.slots k)) (no_slots (slot_name f.slots k)) (sym (ap (λ o. option_or o (look_up file (slot_name f.slots k))) q) ∙ e))
+      at (before q) = absurd (no_file (look_up file (slot_name f.slots k)) (no_slots (slot_name f.slots k))
+          (sym (ap (λ o. option_or o (look_up file (slot_name f.slots k))) q) ∙ e))
 
   -- ---- what the rewriting makes is bound
 
@@ -162,12 +171,14 @@ module _ (f h : Function) (m : IsMovedForm f h) (params : f.params ≤ length f.
   assign_bound : (k : IntKind) (x : ℕ) (e : ExpressionTree) → P ≤ x → x < length h.slots → A e → A (assign_number k x e)
   assign_bound k x e a b i = (slot_bound x a b, (tt, i))
 
-  cells_bound : (k : IntKind) (x i : ℕ) (es : List ExpressionTree) (n : ℕ) → P ≤ x → x < length h.slots → AllByRecursion A es → Everywhere HasNames (assigned_cells k x i es n)
+  cells_bound : (k : IntKind) (x i : ℕ) (es : List ExpressionTree) (n : ℕ) → P ≤ x → x < length h.slots → AllByRecursion A es →
+      Everywhere HasNames (assigned_cells k x i es n)
   cells_bound k x i (e ∷ es) n a b j = ((slot_bound x a b, ((tt, tt), j.0)), cells_bound k x (suc i) es n a b j.1)
   cells_bound k x i [] zero a b j = tt
   cells_bound k x i [] (suc n) a b j = ((slot_bound x a b, ((tt, tt), (tt, tt))), cells_bound k x (suc i) [] n a b tt)
 
-  assigned_bound : (k : IntKind) (x : ℕ) (o : Option ℕ) (es : List ExpressionTree) → P ≤ x → x < length h.slots → AllByRecursion A es → Everywhere HasNames (assigned k x o es)
+  assigned_bound : (k : IntKind) (x : ℕ) (o : Option ℕ) (es : List ExpressionTree) → P ≤ x → x < length h.slots → AllByRecursion A es →
+      Everywhere HasNames (assigned k x o es)
   assigned_bound k x None [] a b j = tt
   assigned_bound k x None (e ∷ es) a b j = (assign_bound k x e a b j.0, tt)
   assigned_bound k x (Some n) es a b j = cells_bound k x 0 es _ a b j
@@ -183,8 +194,11 @@ module _ (f h : Function) (m : IsMovedForm f h) (params : f.params ≤ length f.
       let p = moved_params f h m params in
       let l = longer in
       let low : P ≤ v = omega (arith, a, p) in
-      let high : v < length h.slots = omega (arith, b, l) in
-      (assign_bound (switch_kind t) v (selector_source t) low high i, λ z. (tt, ((slot_bound v low high, tt), constant_bound (switch_kind t) (converted (switch_kind t) z))))
+      let high : v < length h.slots = omega (arith, b, l) in (
+        assign_bound (switch_kind t) v (selector_source t) low high i,
+        λ z.
+            (tt, ((slot_bound v low high, tt), constant_bound (switch_kind t) (converted (switch_kind t) z))),
+      )
 
   abbrev FromSource : Tree → Type 0
   FromSource x = Source A A A Returns AnyNote (λ e i. i) f h m (tt, tt) selects x
@@ -279,7 +293,8 @@ module _ (f h : Function) (m : IsMovedForm f h) (params : f.params ≤ length f.
   binds (Arrival e) i = absurd i.1.1
   binds (Note bs) i = (tt, tt)
 
-  pub moved_bound : AreBound f.slots (with_parameters f.params 0 f.slots (inside file)) (body_of f) → Everywhere (DeclaresIn f.params (length f.slots)) (body_of f) → AreBound h.slots (with_parameters P 0 h.slots (inside file)) (body_of h)
+  pub moved_bound : AreBound f.slots (with_parameters f.params 0 f.slots (inside file)) (body_of f) →
+      Everywhere (DeclaresIn f.params (length f.slots)) (body_of f) → AreBound h.slots (with_parameters P 0 h.slots (inside file)) (body_of h)
   moved_bound bound declares =
       let d = decls f h m params in
       let b = items f h m params in
@@ -288,17 +303,25 @@ module _ (f h : Function) (m : IsMovedForm f h) (params : f.params ≤ length f.
       let w = m.is_flat in
       let l = longer in
       let q = w.more_slots in
-      let source = source_seen f.slots h.slots f.params (length f.slots) base last (λ k i j. slot_bound k (omega (arith, i, p)) (omega (arith, j, l, q))) others named (body_of f) (subst (λ sc. AreBound f.slots sc (body_of f)) same_base bound) declares in
-      let given = everywhere_map (λ x. HasNames x × DeclaresIn f.params (length f.slots) x) FromSource from_source (body_of f) (everywhere_both HasNames (DeclaresIn f.params (length f.slots)) (body_of f) source declares) in
+      let source = source_seen f.slots h.slots f.params (length f.slots) base last
+      (λ k i j. slot_bound k (omega (arith, i, p)) (omega (arith, j, l, q))) others named (body_of f)
+      (subst (λ sc. AreBound f.slots sc (body_of f)) same_base bound) declares in
+      let given = everywhere_map (λ x. HasNames x × DeclaresIn f.params (length f.slots) x) FromSource from_source (body_of f)
+      (everywhere_both HasNames (DeclaresIn f.params (length f.slots)) (body_of f) source declares) in
       let all = facts_of_plain A A A Returns AnyNote (λ e i. i) f h m (tt, tt) selects guards given in
       let same = plain_trees f h m ∙ tidy_declared _ _ d b is_declared in
       let names_there = everywhere_back HasNames d (tidy b) (subst (Everywhere HasNames) same all) in
-      let undeclared = tidy_everywhere Undeclaring (locals_tidy (λ x es. ⊥)) b (plain_everywhere (slot_of f h m) IsConverted Undeclaring undeclaring (trees_of m.new) m.made.converted) in
+      let undeclared = tidy_everywhere Undeclaring (locals_tidy (λ x es. ⊥)) b
+      (plain_everywhere (slot_of f h m) IsConverted Undeclaring undeclaring (trees_of m.new) m.made.converted) in
       let plain = tidy_plain b (everywhere_back IsPlainItem d b (plain_of h (body_before f h m params) (moved_ready f h m params))) in
-      let nothing = everywhere_map (λ x. HasNames x × (Undeclaring x × IsPlainItem x)) (BindsNothing h.slots last) binds (tidy b) (everywhere_both HasNames (λ x. Undeclaring x × IsPlainItem x) (tidy b) names_there (everywhere_both Undeclaring IsPlainItem (tidy b) undeclared plain)) in
+      let nothing = everywhere_map (λ x. HasNames x × (Undeclaring x × IsPlainItem x)) (BindsNothing h.slots last) binds (tidy b)
+      (everywhere_both HasNames (λ x. Undeclaring x × IsPlainItem x) (tidy b) names_there
+      (everywhere_both Undeclaring IsPlainItem (tidy b) undeclared plain)) in
       let numbers = declarations_gathered f h m params in
       let behind = declarations_bind h.slots _ _ d parameters file is_declared ∙ ap (λ l. declared_scope h.slots l parameters ∷ file) numbers in
       let first = declarations_bound h.slots _ _ d parameters file is_declared (subst (λ l. AllDiffer (map (slot_name h.slots) l)) (sym numbers) distinct)
-      (subst (Each (λ k. found (slot_name h.slots k) parameters ≡ None)) (sym numbers) (each_map (λ k. IsNowhere (slot_name h.slots k)) (λ k. found (slot_name h.slots k) parameters ≡ None) (λ k i. i.0) ks nowhere)) in
-      let whole = bound_join h.slots d (tidy b) base first (subst (λ sc. AreBound h.slots sc (tidy b)) (sym behind) (one_scope h.slots last (tidy b) nothing)) in
+      (subst (Each (λ k. found (slot_name h.slots k) parameters ≡ None)) (sym numbers)
+      (each_map (λ k. IsNowhere (slot_name h.slots k)) (λ k. found (slot_name h.slots k) parameters ≡ None) (λ k i. i.0) ks nowhere)) in
+      let whole = bound_join h.slots d (tidy b) base first (subst (λ sc. AreBound h.slots sc (tidy b)) (sym behind)
+      (one_scope h.slots last (tidy b) nothing)) in
       subst (λ sc. AreBound h.slots sc (body_of h)) (sym (parameters_bound P 0 h.slots [] file)) (subst (AreBound h.slots base) (sym same) whole)

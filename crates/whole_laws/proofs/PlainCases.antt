@@ -134,7 +134,8 @@ tidy_section_cases k c h =
     }
 
 tidy_item_cases : (x : Tree) → HasSectionCases x → HasSectionCases (tidy_item x)
-tidy_item_cases (Switch s c) h = some_and (λ k. AreSectionCases k c) (λ k. AreSectionCases k (tidy_sections c)) (λ k i. tidy_section_cases k c i) (selector_kind s) h
+tidy_item_cases (Switch s c) h = some_and (λ k. AreSectionCases k c) (λ k. AreSectionCases k (tidy_sections c)) (λ k i. tidy_section_cases k c i)
+    (selector_kind s) h
 tidy_item_cases (If t a b) h = tt
 tidy_item_cases (While t a) h = tt
 tidy_item_cases (Do a t) h = tt
@@ -174,10 +175,12 @@ both_lists a b c d e f = (λ i. e i ++ f i)
 mutual
   arrivals_left : (a : Forest) → arrivals (unlabelled a) ≡ arrivals a
   arrivals_left Nil = refl
-  arrivals_left (Then x a) = arrivals_join (unlabelled_item x) (unlabelled a) ∙ both_lists (arrivals (unlabelled_item x)) (arrivals (unlabelled a)) (arrivals_of x) (arrivals a) (arrivals_left_of x) (arrivals_left a)
+  arrivals_left (Then x a) = arrivals_join (unlabelled_item x) (unlabelled a) ∙
+      both_lists (arrivals (unlabelled_item x)) (arrivals (unlabelled a)) (arrivals_of x) (arrivals a) (arrivals_left_of x) (arrivals_left a)
 
   arrivals_left_of : (x : Tree) → arrivals (unlabelled_item x) ≡ arrivals_of x
-  arrivals_left_of (If t a b) = no_more _ ∙ both_lists (arrivals (unlabelled a)) (arrivals (unlabelled b)) (arrivals a) (arrivals b) (arrivals_left a) (arrivals_left b)
+  arrivals_left_of (If t a b) = no_more _ ∙ both_lists (arrivals (unlabelled a)) (arrivals (unlabelled b)) (arrivals a) (arrivals b) (arrivals_left a)
+      (arrivals_left b)
   arrivals_left_of (While t a) = no_more _ ∙ arrivals_left a
   arrivals_left_of (Do a t) = no_more _ ∙ arrivals_left a
   arrivals_left_of (For first t u a) = no_more _ ∙ arrivals_left a
@@ -198,7 +201,8 @@ mutual
 
 labels_left : (c : Sections) → switch_labels (unlabelled_among c) ≡ switch_labels c
 labels_left NoSection = refl
-labels_left (Section cases default a ends c) = ap (λ l. section_labels cases default ++ l) (both_lists (arrivals (unlabelled a)) (switch_labels (unlabelled_among c)) (arrivals a) (switch_labels c) (arrivals_left a) (labels_left c))
+labels_left (Section cases default a ends c) = ap (λ l. section_labels cases default ++ l)
+    (both_lists (arrivals (unlabelled a)) (switch_labels (unlabelled_among c)) (arrivals a) (switch_labels c) (arrivals_left a) (labels_left c))
 
 leaf_cases : (x : Tree) → IsLeaf x → HasCases x → HasCases x
 leaf_cases x i h = h
@@ -209,16 +213,19 @@ cases_left = record {
   whiles = λ t a h. tt;
   dos = λ t a h. tt;
   fors = λ first t u a h. tt;
-  switches = λ s c h. some_and (λ k. AreLabels k (switch_labels c)) (λ k. AreLabels k (switch_labels (unlabelled_among c))) (λ k i. subst (AreLabels k) (sym (labels_left c)) i) (selector_kind s) h;
+  switches = λ s c h. some_and (λ k. AreLabels k (switch_labels c)) (λ k. AreLabels k (switch_labels (unlabelled_among c)))
+      (λ k i. subst (AreLabels k) (sym (labels_left c)) i) (selector_kind s) h;
   blocks = λ a h. tt;
   leaves = leaf_cases;
 }
 
-pub unmoved_cases : (f h : Function) (m : IsUnmovedForm f h) → Everywhere IsPlainItem (unlabelled (body_of f)) → Everywhere HasCases (body_of f) → Everywhere HasCases (body_of h)
+pub unmoved_cases : (f h : Function) (m : IsUnmovedForm f h) → Everywhere IsPlainItem (unlabelled (body_of f)) → Everywhere HasCases (body_of f) →
+    Everywhere HasCases (body_of h)
 unmoved_cases f h m p k =
     let a = unlabelled (body_of f) in
     subst (Everywhere HasCases) (sym (left_trees f h m))
-    (tidied_cases a p (everywhere_map (λ x. HasCases x × IsUnscattered x) HasSectionCases of_cases a (everywhere_both HasCases IsUnscattered a (left HasCases HasCases cases_left (body_of f) k) (all_unscattered a p))))
+    (tidied_cases a p (everywhere_map (λ x. HasCases x × IsUnscattered x) HasSectionCases of_cases a
+    (everywhere_both HasCases IsUnscattered a (left HasCases HasCases cases_left (body_of f) k) (all_unscattered a p))))
 
 -- ---- with jumps: the constants of cases are those of the source
 
@@ -246,9 +253,12 @@ constants_of NoSection h = tt
 constants_of (Section cases default a ends c) h =
     let rest = arrivals a ++ switch_labels c in
     let i = subst (Each IsConstantValue) (cases_append (section_labels cases default) rest) h in
-    let first = subst (Each IsConstantValue) (section_cases cases default) (each_front IsConstantValue (cases_among (section_labels cases default)) (cases_among rest) i) in
-    let later = subst (Each IsConstantValue) (cases_append (arrivals a) (switch_labels c)) (each_back IsConstantValue (cases_among (section_labels cases default)) (cases_among rest) i) in
-    each_join IsConstantValue cases (all_cases c) first (constants_of c (each_back IsConstantValue (cases_among (arrivals a)) (cases_among (switch_labels c)) later))
+    let first = subst (Each IsConstantValue) (section_cases cases default)
+    (each_front IsConstantValue (cases_among (section_labels cases default)) (cases_among rest) i) in
+    let later = subst (Each IsConstantValue) (cases_append (arrivals a) (switch_labels c))
+    (each_back IsConstantValue (cases_among (section_labels cases default)) (cases_among rest) i) in
+    each_join IsConstantValue cases (all_cases c) first
+    (constants_of c (each_back IsConstantValue (cases_among (arrivals a)) (cases_among (switch_labels c)) later))
 
 labels_constants : (o : Option IntKind) (c : Sections) → IsSomeAnd o (λ k. AreLabels k (switch_labels c)) → Each IsConstantValue (all_cases c)
 labels_constants None c h = absurd h
@@ -305,8 +315,11 @@ constant_item (Note bs) h = tt
 
 all_differ : {A : Type 0} (xs : List A) → AllPairs (λ m n. m ≢ n) xs → AllDiffer xs
 all_differ [] h = tt
-all_differ (x ∷ xs) h =
-    (each_map (λ y. x ≢ y) (λ y. y ≢ x) (λ y d e. d (sym e)) xs (recursion_from_All (λ y. x ≢ y) xs (λ i d b. h 0 (suc i) d (omega arith) (omega (arith, b)))), all_differ xs (λ i j d a b. h (suc i) (suc j) d (omega (arith, a)) (omega (arith, b))))
+all_differ (x ∷ xs) h = (
+  each_map (λ y. x ≢ y) (λ y. y ≢ x) (λ y d e. d (sym e)) xs
+      (recursion_from_All (λ y. x ≢ y) xs (λ i d b. h 0 (suc i) d (omega arith) (omega (arith, b)))),
+  all_differ xs (λ i j d a b. h (suc i) (suc j) d (omega (arith, a)) (omega (arith, b))),
+)
 
 kind_some : (slot : ℕ → ℕ) (k : IntKind) (s : SelectorTree) → IsSome (kind_of (selector_source s)) → IsSome (kind_of (picked slot k s))
 kind_some slot k (Selects e) h = h
@@ -329,7 +342,8 @@ plain_defaults slot NoSection = refl
 plain_defaults slot (Section cases true a ends c) = ap (λ n. 1 + n) (plain_defaults slot c)
 plain_defaults slot (Section cases false a ends c) = ap (λ n. 0 + n) (plain_defaults slot c)
 
-section_cases_of : (slot : ℕ → ℕ) (k : IntKind) (c : Sections) → defaults c ≤ 1 → AllByRecursion IsConstantValue (all_cases c) → AreCases k c → AreSectionCases k (plain_sections slot c)
+section_cases_of : (slot : ℕ → ℕ) (k : IntKind) (c : Sections) → defaults c ≤ 1 → AllByRecursion IsConstantValue (all_cases c) → AreCases k c →
+    AreSectionCases k (plain_sections slot c)
 section_cases_of slot k c d h w =
     let e = sym (plain_cases slot c) in
     record {
@@ -345,7 +359,8 @@ IsCased x = HasConstants x × (HasSelectorKind x × (HasEntries x × WellMade.Ha
 cased_plain : (slot : ℕ → ℕ) (x : Tree) → IsCased x → HasSectionCases (plain_item slot x)
 cased_plain slot (Switch s c) h =
     let o = kind_of (selector_source s) in
-    kind_cases (kind_of (plain_selector slot s)) (switch_kind s) (λ k. AreSectionCases k (plain_sections slot c)) (kind_some slot (switch_kind s) s h.1.0) (picked_kind slot s)
+    kind_cases (kind_of (plain_selector slot s)) (switch_kind s) (λ k. AreSectionCases k (plain_sections slot c))
+    (kind_some slot (switch_kind s) s h.1.0) (picked_kind slot s)
     (section_cases_of slot (switch_kind s) c h.1.1.0.1 h.0.1 (well_cases o c h.1.0 h.1.1.1))
 cased_plain slot (If t a b) h = tt
 cased_plain slot (While t a) h = tt
@@ -396,7 +411,8 @@ module _ (f h : Function) (m : IsMovedForm f h) (params : f.params ≤ length f.
   from_source (Note bs) g = (tt, tt)
 
   constants_moved : Everywhere HasCases (body_of f) → Everywhere HasConstants (trees_of m.new)
-  constants_moved k = facts_moved Any Any IsConstantValue AnyReturned AnyNote (λ e i. tt) f h m tt (λ t v a w b. (tt, λ z. tt)) (everywhere_map HasCases FromSource from_source (body_of f) k)
+  constants_moved k = facts_moved Any Any IsConstantValue AnyReturned AnyNote (λ e i. tt) f h m tt (λ t v a w b. (tt, λ z. tt))
+      (everywhere_map HasCases FromSource from_source (body_of f) k)
 
   pub moved_cases : Everywhere IsPlainItem (body_before f h m params) → Everywhere HasCases (body_of f) → Everywhere HasCases (body_of h)
   moved_cases p k =
@@ -408,4 +424,5 @@ module _ (f h : Function) (m : IsMovedForm f h) (params : f.params ≤ length f.
       (join_everywhere HasSectionCases decls (plain_list slot new) (declarations_cases _ _ decls (are_declared (reached_of f h m) (labels_of f h m)))
       (plain_everywhere slot IsCased HasSectionCases (cased_plain slot) new
       (everywhere_both HasConstants (λ x. HasSelectorKind x × (HasEntries x × WellMade.HasCases x)) new (constants_moved k)
-      (everywhere_both HasSelectorKind (λ x. HasEntries x × WellMade.HasCases x) new m.made.selectors (everywhere_both HasEntries WellMade.HasCases new m.made.entries m.made.cases))))))
+      (everywhere_both HasSelectorKind (λ x. HasEntries x × WellMade.HasCases x) new m.made.selectors
+      (everywhere_both HasEntries WellMade.HasCases new m.made.entries m.made.cases))))))

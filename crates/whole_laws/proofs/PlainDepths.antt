@@ -170,13 +170,15 @@ module _ (ts : List Top) (f h : Function) (g : IsResolvedFunction flat_counts ts
   flat_shallow : nesting flattened ≤ nesting source
   flat_shallow =
       let c = coded constant f.slots n source in
-      flat_depth (numbered (marks (flat c (first_here (length f.slots)) Stays Stays NoArrival source)) c) (first_here (length f.slots)) Stays Stays NoArrival source good.items
+      flat_depth (numbered (marks (flat c (first_here (length f.slots)) Stays Stays NoArrival source)) c) (first_here (length f.slots)) Stays Stays
+      NoArrival source good.items
 
   moved_shallow : nesting (trees_of d.middle) ≤ nesting flattened + 3 * gotos flattened
   moved_shallow =
       let made = made_laws.of_bodies constant f.slots n source good in
       let there : trees_of (converted_list m.body) ≡ convert flattened = converted_trees m.body ∙ ap convert (flat_trees f h m) in
-      depth_laws.whole flattened (converted_list m.body) d.moves d.middle there (no_leaps _ flattened made.items) (subst IsWellMade (sym there) (made_laws.of_conversions constant f.slots n source good)) d.derives
+      depth_laws.whole flattened (converted_list m.body) d.moves d.middle there (no_leaps _ flattened made.items)
+      (subst IsWellMade (sym there) (made_laws.of_conversions constant f.slots n source good)) d.derives
 
   -- three levels more for each goto of the flat form
   pub moved_levels : depth (body_of h) ≤ depth (body_of f) + 3 * (counts_of (measured_form (body_of f))).0

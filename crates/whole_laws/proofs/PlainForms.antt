@@ -36,7 +36,8 @@ use Rattle.whole_laws.proofs.TidyForm.{Ready, IsTidied, tidy_plain, not_loose, u
 no_false : (b : Bool) → b ≡ true → b ≡ false → ⊥
 no_false b e h = true≢false (sym e ∙ h)
 
-pub tidied_form : (h : Function) (X : Forest) → body_of h ≡ tidy X → h.flat ≡ false → is_some h.body ≡ true → h.labels ≡ [] → h.params ≤ length h.slots → Everywhere (Ready h) X
+pub tidied_form : (h : Function) (X : Forest) → body_of h ≡ tidy X → h.flat ≡ false → is_some h.body ≡ true → h.labels ≡ [] →
+    h.params ≤ length h.slots → Everywhere (Ready h) X
     → gathered declared_slot X ≡ numbers_from h.params (length h.slots - h.params) → breaks X + continues X ≡ 0 → HasForm h
 tidied_form h X e unflat some labels params ready slots exits =
     let plain = tidy_plain X (plain_of h X ready) in
@@ -74,7 +75,8 @@ module _ (g : Tree → List ℕ) where
 variables_gathered : (ks : List ℕ) → gathered declared_slot (trees_of (map variable_declared ks)) ≡ ks
 variables_gathered [] = ap (gathered declared_slot) trees-none
 variables_gathered (k ∷ ks) =
-    ap (gathered declared_slot) (trees-more (variable_declared k) (map variable_declared ks) ∙ ap (λ x. Then x (trees_of (map variable_declared ks))) (tree-Local k None))
+    ap (gathered declared_slot) (trees-more (variable_declared k) (map variable_declared ks) ∙
+    ap (λ x. Then x (trees_of (map variable_declared ks))) (tree-Local k None))
     ∙ ap (λ l. k ∷ l) (variables_gathered ks)
 
 guards_gathered : (ks : List ℕ) → gathered declared_slot (trees_of (map guard_declared ks)) ≡ ks
@@ -83,14 +85,16 @@ guards_gathered (k ∷ ks) =
     ap (gathered declared_slot) (trees-more (guard_declared k) (map guard_declared ks) ∙ ap (λ x. Then x (trees_of (map guard_declared ks))) (guard_local k))
     ∙ ap (λ l. k ∷ l) (guards_gathered ks)
 
-declared_gathered : (f : Function) (ls : List ℕ) → f.params ≤ length f.slots → gathered declared_slot (trees_of (declared f ls)) ≡ numbers_from f.params (length f.slots + length ls - f.params)
+declared_gathered : (f : Function) (ls : List ℕ) → f.params ≤ length f.slots →
+    gathered declared_slot (trees_of (declared f ls)) ≡ numbers_from f.params (length f.slots + length ls - f.params)
 declared_gathered f ls h =
     let n = length f.slots - f.params in
     let vs = map variable_declared (Plain.numbers_from f.params n) in
     let gs = map guard_declared (Plain.numbers_from (length f.slots) (length ls)) in
     ap (gathered declared_slot) (trees-append vs gs)
     ∙ gathered_join declared_slot (trees_of vs) (trees_of gs)
-    ∙ ap₂ (λ k l. k ++ l) (variables_gathered (Plain.numbers_from f.params n) ∙ numbers_same f.params n) (guards_gathered (Plain.numbers_from (length f.slots) (length ls)) ∙ numbers_same (length f.slots) (length ls))
+    ∙ ap₂ (λ k l. k ++ l) (variables_gathered (Plain.numbers_from f.params n) ∙ numbers_same f.params n)
+    (guards_gathered (Plain.numbers_from (length f.slots) (length ls)) ∙ numbers_same (length f.slots) (length ls))
     ∙ (let e : length f.slots ≡ f.params + n = omega (arith, h) in ap (λ j. numbers_from f.params n ++ numbers_from j (length ls)) e)
     ∙ numbers_join f.params n (length ls)
     ∙ (let e : n + length ls ≡ length f.slots + length ls - f.params = omega (arith, h) in ap (numbers_from f.params) e)
@@ -140,13 +144,16 @@ module _ (h : Function) (slot : ℕ → ℕ) where
   mutual
     undeclared : (a : Forest) → Everywhere IsConverted a → gathered declared_slot (plain_list slot a) ≡ []
     undeclared Nil k = refl
-    undeclared (Then x a) k = none_of (gathered_of declared_slot (plain_item slot x)) (gathered declared_slot (plain_list slot a)) (undeclared_of x k.0) (undeclared a k.1)
+    undeclared (Then x a) k = none_of (gathered_of declared_slot (plain_item slot x)) (gathered declared_slot (plain_list slot a))
+        (undeclared_of x k.0) (undeclared a k.1)
 
     undeclared_of : (x : Tree) → EverywhereOf IsConverted x → gathered_of declared_slot (plain_item slot x) ≡ []
-    undeclared_of (If t a b) k = none_of (gathered declared_slot (plain_list slot a)) (gathered declared_slot (plain_list slot b)) (undeclared a k.1) (undeclared b k.2)
+    undeclared_of (If t a b) k = none_of (gathered declared_slot (plain_list slot a)) (gathered declared_slot (plain_list slot b)) (undeclared a k.1)
+        (undeclared b k.2)
     undeclared_of (While t a) k = undeclared a k.1
     undeclared_of (Do a t) k = undeclared a k.1
-    undeclared_of (For first t u a) k = none_of (gathered declared_slot (plain_list slot first)) (gathered declared_slot (plain_list slot a)) (undeclared first k.1) (undeclared a k.2)
+    undeclared_of (For first t u a) k = none_of (gathered declared_slot (plain_list slot first)) (gathered declared_slot (plain_list slot a))
+        (undeclared first k.1) (undeclared a k.2)
     undeclared_of (Switch s c) k = undeclared_in c k.1
     undeclared_of (Block a) k = undeclared a k.1
     undeclared_of (Local x es) k = absurd k
@@ -164,7 +171,8 @@ module _ (h : Function) (slot : ℕ → ℕ) where
 
     undeclared_in : (c : Sections) → EverywhereIn IsConverted c → gathered_in declared_slot (plain_sections slot c) ≡ []
     undeclared_in NoSection k = refl
-    undeclared_in (Section cases default a ends c) k = none_of (gathered declared_slot (plain_list slot a)) (gathered_in declared_slot (plain_sections slot c)) (undeclared a k.0) (undeclared_in c k.1)
+    undeclared_in (Section cases default a ends c) k = none_of (gathered declared_slot (plain_list slot a))
+        (gathered_in declared_slot (plain_sections slot c)) (undeclared a k.0) (undeclared_in c k.1)
 
   both_sums : (a b c d : ℕ) → a ≡ c → b ≡ d → a + b ≡ c + d
   both_sums a b c d e f = (λ i. e i + f i)
@@ -172,7 +180,8 @@ module _ (h : Function) (slot : ℕ → ℕ) where
   mutual
     breaks_plain : (a : Forest) → breaks (plain_list slot a) ≡ breaks a
     breaks_plain Nil = refl
-    breaks_plain (Then x a) = both_sums (breaks_of (plain_item slot x)) (breaks (plain_list slot a)) (breaks_of x) (breaks a) (breaks_plain_of x) (breaks_plain a)
+    breaks_plain (Then x a) = both_sums (breaks_of (plain_item slot x)) (breaks (plain_list slot a)) (breaks_of x) (breaks a) (breaks_plain_of x)
+        (breaks_plain a)
 
     breaks_plain_of : (x : Tree) → breaks_of (plain_item slot x) ≡ breaks_of x
     breaks_plain_of (If t a b) = both_sums (breaks (plain_list slot a)) (breaks (plain_list slot b)) (breaks a) (breaks b) (breaks_plain a) (breaks_plain b)
@@ -183,10 +192,12 @@ module _ (h : Function) (slot : ℕ → ℕ) where
   mutual
     continues_plain : (a : Forest) → continues (plain_list slot a) ≡ continues a
     continues_plain Nil = refl
-    continues_plain (Then x a) = both_sums (continues_of (plain_item slot x)) (continues (plain_list slot a)) (continues_of x) (continues a) (continues_plain_of x) (continues_plain a)
+    continues_plain (Then x a) = both_sums (continues_of (plain_item slot x)) (continues (plain_list slot a)) (continues_of x) (continues a)
+        (continues_plain_of x) (continues_plain a)
 
     continues_plain_of : (x : Tree) → continues_of (plain_item slot x) ≡ continues_of x
-    continues_plain_of (If t a b) = both_sums (continues (plain_list slot a)) (continues (plain_list slot b)) (continues a) (continues b) (continues_plain a) (continues_plain b)
+    continues_plain_of (If t a b) = both_sums (continues (plain_list slot a)) (continues (plain_list slot b)) (continues a) (continues b)
+        (continues_plain a) (continues_plain b)
     continues_plain_of (For first t u a) = continues_plain first
     continues_plain_of (Switch s c) = continues_plain_in c
     continues_plain_of (Block a) = continues_plain a
@@ -194,7 +205,8 @@ module _ (h : Function) (slot : ℕ → ℕ) where
 
     continues_plain_in : (c : Sections) → continues_in (plain_sections slot c) ≡ continues_in c
     continues_plain_in NoSection = refl
-    continues_plain_in (Section cases default a ends c) = both_sums (continues (plain_list slot a)) (continues_in (plain_sections slot c)) (continues a) (continues_in c) (continues_plain a) (continues_plain_in c)
+    continues_plain_in (Section cases default a ends c) = both_sums (continues (plain_list slot a)) (continues_in (plain_sections slot c))
+        (continues a) (continues_in c) (continues_plain a) (continues_plain_in c)
 
 breaks_join : (a b : Forest) → breaks (join a b) ≡ breaks a + breaks b
 breaks_join Nil b = omega arith
@@ -206,8 +218,10 @@ continues_join (Then x a) b = let e = continues_join a b in omega (arith, e)
 
 declarations_exit : (base end : ℕ) (a : Forest) → AreDeclarations base end a → (breaks a ≡ 0) × (continues a ≡ 0)
 declarations_exit base end Nil none = (refl, refl)
-declarations_exit base end (Then x a) (one_more (variable y) r) = let i = declarations_exit base end a r in let b = i.0 in let c = i.1 in (omega (arith, b), omega (arith, c))
-declarations_exit base end (Then x a) (one_more (guarding y k j) r) = let i = declarations_exit base end a r in let b = i.0 in let c = i.1 in (omega (arith, b), omega (arith, c))
+declarations_exit base end (Then x a) (one_more (variable y) r) = let i = declarations_exit base end a r in let b = i.0 in let c = i.1 in
+    (omega (arith, b), omega (arith, c))
+declarations_exit base end (Then x a) (one_more (guarding y k j) r) = let i = declarations_exit base end a r in let b = i.0 in let c = i.1 in
+    (omega (arith, b), omega (arith, c))
 
 module _ (f h : Function) (m : IsMovedForm f h) (params : f.params ≤ length f.slots) where
   abbrev pub decls : Forest
@@ -225,7 +239,8 @@ module _ (f h : Function) (m : IsMovedForm f h) (params : f.params ≤ length f.
       join_everywhere (Ready h) decls items (declarations_ready h (slot_of f h m) _ _ decls (are_declared (reached_of f h m) (labels_of f h m)))
       (plain_everywhere (slot_of f h m) IsBare (Ready h) (bare_ready h (slot_of f h m)) (trees_of m.new)
       (everywhere_both IsConverted (λ x. IsNoLeap x × (HasEntries x × IsPlainFor x)) (trees_of m.new) m.made.converted
-      (everywhere_both IsNoLeap (λ x. HasEntries x × IsPlainFor x) (trees_of m.new) m.leapless (everywhere_both HasEntries IsPlainFor (trees_of m.new) m.made.entries m.made.loops))))
+      (everywhere_both IsNoLeap (λ x. HasEntries x × IsPlainFor x) (trees_of m.new) m.leapless
+      (everywhere_both HasEntries IsPlainFor (trees_of m.new) m.made.entries m.made.loops))))
 
   pub moved_length : length h.slots ≡ length m.flat_form.slots + length (labels_of f h m)
   moved_length =
@@ -268,7 +283,8 @@ module _ (f h : Function) (m : IsMovedForm f h) (params : f.params ≤ length f.
 
   pub moved_form : HasForm h
   moved_form =
-      tidied_form h body_before (plain_trees f h m) (ap (λ (k : Function). k.flat) m.plain) (ap (λ (k : Function). is_some k.body) m.plain) (ap (λ (k : Function). k.labels) m.plain) moved_within
+      tidied_form h body_before (plain_trees f h m) (ap (λ (k : Function). k.flat) m.plain) (ap (λ (k : Function). is_some k.body) m.plain)
+      (ap (λ (k : Function). k.labels) m.plain) moved_within
       moved_ready moved_gathered moved_exits
 
 -- ---- a body without jumps and labels
@@ -318,14 +334,17 @@ module _ (g : Tree → List ℕ) (none : (l : ℕ) → g (Mark l) ≡ []) where
   mutual
     gathered_left : (a : Forest) → gathered g (unlabelled a) ≡ gathered g a
     gathered_left Nil = refl
-    gathered_left (Then x a) = gathered_join g (unlabelled_item x) (unlabelled a) ∙ both_lists (gathered g (unlabelled_item x)) (gathered g (unlabelled a)) (gathered_of g x) (gathered g a) (gathered_left_of x) (gathered_left a)
+    gathered_left (Then x a) = gathered_join g (unlabelled_item x) (unlabelled a) ∙
+        both_lists (gathered g (unlabelled_item x)) (gathered g (unlabelled a)) (gathered_of g x) (gathered g a) (gathered_left_of x) (gathered_left a)
 
     gathered_left_of : (x : Tree) → gathered g (unlabelled_item x) ≡ gathered_of g x
-    gathered_left_of (If t a b) = one_gathered (If t (unlabelled a) (unlabelled b)) _ (both_lists (gathered g (unlabelled a)) (gathered g (unlabelled b)) (gathered g a) (gathered g b) (gathered_left a) (gathered_left b))
+    gathered_left_of (If t a b) = one_gathered (If t (unlabelled a) (unlabelled b))
+        _ (both_lists (gathered g (unlabelled a)) (gathered g (unlabelled b)) (gathered g a) (gathered g b) (gathered_left a) (gathered_left b))
     gathered_left_of (While t a) = one_gathered (While t (unlabelled a)) _ (gathered_left a)
     gathered_left_of (Do a t) = one_gathered (Do (unlabelled a) t) _ (gathered_left a)
     gathered_left_of (For first t u a) =
-        one_gathered (For (unlabelled first) t u (unlabelled a)) _ (both_lists (gathered g (unlabelled first)) (gathered g (unlabelled a)) (gathered g first) (gathered g a) (gathered_left first) (gathered_left a))
+        one_gathered (For (unlabelled first) t u (unlabelled a))
+        _ (both_lists (gathered g (unlabelled first)) (gathered g (unlabelled a)) (gathered g first) (gathered g a) (gathered_left first) (gathered_left a))
     gathered_left_of (Switch s c) = one_gathered (Switch s (unlabelled_among c)) _ (gathered_left_in c)
     gathered_left_of (Block a) = one_gathered (Block (unlabelled a)) _ (gathered_left a)
     gathered_left_of (Mark l) = sym (none l)
@@ -343,7 +362,8 @@ module _ (g : Tree → List ℕ) (none : (l : ℕ) → g (Mark l) ≡ []) where
 
     gathered_left_in : (c : Sections) → gathered_in g (unlabelled_among c) ≡ gathered_in g c
     gathered_left_in NoSection = refl
-    gathered_left_in (Section cases default a ends c) = both_lists (gathered g (unlabelled a)) (gathered_in g (unlabelled_among c)) (gathered g a) (gathered_in g c) (gathered_left a) (gathered_left_in c)
+    gathered_left_in (Section cases default a ends c) = both_lists (gathered g (unlabelled a)) (gathered_in g (unlabelled_among c)) (gathered g a)
+        (gathered_in g c) (gathered_left a) (gathered_left_in c)
 
 mutual
   breaks_left : (a : Forest) → breaks (unlabelled a) ≡ breaks a
@@ -360,7 +380,8 @@ mutual
 mutual
   continues_left : (a : Forest) → continues (unlabelled a) ≡ continues a
   continues_left Nil = refl
-  continues_left (Then x a) = let e = continues_join (unlabelled_item x) (unlabelled a) in let i = continues_left_of x in let j = continues_left a in omega (arith, e, i, j)
+  continues_left (Then x a) = let e = continues_join (unlabelled_item x) (unlabelled a) in let i = continues_left_of x in let j = continues_left a in
+      omega (arith, e, i, j)
 
   continues_left_of : (x : Tree) → continues (unlabelled_item x) ≡ continues_of x
   continues_left_of (If t a b) = let i = continues_left a in let j = continues_left b in omega (arith, i, j)
@@ -381,13 +402,16 @@ module _ (f h : Function) (m : IsUnmovedForm f h) (s : IsSourceFunction f) (form
   pub unmoved_ready : Everywhere (Ready h) (unlabelled (body_of f))
   unmoved_ready =
       subst (λ ss. Everywhere (λ x. IsPlainItem x × IsTidied ss x) (unlabelled (body_of f))) (sym (unmoved_slots f h m))
-      (everywhere_both IsPlainItem (IsTidied f.slots) (unlabelled (body_of f)) left_plain (left (HasSourceForm f) (IsTidied f.slots) (left_tidied f) (body_of f) form.items))
+      (everywhere_both IsPlainItem (IsTidied f.slots) (unlabelled (body_of f)) left_plain
+      (left (HasSourceForm f) (IsTidied f.slots) (left_tidied f) (body_of f) form.items))
 
   pub unmoved_form : HasForm h
   unmoved_form =
       tidied_form h (unlabelled (body_of f)) (left_trees f h m)
-      (ap (λ (k : Function). k.flat) m.plain ∙ m.is_left.flat) (ap (λ (k : Function). is_some k.body) m.plain) (ap (λ (k : Function). k.labels) m.plain ∙ m.is_left.labels)
+      (ap (λ (k : Function). k.flat) m.plain ∙ m.is_left.flat) (ap (λ (k : Function). is_some k.body) m.plain)
+      (ap (λ (k : Function). k.labels) m.plain ∙ m.is_left.labels)
       (subst (λ n. n ≤ length h.slots) (sym (unmoved_params f h m)) (subst (λ ss. f.params ≤ length ss) (sym (unmoved_slots f h m)) form.parameters))
       unmoved_ready
-      (gathered_left declared_slot (λ l. refl) (body_of f) ∙ form.slots ∙ (λ i. numbers_from (sym (unmoved_params f h m) i) (length (sym (unmoved_slots f h m) i) - sym (unmoved_params f h m) i)))
+      (gathered_left declared_slot (λ l. refl) (body_of f) ∙ form.slots ∙
+      (λ i. numbers_from (sym (unmoved_params f h m) i) (length (sym (unmoved_slots f h m) i) - sym (unmoved_params f h m) i)))
       ((λ i. breaks_left (body_of f) i + continues_left (body_of f) i) ∙ form.exits)

@@ -50,7 +50,8 @@ counted_none false n P e = tt
 
 module _ (k : Names) (result : Option IntKind) (a : Forest) (h : Everywhere (HasKinds k result) a) (p : Everywhere IsPlainItem a) where
   agreeing : Everywhere (Agrees k result) a
-  agreeing = everywhere_map (λ x. HasKinds k result x × IsPlainItem x) (Agrees k result) (λ x g. from_kinds k result x g.0 g.1) a (everywhere_both (HasKinds k result) IsPlainItem a h p)
+  agreeing = everywhere_map (λ x. HasKinds k result x × IsPlainItem x) (Agrees k result) (λ x g. from_kinds k result x g.0 g.1) a
+      (everywhere_both (HasKinds k result) IsPlainItem a h p)
 
   kinds_agree : Everywhere (ItemAgrees k) a
   kinds_agree = everywhere_map (Agrees k result) (ItemAgrees k) (λ x g. g.0) a agreeing
@@ -156,12 +157,14 @@ module _ (counts : FlatCounts) (p : Program) (r : IsResolvedWith counts p) (us :
   other_top (T.Global g) n h = global_top g _ h
   other_top (T.Note bytes) n h = tt
 
-  top_resolved : {Own : Function → Function → Type 0} {t u : Top} → PlainTop Own t u → IsTopInRange u → IsResolvedTop counts p.tops t → IsResolvedTop flat_counts us u
+  top_resolved : {Own : Function → Function → Type 0} {t u : Top} → PlainTop Own t u → IsTopInRange u → IsResolvedTop counts p.tops t →
+      IsResolvedTop flat_counts us u
   top_resolved (pt_moved {f = f} {h = h} m o) range g = moved_function f h g m range
   top_resolved (pt_unmoved {f = f} {h = h} m) range g = unmoved_function f h g m
   top_resolved (pt_declared f e) range g = declared_function f e g
   top_resolved (pt_other t n) range g = other_top t n g
 
-  pub tops_resolved : {Own : Function → Function → Type 0} {ts vs : List Top} → PlainTops Own ts vs → Each IsTopInRange vs → Each (IsResolvedTop counts p.tops) ts → Each (IsResolvedTop flat_counts us) vs
+  pub tops_resolved : {Own : Function → Function → Type 0} {ts vs : List Top} → PlainTops Own ts vs → Each IsTopInRange vs →
+      Each (IsResolvedTop counts p.tops) ts → Each (IsResolvedTop flat_counts us) vs
   tops_resolved pt_none range g = tt
   tops_resolved (pt_more t s) range g = (top_resolved t range.0 g.0, tops_resolved s range.1 g.1)

@@ -60,12 +60,21 @@ module _ (k : Names) (result : Option IntKind) where
   abbrev AreKinds : Forest → Type 0
   AreKinds a = Everywhere (HasKinds k result) a
 
-  cells_have : (kind : IntKind) (x i : ℕ) (es : List ExpressionTree) (m : ℕ) → IsFreeArray k x kind → i + length es + m ≤ 1024 → AllByRecursion (Value k) es → AreKinds (assigned_cells kind x i es m)
-  cells_have kind x i (e ∷ es) m a h v = (value_operand k _ (cell_known k x i kind e a (small_in i (omega (arith, h))) v.0), cells_have kind x (suc i) es m a (omega (arith, h)) v.1)
+  cells_have : (kind : IntKind) (x i : ℕ) (es : List ExpressionTree) (m : ℕ) → IsFreeArray k x kind → i + length es + m ≤ 1024 →
+      AllByRecursion (Value k) es → AreKinds (assigned_cells kind x i es m)
+  cells_have kind x i (e ∷ es) m a h v = (
+    value_operand k _ (cell_known k x i kind e a (small_in i (omega (arith, h))) v.0),
+    cells_have kind x (suc i)
+        es m a (omega (arith, h)) v.1,
+  )
   cells_have kind x i [] zero a h v = tt
-  cells_have kind x i [] (suc m) a h v = (value_operand k _ (cell_known k x i kind _ a (small_in i (omega (arith, h))) (number_known k Int (pos 0) (small_in 0 (omega arith)))), cells_have kind x (suc i) [] m a (omega (arith, h)) tt)
+  cells_have kind x i [] (suc m) a h v = (
+    value_operand k _ (cell_known k x i kind _ a (small_in i (omega (arith, h))) (number_known k Int (pos 0) (small_in 0 (omega arith)))),
+    cells_have kind x (suc i) [] m a (omega (arith, h)) tt,
+  )
 
-  assigned_have : (kind : IntKind) (x : ℕ) (o : Option ℕ) (es : List ExpressionTree) → (o ≡ None → IsFreeNumber k x kind) → (IsSome o → IsFreeArray k x kind) → AreInitialisers 1024 o es → AllByRecursion (Value k) es → AreKinds (assigned kind x o es)
+  assigned_have : (kind : IntKind) (x : ℕ) (o : Option ℕ) (es : List ExpressionTree) → (o ≡ None → IsFreeNumber k x kind) →
+      (IsSome o → IsFreeArray k x kind) → AreInitialisers 1024 o es → AllByRecursion (Value k) es → AreKinds (assigned kind x o es)
   assigned_have kind x None [] n a i v = tt
   assigned_have kind x None (e ∷ es) n a i v = (value_operand k _ (assign_known k x kind e (n refl) v.0), tt)
   assigned_have kind x (Some c) es n a i v = let l = i.0 in let q = i.1 in cells_have kind x 0 es (c - length es) (a refl) (omega (arith, l, q)) v
@@ -77,7 +86,8 @@ returned_over n k kept result e h = (some_map (Value n) (Value k) (λ x v. ((kin
 pub kinds_map : (n k : Names) → KeepsNames n k → (result : Option IntKind) (x : Tree) → HasKinds n result x → HasKinds k result x
 kinds_map n k kept result x h =
     facts_map (Value n) (Operand n) (Known n) (Value k) (Operand k) (Known k) (Returned n result) (Returned k result)
-    (λ e v. ((kinds_over n k kept e v.0.0, consts_over n k kept e v.0.1), v.1)) (λ e v. ((kinds_over n k kept e v.0.0, consts_over n k kept e v.0.1), v.1)) (λ e v. (kinds_over n k kept e v.0, consts_over n k kept e v.1))
+    (λ e v. ((kinds_over n k kept e v.0.0, consts_over n k kept e v.0.1), v.1))
+    (λ e v. ((kinds_over n k kept e v.0.0, consts_over n k kept e v.0.1), v.1)) (λ e v. (kinds_over n k kept e v.0, consts_over n k kept e v.1))
     (returned_over n k kept result) AnyNote AnyNote (λ bs i. i) x h
 
 -- ---- of a function of a resolved program
@@ -89,10 +99,12 @@ module _ (counts : FlatCounts) (ts : List Top) (f : Function) (r : IsResolvedFun
   agreeing : Everywhere (λ x. Agrees N f.result x × HasSourceForm f x) (body_of f)
   agreeing =
       everywhere_both (Agrees N f.result) (HasSourceForm f) (body_of f)
-      (everywhere_both (ItemAgrees N) (λ x. KeepsConsts N x × ReturnFits f.result x) (body_of f) r.kinds (everywhere_both (KeepsConsts N) (ReturnFits f.result) (body_of f) r.consts r.returns)) r.form.items
+      (everywhere_both (ItemAgrees N) (λ x. KeepsConsts N x × ReturnFits f.result x) (body_of f) r.kinds
+      (everywhere_both (KeepsConsts N) (ReturnFits f.result) (body_of f) r.consts r.returns)) r.form.items
 
   pub source_kinds : (k : Names) → KeepsNames N k → Everywhere (HasKinds k f.result) (body_of f)
-  source_kinds k kept = everywhere_map (λ x. Agrees N f.result x × HasSourceForm f x) (HasKinds k f.result) (λ x g. kinds_map N k kept f.result x (to_kinds N f.result f x g)) (body_of f) agreeing
+  source_kinds k kept = everywhere_map (λ x. Agrees N f.result x × HasSourceForm f x) (HasKinds k f.result)
+      (λ x g. kinds_map N k kept f.result x (to_kinds N f.result f x g)) (body_of f) agreeing
 
   -- without jumps
   pub unmoved_kinds : (h : Function) → IsUnmovedForm f h → (k : Names) → KeepsNames N k → Everywhere (HasKinds k f.result) (body_of h)
@@ -107,28 +119,35 @@ module _ (counts : FlatCounts) (ts : List Top) (f : Function) (r : IsResolvedFun
     one = number_known k Int (pos 1) (small_in 1 (omega arith))
 
     selects : (t : SelectorTree) (v : ℕ) → Value k (selector_source t) → IsVariable (setting f m.flat_form) v (switch_kind t) → v < length m.flat_form.slots
-        → Operand k (assign_number (switch_kind t) v (selector_source t)) × Tests (Value k) (Operand k) (Known k) (Returned k f.result) AnyNote constant (switch_kind t) v
+        → Operand k (assign_number (switch_kind t) v (selector_source t)) ×
+        Tests (Value k) (Operand k) (Known k) (Returned k f.result) AnyNote constant (switch_kind t) v
     selects t v s w b =
         let kind = switch_kind t in
-        let free = switch_free f h m params k slots v kind w b in
-        (value_operand k _ (assign_known k v kind (selector_source t) free s), λ z. test_known k v kind z (promoted_twice (operand_kind (kind_of (selector_source t)))) free)
+        let free = switch_free f h m params k slots v kind w b in (
+          value_operand k _ (assign_known k v kind (selector_source t) free s),
+          λ z. test_known k v kind z (promoted_twice (operand_kind (kind_of (selector_source t)))) free,
+        )
 
     abbrev FromSource : Tree → Type 0
     FromSource x = Source (Value k) (Operand k) (Known k) (Returned k f.result) AnyNote (value_operand k) f h m one selects x
 
-    local_has : (x : ℕ) (es : List ExpressionTree) → IsInitialised f.slots (Local x (Some es)) → f.params ≤ x → AllByRecursion (Value k) es → Everywhere (HasKinds k f.result) (initialised (plan_of f) x es)
+    local_has : (x : ℕ) (es : List ExpressionTree) → IsInitialised f.slots (Local x (Some es)) → f.params ≤ x → AllByRecursion (Value k) es →
+        Everywhere (HasKinds k f.result) (initialised (plan_of f) x es)
     local_has x es i p v = at (slice_get f.slots x) refl i
       where
-        at : (o : Option Slot) → slice_get f.slots x ≡ o → IsSomeAnd o (λ (s : Slot). AreInitialisers 1024 s.cells es) → Everywhere (HasKinds k f.result) (initialised (plan_of f) x es)
+        at : (o : Option Slot) → slice_get f.slots x ≡ o → IsSomeAnd o (λ (s : Slot). AreInitialisers 1024 s.cells es) →
+            Everywhere (HasKinds k f.result) (initialised (plan_of f) x es)
         at None e j = absurd j
         at (Some s) e j =
             let b = slice_get_within f.slots x s e in
             let there = entry_there f.slots x b in
             let own = entry_or no_slot f.slots x in
-            assigned_have k f.result own.kind x own.cells es (λ c. block_number f h m params k slots x own there p b c) (λ c. block_array f h m params k slots x own there p b c)
+            assigned_have k f.result own.kind x own.cells es (λ c. block_number f h m params k slots x own there p b c)
+            (λ c. block_array f h m params k slots x own there p b c)
             (initialisers s (sym e ∙ there) j) v
           where
-            initialisers : (s : Slot) → Some s ≡ Some (entry_or no_slot f.slots x) → AreInitialisers 1024 s.cells es → AreInitialisers 1024 (entry_or no_slot f.slots x).cells es
+            initialisers : (s : Slot) → Some s ≡ Some (entry_or no_slot f.slots x) → AreInitialisers 1024 s.cells es →
+                AreInitialisers 1024 (entry_or no_slot f.slots x).cells es
             initialisers s q j = subst (λ c. AreInitialisers 1024 c es) (ap cells_in q) j
 
     abbrev Given : Tree → Type 0
@@ -148,10 +167,12 @@ module _ (counts : FlatCounts) (ts : List Top) (f : Function) (r : IsResolvedFun
     free : (l : ℕ) → Left f h m l → IsFreeNumber k (slot_of f h m l) Int
     free l i = guard_free f h m params k slots l i
 
-    picks : (s : SelectorTree) → Value k (selector_source s) → SelectorLabels (Left f h m) s → ArePicks (switch_kind s) s → Value k (plain_selector (slot_of f h m) s)
+    picks : (s : SelectorTree) → Value k (selector_source s) → SelectorLabels (Left f h m) s → ArePicks (switch_kind s) s →
+        Value k (plain_selector (slot_of f h m) s)
     picks s v l p =
         let j = kind_there (kind_of (selector_source s)) v.1.kind in
-        let start : IsPickable k (switch_kind s) (selector_source s) = record { value = v; own = j.0; same = j.1; promotes = sym (ap (λ o. promoted (operand_kind o)) j.1) } in
+        let start : IsPickable k (switch_kind s) (selector_source s) =
+        record { value = v; own = j.0; same = j.1; promotes = sym (ap (λ o. promoted (operand_kind o)) j.1) } in
         (picked_known k (slot_of f h m) (Left f h m) (switch_kind s) (promoted_twice (operand_kind (kind_of (selector_source s)))) s free start l p).value
 
     guards : GuardFacts (Value k) (Operand k) (Known k) (Returned k f.result) AnyNote (slot_of f h m) (Left f h m)

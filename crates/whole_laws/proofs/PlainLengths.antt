@@ -60,7 +60,8 @@ guard_lengths (suc n) (t ∷ ts) ns l = guard_lengths n ts ns l
 pub moved_lengths : (f h : Function) (m : IsMovedForm f h) → f.params ≤ length f.slots → HasLengths f → HasLengths h
 moved_lengths f h m params l = record {
   parameters = subst (AreLengths _) (sym (moved_declared f h m params).parameters) l.parameters;
-  others = subst (AreLengths IsLength) (sym (λ i. drop (moved_params f h m params i) (moved_slots f h m params i))) (guard_lengths f.params m.flat_form.slots (names_left m.new 0 m.names) (extended_lengths f.params f.slots m.flat_form.slots m.is_flat.slots l.others));
+  others = subst (AreLengths IsLength) (sym (λ i. drop (moved_params f h m params i) (moved_slots f h m params i)))
+      (guard_lengths f.params m.flat_form.slots (names_left m.new 0 m.names) (extended_lengths f.params f.slots m.flat_form.slots m.is_flat.slots l.others));
 }
 
 pub unmoved_lengths : (f h : Function) (m : IsUnmovedForm f h) → HasLengths f → HasLengths h
@@ -141,7 +142,8 @@ module _ (P : ℕ → Option (List ExpressionTree) → Type 0) where
     leaves = locals_leaf;
   }
 
-to_locals : (P : ℕ → Option (List ExpressionTree) → Type 0) (Q : Tree → Type 0) → ((x : ℕ) (es : Option (List ExpressionTree)) → Q (Local x es) → P x es) → (x : Tree) → Q x → OfLocals P x
+to_locals : (P : ℕ → Option (List ExpressionTree) → Type 0) (Q : Tree → Type 0) →
+    ((x : ℕ) (es : Option (List ExpressionTree)) → Q (Local x es) → P x es) → (x : Tree) → Q x → OfLocals P x
 to_locals P Q f (Local x es) h = f x es h
 to_locals P Q f (If t a b) h = tt
 to_locals P Q f (While t a) h = tt
@@ -203,9 +205,11 @@ module _ (f h : Function) (m : IsMovedForm f h) (params : f.params ≤ length f.
       subst (Everywhere (OfLocals Guards)) (sym (plain_trees f h m))
       (tidy_everywhere (OfLocals Guards) (locals_tidy Guards) (join decls (plain_list slot new))
       (everywhere_map P (OfLocals Guards) (to_locals Guards P (λ x es k. k)) (join decls (plain_list slot new))
-      (join_everywhere P decls (plain_list slot new) (declarations_guard base end decls (are_declared (reached_of f h m) (labels_of f h m))) (plain_everywhere slot IsConverted P (guard_item base end slot) new m.made.converted))))
+      (join_everywhere P decls (plain_list slot new) (declarations_guard base end decls (are_declared (reached_of f h m) (labels_of f h m)))
+      (plain_everywhere slot IsConverted P (guard_item base end slot) new m.made.converted))))
 
-  initialised_by : (o : Option Slot) (s : Slot) (es : Option (List ExpressionTree)) → o ≡ Some s → IfSome es (AreInitialisers 1024 s.cells) → SlotIsInitialised o es
+  initialised_by : (o : Option Slot) (s : Slot) (es : Option (List ExpressionTree)) → o ≡ Some s → IfSome es (AreInitialisers 1024 s.cells) →
+      SlotIsInitialised o es
   initialised_by o s es e i = subst (λ p. IsSomeAnd p (λ (r : Slot). IfSome es (AreInitialisers 1024 r.cells))) (sym e) i
 
   guard_initialised : (x : ℕ) (es : Option (List ExpressionTree)) → Guards x es → x < length h.slots → Initialised x es
@@ -225,20 +229,23 @@ module _ (f h : Function) (m : IsMovedForm f h) (params : f.params ≤ length f.
 
   pub moved_initialised : IsInRange h → Everywhere (IsInitialised h.slots) (body_of h)
   moved_initialised r =
-      everywhere_map (λ x. OfLocals Guards x × ItemSlots (λ y. y < length h.slots) x) (IsInitialised h.slots) (λ x k. of_locals h.slots x (both_locals x k)) (body_of h)
+      everywhere_map (λ x. OfLocals Guards x × ItemSlots (λ y. y < length h.slots) x) (IsInitialised h.slots)
+      (λ x k. of_locals h.slots x (both_locals x k)) (body_of h)
       (everywhere_both (OfLocals Guards) (ItemSlots (λ y. y < length h.slots)) (body_of h) guard_locals r.slots)
     where
       both_locals : (x : Tree) → OfLocals Guards x × ItemSlots (λ y. y < length h.slots) x → OfLocals Initialised x
       both_locals x k = to_locals Initialised (λ z. OfLocals Guards z × ItemSlots (λ y. y < length h.slots) z) (λ y es g. guard_initialised y es g.0 g.1.0) x k
 
-pub unmoved_initialised : (f h : Function) (m : IsUnmovedForm f h) → Everywhere (IsInitialised f.slots) (body_of f) → Everywhere (IsInitialised h.slots) (body_of h)
+pub unmoved_initialised : (f h : Function) (m : IsUnmovedForm f h) → Everywhere (IsInitialised f.slots) (body_of f) →
+    Everywhere (IsInitialised h.slots) (body_of h)
 unmoved_initialised f h m k =
     let P = λ (x : ℕ) (es : Option (List ExpressionTree)). SlotIsInitialised (slice_get f.slots x) es in
     let a = unlabelled (body_of f) in
     subst (λ ss. Everywhere (IsInitialised ss) (body_of h)) (sym (unmoved_slots f h m))
     (subst (Everywhere (IsInitialised f.slots)) (sym (left_trees f h m))
     (everywhere_map (OfLocals P) (IsInitialised f.slots) (of_locals f.slots) (tidy a)
-    (tidy_everywhere (OfLocals P) (locals_tidy P) a (left (OfLocals P) (OfLocals P) (locals_left P) (body_of f) (everywhere_map (IsInitialised f.slots) (OfLocals P) (to_locals P (IsInitialised f.slots) (λ x es i. i)) (body_of f) k)))))
+    (tidy_everywhere (OfLocals P) (locals_tidy P) a (left (OfLocals P) (OfLocals P) (locals_left P) (body_of f)
+    (everywhere_map (IsInitialised f.slots) (OfLocals P) (to_locals P (IsInitialised f.slots) (λ x es i. i)) (body_of f) k)))))
 
 -- ---- jumps
 

@@ -26,7 +26,8 @@ get_front [] ys x h = absurd (omega (arith, h))
 get_front (a ∷ xs) ys zero h = refl
 get_front (a ∷ xs) ys (suc x) h = get_front xs ys x (omega (arith, h))
 
-pub get_guard : (xs : List Slot) (ns : List (List ℕ)) (x : ℕ) → length xs ≤ x → x < length xs + length ns → (m : List ℕ) × (slice_get (xs ++ map guard_slot ns) x ≡ Some (guard_slot m))
+pub get_guard : (xs : List Slot) (ns : List (List ℕ)) (x : ℕ) → length xs ≤ x → x < length xs + length ns →
+    (m : List ℕ) × (slice_get (xs ++ map guard_slot ns) x ≡ Some (guard_slot m))
 get_guard [] [] x h i = absurd (omega (arith, i))
 get_guard [] (n ∷ ns) zero h i = (n, refl)
 get_guard [] (n ∷ ns) (suc x) h i = get_guard [] ns x (omega arith) (omega (arith, i))

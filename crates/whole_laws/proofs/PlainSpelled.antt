@@ -104,7 +104,8 @@ module _ (h : Function) where
   test_one (AndOff l t) a b p i c = absurd i
   test_one (OrOn l t) a b p i c = absurd i
 
-  selector_one : (s : SelectorTree) (d : Sections) → Prints h.slots (selector_source s) → IsPlainItem (Switch s d) → counted (selector_source s) ≤ most → SelectorPrints h.slots s
+  selector_one : (s : SelectorTree) (d : Sections) → Prints h.slots (selector_source s) → IsPlainItem (Switch s d) →
+      counted (selector_source s) ≤ most → SelectorPrints h.slots s
   selector_one (Selects e) d p i c = full_one h.slots e p c
   selector_one (Pick l n s) d p i c = absurd i
 
@@ -126,7 +127,8 @@ module _ (h : Function) where
         let n = of_max (most_if t) (max (most_if u) (most_counted a)) most m.1 in
         let o = of_max (most_if u) (most_counted a) most n.1 in
         (subst (StartPrints h.slots) (sym r.0.1.1.0) tt, option_one h.slots t r.0.0.0 n.0, option_one h.slots u r.0.0.1 o.0, spelled_list a r.2 o.1)
-    spelled_item (Switch s d) r c = let m = of_max (counted (selector_source s)) (most_counted_in d) most c in (selector_one s d r.0.0.0 r.0.1.0 m.0, spelled_sections d r.1 r.0.0.1 m.1)
+    spelled_item (Switch s d) r c = let m = of_max (counted (selector_source s)) (most_counted_in d) most c in
+        (selector_one s d r.0.0.0 r.0.1.0 m.0, spelled_sections d r.1 r.0.0.1 m.1)
     spelled_item (Block a) r c = spelled_list a r.1 c
     spelled_item (Local k es) r c = r.1.1.1
     spelled_item (Note bs) r c = r.0
@@ -139,9 +141,13 @@ module _ (h : Function) where
     spelled_item (Land l) r c = absurd r.1.0
     spelled_item (Arrival e) r c = absurd r.1.0
 
-    spelled_sections : (d : Sections) → EverywhereIn IsReady d → AllByRecursion (Prints h.slots) (all_cases d) → most_counted_in d ≤ most → SectionsAreSpelled h d
+    spelled_sections : (d : Sections) → EverywhereIn IsReady d → AllByRecursion (Prints h.slots) (all_cases d) → most_counted_in d ≤ most →
+        SectionsAreSpelled h d
     spelled_sections NoSection r p c = tt
     spelled_sections (Section cases default a ends d) r p c =
         let m = of_max (most_of 3 cases) (max (most_counted a) (most_counted_in d)) most c in
-        let n = of_max (most_counted a) (most_counted_in d) most m.1 in
-        (list_three h.slots cases (each_front (Prints h.slots) cases (all_cases d) p) m.0, spelled_list a r.0 n.0, spelled_sections d r.1 (each_back (Prints h.slots) cases (all_cases d) p) n.1)
+        let n = of_max (most_counted a) (most_counted_in d) most m.1 in (
+          list_three h.slots cases (each_front (Prints h.slots) cases (all_cases d) p) m.0,
+          spelled_list a r.0 n.0,
+          spelled_sections d r.1 (each_back (Prints h.slots) cases (all_cases d) p) n.1,
+        )

@@ -100,7 +100,8 @@ abbrev pub Derived : (Function → Type 0) → Function → Function → Type 0
 Derived Own f h = Own h × IsDerivedForm f h
 
 module _ (Own : Function → Type 0) (c : Code) (names : Function → List (List ℕ)) where
-  pub moved_form : (f g k : Function) (body new : List Item) → has_jumps (body_of f) ≡ true → IsFlatForm f g → g.body ≡ Some body → Rewrites (converted_list body) new → k ≡ with_body (converted g) new → IsReady c names k
+  pub moved_form : (f g k : Function) (body new : List Item) → has_jumps (body_of f) ≡ true → IsFlatForm f g → g.body ≡ Some body →
+      Rewrites (converted_list body) new → k ≡ with_body (converted g) new → IsReady c names k
       → IsMovedForm f (plain_function (names k) k)
   moved_form f g k body new jumps w i r e n = record {
     jumps = jumps;
@@ -118,7 +119,8 @@ module _ (Own : Function → Type 0) (c : Code) (names : Function → List (List
     plain = ap (plain_function (names k)) e ∙ plain_flat (names k) (with_body (converted g) new) new w.flat;
   }
 
-  derived_form : (f g k : Function) (ms : List Move) → has_jumps (body_of f) ≡ true → IsFlatForm f g → IsMoved g k ms → IsReady c names k → IsDerivedForm f (plain_function (names k) k)
+  derived_form : (f g k : Function) (ms : List Move) → has_jumps (body_of f) ≡ true → IsFlatForm f g → IsMoved g k ms → IsReady c names k →
+      IsDerivedForm f (plain_function (names k) k)
   unfolding moved_form
   derived_form f g k ms jumps w m n = record {
     form = moved_form f g k m.body m.new jumps w m.body_is (rewrites_both (derived m.derives) (reached m.reaches)) m.result n;
@@ -131,9 +133,15 @@ module _ (Own : Function → Type 0) (c : Code) (names : Function → List (List
   }
 
   pub unmoved_form : (f g : Function) → has_jumps (body_of f) ≡ false → IsUnlabelledForm f g → IsUnmovedForm f (plain_function (names g) g)
-  unmoved_form f g free w = record { free = free; left = g; is_left = w; plain = ap (plain_body (names g) g) w.new_body ∙ plain_unflat (names g) g w.new w.flat }
+  unmoved_form f g free w = record {
+    free = free;
+    left = g;
+    is_left = w;
+    plain = ap (plain_body (names g) g) w.new_body ∙ plain_unflat (names g) g w.new w.flat;
+  }
 
-  plain_of : {t u v : Top} {ms : List Move} → FlatTop t u → MovedTop u v ms → IsTopReady c names v → IsOwnTop Own names v → PlainTop (Derived Own) t (plain_top names v)
+  plain_of : {t u v : Top} {ms : List Move} → FlatTop t u → MovedTop u v ms → IsTopReady c names v → IsOwnTop Own names v →
+      PlainTop (Derived Own) t (plain_top names v)
   plain_of (ft_flat {f = f} {g = g} jumps w) (mt_moved {g = k} {ms = ms} flat m) n o =
       let d = derived_form f g k ms jumps w m n in
       pt_moved d.form (o (ap (λ (j : Function). j.flat) m.result ∙ w.flat), d)
@@ -141,10 +149,12 @@ module _ (Own : Function → Type 0) (c : Code) (names : Function → List (List
   plain_of (ft_unlabelled free w) (mt_moved flat m) n o = absurd (true≢false (sym flat ∙ w.flat))
   plain_of (ft_unlabelled {f = f} {g = g} free w) (mt_other t unflat) n o = pt_unmoved (unmoved_form f g free w)
   plain_of (ft_declared f e) (mt_moved flat m) n o = absurd (none_is_some f.body m.body e m.body_is)
-  plain_of (ft_declared f e) (mt_other t unflat) n o = subst (λ k. PlainTop (Derived Own) (T.Function f) (T.Function k)) (sym (no_body (names f) f e)) (pt_declared f e)
+  plain_of (ft_declared f e) (mt_other t unflat) n o = subst (λ k. PlainTop (Derived Own) (T.Function f) (T.Function k)) (sym (no_body (names f) f e))
+      (pt_declared f e)
   plain_of (ft_other t q) (mt_moved flat m) n o = absurd q
   plain_of (ft_other t q) (mt_other s unflat) n o = subst (PlainTop (Derived Own) t) (sym (other_plain names t q)) (pt_other t q)
 
-  pub plain_tops : {ts us vs : List Top} {ms : List Move} → FlatTops ts us → MovedTops us vs ms → AllByRecursion (IsTopReady c names) vs → AllByRecursion (IsOwnTop Own names) vs → PlainTops (Derived Own) ts (map (plain_top names) vs)
+  pub plain_tops : {ts us vs : List Top} {ms : List Move} → FlatTops ts us → MovedTops us vs ms → AllByRecursion (IsTopReady c names) vs →
+      AllByRecursion (IsOwnTop Own names) vs → PlainTops (Derived Own) ts (map (plain_top names) vs)
   plain_tops ft_none mt_none n o = pt_none
   plain_tops (ft_more w r) (mt_more m s) n o = pt_more (plain_of w m n.0 o.0) (plain_tops r s n.1 o.1)

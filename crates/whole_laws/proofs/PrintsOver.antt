@@ -67,7 +67,8 @@ module _ (old new : List Slot) (name : (k : ℕ) → IsName (slot_name old k) �
     argument_over : (x : ExpressionTree) → ArgumentPrints (Prints old x) x → ArgumentPrints (Prints new x) x
     argument_over (Typed kind node) h = argument_node kind node h
 
-    argument_node : (kind : Option IntKind) (node : NodeTree) → ArgumentPrints (NodePrints old kind node) (Typed kind node) → ArgumentPrints (NodePrints new kind node) (Typed kind node)
+    argument_node : (kind : Option IntKind) (node : NodeTree) → ArgumentPrints (NodePrints old kind node) (Typed kind node) →
+        ArgumentPrints (NodePrints new kind node) (Typed kind node)
     argument_node kind (Text bs) h = h
     argument_node kind (Number z) h = h
     argument_node kind (Character b) h = h
@@ -156,7 +157,11 @@ module _ (f : Function) (new : List Slot) (name : (k : ℕ) → IsName (slot_nam
     item_prints (If t a b) h = (test_over f.slots new name t h.0, spelled_prints a h.1, spelled_prints b h.2)
     item_prints (While t a) h = (test_over f.slots new name t h.0, spelled_prints a h.1)
     item_prints (Do a t) h = (test_over f.slots new name t h.1, spelled_prints a h.0)
-    item_prints (For first t u a) h = ((option_over f.slots new name t h.1, option_over f.slots new name u h.2), start_over f.slots new name first h.0, spelled_prints a h.3)
+    item_prints (For first t u a) h = (
+      (option_over f.slots new name t h.1, option_over f.slots new name u h.2),
+      start_over f.slots new name first h.0,
+      spelled_prints a h.3,
+    )
     item_prints (Switch s c) h = let r = sections_print c h.1 in ((selector_over f.slots new name s h.0, r.1), r.0)
     item_prints (Block a) h = (tt, spelled_prints a h)
     item_prints (Local k o) h = slot_over f.slots new name (slice_get f.slots k) o h
@@ -172,7 +177,8 @@ module _ (f : Function) (new : List Slot) (name : (k : ℕ) → IsName (slot_nam
 
     sections_print : (c : Sections) → SectionsAreSpelled f c → EverywhereIn Q c × AllByRecursion (λ e. Prints new e) (all_cases c)
     sections_print NoSection h = (tt, tt)
-    sections_print (Section cases default a ends c) h = let r = sections_print c h.2 in ((spelled_prints a h.1, r.0), each_join (λ e. Prints new e) cases (all_cases c) (list_over f.slots new name 3 cases h.0) r.1)
+    sections_print (Section cases default a ends c) h = let r = sections_print c h.2 in
+        ((spelled_prints a h.1, r.0), each_join (λ e. Prints new e) cases (all_cases c) (list_over f.slots new name 3 cases h.0) r.1)
 
 -- ---- constants
 

@@ -32,7 +32,8 @@ own_top ts names (T.Enum xs) h = tt
 own_top ts names (T.Global g) h = tt
 own_top ts names (T.Note bytes) h = tt
 
-own_tops : (ts : List Top) (names : Function → List (List ℕ)) (us : List Top) → AllByRecursion (IsTopOwn ts names) us → AllByRecursion (IsOwnTop (HasOwnNames ts) names) us
+own_tops : (ts : List Top) (names : Function → List (List ℕ)) (us : List Top) → AllByRecursion (IsTopOwn ts names) us →
+    AllByRecursion (IsOwnTop (HasOwnNames ts) names) us
 own_tops ts names [] h = tt
 own_tops ts names (u ∷ us) h = (own_top ts names u h.0, own_tops ts names us h.1)
 
@@ -50,7 +51,8 @@ plain_tops_resolved Own p q r own short tops ranged =
       tops = resolved;
     }
 
-pub own_names : (ts : List Top) (names : Function → List (List ℕ)) (us : List Top) → All (IsTopOwn ts names) us → AllByRecursion (IsOwnTop (HasOwnNames ts) names) us
+pub own_names : (ts : List Top) (names : Function → List (List ℕ)) (us : List Top) → All (IsTopOwn ts names) us →
+    AllByRecursion (IsOwnTop (HasOwnNames ts) names) us
 own_names ts names us h = own_tops ts names us (recursion_from_All (IsTopOwn ts names) us h)
 
 pub plain_form_resolved : PlainFormIsResolved
@@ -58,5 +60,6 @@ plain_form_resolved names p q ms r w named own =
     let ready = resolved_ready flat_counts names p q ms r w named in
     plain_tops_resolved (Derived (HasOwnNames p.tops)) p (plain_with names q) r (λ f h o. o.0)
     (λ f h o g. record { counted = within_counts p.tops f h g o.1; depth = within_levels p.tops f h g o.1 })
-    (plain_tops (HasOwnNames p.tops) (code_of q) names w.flattened w.moved (recursion_from_All (IsTopReady (code_of q) names) q.tops ready) (own_names p.tops names q.tops own))
+    (plain_tops (HasOwnNames p.tops) (code_of q) names w.flattened w.moved (recursion_from_All (IsTopReady (code_of q) names) q.tops ready)
+    (own_names p.tops names q.tops own))
     (plain_laws.ranged names q ready)

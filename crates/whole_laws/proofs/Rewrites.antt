@@ -46,7 +46,8 @@ reached (then {body = body} {new = new} c r n) =
 -- ---- what they keep of each item
 
 module _ (P : Tree → Type 0) (by_moves : (xs ys : Forest) → Changed Moved xs ys → Everywhere P xs → Everywhere P ys)
-    (by_simplifications : (xs ys : Forest) → Changed Simplified xs ys → Everywhere P xs → Everywhere P ys) (by_drops : (l : ℕ) (xs : Forest) → Everywhere P xs → Everywhere P (dropped (eqb l) xs)) where
+    (by_simplifications : (xs ys : Forest) → Changed Simplified xs ys → Everywhere P xs → Everywhere P ys)
+    (by_drops : (l : ℕ) (xs : Forest) → Everywhere P xs → Everywhere P (dropped (eqb l) xs)) where
   simplified_kept : (old new : List Item) → IsSimplified old new → Everywhere P (trees_of old) → Everywhere P (trees_of new)
   simplified_kept old new s h = elim s.either [
     | inl r ↦ by_simplifications (trees_of old) (trees_of new) r h

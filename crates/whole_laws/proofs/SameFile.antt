@@ -29,7 +29,8 @@ pub data SameFile : List Top → List Top → Type 0 where
 agree_over : (f h g k : Function) → SameDeclaration f h → SameDeclaration g k → Agree f g → Agree h k
 agree_over f h g k d e a = record {
   result = d.result ∙ a.result ∙ sym e.result;
-  parameters = subst (λ ss. SameParameters ss (take k.params k.slots)) (sym d.parameters) (subst (SameParameters (take f.params f.slots)) (sym e.parameters) a.parameters);
+  parameters = subst (λ ss. SameParameters ss (take k.params k.slots)) (sym d.parameters)
+      (subst (SameParameters (take f.params f.slots)) (sym e.parameters) a.parameters);
   single = λ s. e.body ∙ a.single (sym d.body ∙ s);
 }
 
@@ -116,7 +117,8 @@ module _ (p : Function → Bool) (same : (f h : Function) → SameDeclaration f 
       (found_if (bytes_eq f.name m && p f) f h (first_function p m ts) (first_function p m us) d (first_over r))
   first_over (sf_other t {ts = ts} {us = us} n r) = by_top t n (first_over r)
     where
-      by_top : (t : Top) → IsNoFunction t → SameFound (first_function p m ts) (first_function p m us) → SameFound (first_function p m (t ∷ ts)) (first_function p m (t ∷ us))
+      by_top : (t : Top) → IsNoFunction t → SameFound (first_function p m ts) (first_function p m us) →
+          SameFound (first_function p m (t ∷ ts)) (first_function p m (t ∷ us))
       by_top (T.Function g) n e = absurd n
       by_top (T.Include bytes) n e = e
       by_top (T.Enum xs) n e = e
@@ -125,7 +127,8 @@ module _ (p : Function → Bool) (same : (f h : Function) → SameDeclaration f 
 
 function_over : (m : List ℕ) {ts us : List Top} → SameFile ts us → SameFound (the_function m ts) (the_function m us)
 function_over m {ts} {us} r =
-    found_or (first_function (λ f. is_some f.body) m ts) (first_function (λ f. is_some f.body) m us) (first_function (λ f. true) m ts) (first_function (λ f. true) m us)
+    found_or (first_function (λ f. is_some f.body) m ts) (first_function (λ f. is_some f.body) m us) (first_function (λ f. true) m ts)
+    (first_function (λ f. true) m us)
     (first_over (λ f. is_some f.body) (λ f h d. d.body) m r) (first_over (λ f. true) (λ f h d. refl) m r)
 
 called_over : (m : List ℕ) (o q : Option Function) → SameFound o q → declared_or (known m) q ≡ declared_or (known m) o
@@ -135,5 +138,6 @@ called_over m None (Some h) r = absurd r
 called_over m (Some f) None r = absurd r
 
 -- a call is of the same function
-pub callee_over : (m : List ℕ) (ss rs : List Slot) {ts us : List Top} → SameFile ts us → callee (record { tops = us; slots = rs }) m ≡ callee (record { tops = ts; slots = ss }) m
+pub callee_over : (m : List ℕ) (ss rs : List Slot) {ts us : List Top} → SameFile ts us →
+    callee (record { tops = us; slots = rs }) m ≡ callee (record { tops = ts; slots = ss }) m
 callee_over m ss rs {ts} {us} r = called_over m (the_function m ts) (the_function m us) (function_over m r)

@@ -48,7 +48,8 @@ module _ (f h : Function) (m : IsMovedForm f h) (params : f.params ≤ length f.
   }
 
   pub moved_keeps : KeepsSlots f.slots h.slots
-  moved_keeps = subst (KeepsSlots f.slots) (sym moved_slots) (keeps_more f.slots m.flat_form.slots more (extended f.params f.slots m.flat_form.slots m.is_flat.slots m.is_flat.parameters m.is_flat.constants))
+  moved_keeps = subst (KeepsSlots f.slots) (sym moved_slots)
+      (keeps_more f.slots m.flat_form.slots more (extended f.params f.slots m.flat_form.slots m.is_flat.slots m.is_flat.parameters m.is_flat.constants))
 
 -- ---- a function without jumps
 
@@ -74,7 +75,8 @@ module _ (f h : Function) (m : IsUnmovedForm f h) where
 
 -- ---- the file
 
-pub same_file : (Own : Function → Function → Type 0) (counts : FlatCounts) (all : List Top) {ts us : List Top} → PlainTops Own ts us → Each (IsResolvedTop counts all) ts → SameFile ts us
+pub same_file : (Own : Function → Function → Type 0) (counts : FlatCounts) (all : List Top) {ts us : List Top} → PlainTops Own ts us →
+    Each (IsResolvedTop counts all) ts → SameFile ts us
 same_file Own counts all pt_none r = sf_none
 same_file Own counts all (pt_more (pt_moved {f = f} {h = h} m o) s) r = sf_function (moved_declared f h m r.0.form.parameters) (same_file Own counts all s r.1)
 same_file Own counts all (pt_more (pt_unmoved {f = f} {h = h} m) s) r = sf_function (unmoved_declared f h m) (same_file Own counts all s r.1)

@@ -30,5 +30,6 @@ kinds_stable p ss = record {
   nests = λ t u a o h j. round_kept (KindedTest p ss) AnyLabel (kinds_of_tests p ss) t u o h j;
 }
 
-pub kinds_simplified : (p : Code) (ss : List Slot) {xs ys : Forest} → Changed Simplified xs ys → Everywhere (KindedItem p ss) xs → Everywhere (KindedItem p ss) ys
+pub kinds_simplified : (p : Code) (ss : List Slot) {xs ys : Forest} → Changed Simplified xs ys → Everywhere (KindedItem p ss) xs →
+    Everywhere (KindedItem p ss) ys
 kinds_simplified p ss r h = simplified_kept (KindedItem p ss) (kinds_stable p ss) r h

@@ -50,16 +50,19 @@ arm_notes (Some e) = refl
 mutual
   pub skeleton_notes : (a : Forest) → notes (skeleton a) ≡ notes a
   skeleton_notes Nil = refl
-  skeleton_notes (Then x a) = notes_join (skeleton_of x) (skeleton a) ∙ both (notes (skeleton_of x)) (notes_in x) (notes (skeleton a)) (notes a) (skeleton_notes_of x) (skeleton_notes a)
+  skeleton_notes (Then x a) = notes_join (skeleton_of x) (skeleton a) ∙
+      both (notes (skeleton_of x)) (notes_in x) (notes (skeleton a)) (notes a) (skeleton_notes_of x) (skeleton_notes a)
 
   skeleton_notes_of : (x : Tree) → notes (skeleton_of x) ≡ notes_in x
   skeleton_notes_of (If t a b) =
       statement_by t a b (if_skeleton (test_source t) (skeleton a) (skeleton b))
-      (if_notes (test_source t) (skeleton a) (skeleton b) ∙ both (notes (skeleton a)) (notes a) (notes (skeleton b)) (notes b) (skeleton_notes a) (skeleton_notes b))
+      (if_notes (test_source t) (skeleton a) (skeleton b) ∙ both (notes (skeleton a)) (notes a) (notes (skeleton b)) (notes b) (skeleton_notes a)
+      (skeleton_notes b))
   skeleton_notes_of (While t a) = notes_one (While (reduced t) (skeleton a)) ∙ skeleton_notes a
   skeleton_notes_of (Do a t) = do_notes (test_source t) (skeleton a) ∙ skeleton_notes a
   skeleton_notes_of (For first t u a) =
-      notes_one (For (skeleton first) t u (skeleton a)) ∙ both (notes (skeleton first)) (notes first) (notes (skeleton a)) (notes a) (skeleton_notes first) (skeleton_notes a)
+      notes_one (For (skeleton first) t u (skeleton a)) ∙ both (notes (skeleton first)) (notes first) (notes (skeleton a)) (notes a)
+      (skeleton_notes first) (skeleton_notes a)
   skeleton_notes_of (Switch s c) = notes_one (Switch (reduced_selector s) (skeleton_in c)) ∙ skeleton_notes_in c
   skeleton_notes_of (Block a) = notes_one (Block (skeleton a)) ∙ skeleton_notes a
   skeleton_notes_of (Goto l) = refl
@@ -71,7 +74,8 @@ mutual
 
   skeleton_notes_in : (c : Sections) → notes_among (skeleton_in c) ≡ notes_among c
   skeleton_notes_in NoSection = refl
-  skeleton_notes_in (Section cases default a ends c) = both (notes (skeleton a)) (notes a) (notes_among (skeleton_in c)) (notes_among c) (skeleton_notes a) (skeleton_notes_in c)
+  skeleton_notes_in (Section cases default a ends c) = both (notes (skeleton a)) (notes a) (notes_among (skeleton_in c)) (notes_among c)
+      (skeleton_notes a) (skeleton_notes_in c)
 
 -- ---- what keeps the skeleton
 
@@ -79,13 +83,15 @@ mutual
 same_notes : (a b : Forest) → skeleton a ≡ skeleton b → notes a ≡ notes b
 same_notes a b e = sym (skeleton_notes a) ∙ ap notes e ∙ skeleton_notes b
 
-next_kept : (old new : List Item) → IsSimplified old new → IsWellMade (trees_of old) → IsWellMade (trees_of new) → skeleton (trees_of new) ≡ skeleton (trees_of old)
+next_kept : (old new : List Item) → IsSimplified old new → IsWellMade (trees_of old) → IsWellMade (trees_of new) →
+    skeleton (trees_of new) ≡ skeleton (trees_of old)
 next_kept old new s v w = elim s.either [
   | inl r ↦ skeleton_laws.simplified (trees_of old) (trees_of new) v.converted w.converted r
   | inr d ↦ ap skeleton d.1 ∙ skeleton_laws.dropped (eqb d.0) (trees_of old) v.converted
 ]
 
-reached_kept : {old : List Item} {cs : List Choice} {new : List Item} → Reaches old cs new → IsWellMade (trees_of old) → skeleton (trees_of new) ≡ skeleton (trees_of old)
+reached_kept : {old : List Item} {cs : List Choice} {new : List Item} → Reaches old cs new → IsWellMade (trees_of old) →
+    skeleton (trees_of new) ≡ skeleton (trees_of old)
 reached_kept none w = refl
 reached_kept {old} (then {cs = cs} {body = body} {new = new} c r n) w =
     let i = in_first (choices (trees_of body)) c n.next in
@@ -93,7 +99,9 @@ reached_kept {old} (then {cs = cs} {body = body} {new = new} c r n) w =
     next_kept body new (chosen_simplified c body new i n.applied) v (choice_laws.made c body new i n.applied v) ∙ reached_kept r w
 
 -- a body after its conversion, its moves and its simplifications
-pub moved_notes : (body middle new : List Item) (ms : List Kept) (cs : List Choice) → IsWellMade (trees_of (converted_list body)) → Derives (converted_list body) ms middle → Reaches middle cs new → notes (trees_of new) ≡ notes (trees_of body)
+pub moved_notes : (body middle new : List Item) (ms : List Kept) (cs : List Choice) → IsWellMade (trees_of (converted_list body)) →
+    Derives (converted_list body) ms middle → Reaches middle cs new → notes (trees_of new) ≡ notes (trees_of body)
 moved_notes body middle new ms cs w d r =
     same_notes (trees_of new) (trees_of body)
-    (reached_kept r (well_made_derived d w) ∙ skeleton_laws.derived (converted_list body) ms middle w d ∙ ap skeleton (converted_trees body) ∙ skeleton_laws.converted (trees_of body))
+    (reached_kept r (well_made_derived d w) ∙ skeleton_laws.derived (converted_list body) ms middle w d ∙ ap skeleton (converted_trees body) ∙
+    skeleton_laws.converted (trees_of body))

@@ -113,5 +113,6 @@ module _ (counts : FlatCounts) (p : Program) (r : IsResolvedWith counts p) where
   pub resolved_source : IsSource p
   resolved_source = record {
     tops = All-from_recursion IsSourceTop p.tops (each_map (IsResolvedTop counts p.tops) IsSourceTop source_top p.tops r.tops);
-    kinded = All-from_recursion (IsKindedTop (code_of p)) p.tops (each_map (IsTopKinded p) (IsKindedTop (code_of p)) kinded_top p.tops (recursion_from_All (IsTopKinded p) p.tops (resolved_kinded counts p r)));
+    kinded = All-from_recursion (IsKindedTop (code_of p)) p.tops
+        (each_map (IsTopKinded p) (IsKindedTop (code_of p)) kinded_top p.tops (recursion_from_All (IsTopKinded p) p.tops (resolved_kinded counts p r)));
   }

@@ -39,8 +39,10 @@ not_slot b k n e = none_some k (sym n ∙ ap slot_in (same_meaning b (AVariable 
 
 -- the slots of the source and those of the plain form, of which those from p to n are variables of blocks; the scopes
 -- that the body stands in, and those behind the declarations of the plain form
-module _ (old new : List Slot) (p n : ℕ) (base last : List Scope) (block : (k : ℕ) → p ≤ k → k < n → look_up last (slot_name new k) ≡ Some (AVariable (H.Slot k)))
-    (others : (m : List ℕ) (b : Meaning) → look_up base m ≡ Some b → look_up last m ≡ Some b) (named : (k : ℕ) → look_up base (slot_name old k) ≡ Some (AVariable (H.Slot k)) → slot_name new k ≡ slot_name old k) where
+module _ (old new : List Slot) (p n : ℕ) (base last : List Scope)
+    (block : (k : ℕ) → p ≤ k → k < n → look_up last (slot_name new k) ≡ Some (AVariable (H.Slot k)))
+    (others : (m : List ℕ) (b : Meaning) → look_up base m ≡ Some b → look_up last m ≡ Some b)
+    (named : (k : ℕ) → look_up base (slot_name old k) ≡ Some (AVariable (H.Slot k)) → slot_name new k ≡ slot_name old k) where
   abbrev pub A : ExpressionTree → Type 0
   A e = IsBound new last e
 
@@ -116,20 +118,35 @@ module _ (old new : List Slot) (p n : ℕ) (base last : List Scope) (block : (k 
   -- ---- items
 
   mutual
-    items_seen : (a : Forest) (ss : List Scope) → Over ss → AreBound old ss a → Everywhere (DeclaresIn p n) a → Everywhere HasNames a × Over (behind_all old ss a)
+    items_seen : (a : Forest) (ss : List Scope) → Over ss → AreBound old ss a → Everywhere (DeclaresIn p n) a →
+        Everywhere HasNames a × Over (behind_all old ss a)
     items_seen Nil ss o h i = (tt, o)
     items_seen (Then x a) ss o h i =
         let r = item_seen x ss o h.0 i.0 in
         let s = items_seen a (behind old ss x) r.1 h.1 i.1 in ((r.0, s.0), s.1)
 
-    item_seen : (x : Tree) (ss : List Scope) → Over ss → ItemIsBound old ss x → EverywhereOf (DeclaresIn p n) x → EverywhereOf HasNames x × Over (behind old ss x)
-    item_seen (If t a b) ss o h i = ((test_map (IsBound old ss) A (seen ss o) t h.0, (items_seen a (inside ss) o h.1 i.1).0, (items_seen b (inside ss) o h.2 i.2).0), o)
+    item_seen : (x : Tree) (ss : List Scope) → Over ss → ItemIsBound old ss x → EverywhereOf (DeclaresIn p n) x →
+        EverywhereOf HasNames x × Over (behind old ss x)
+    item_seen (If t a b) ss o h i = (
+      (
+        test_map (IsBound old ss) A (seen ss o) t h.0,
+        (items_seen a (inside ss) o h.1 i.1).0,
+        (items_seen b (inside ss) o h.2 i.2).0,
+      ),
+      o,
+    )
     item_seen (While t a) ss o h i = ((test_map (IsBound old ss) A (seen ss o) t h.0, (items_seen a (inside ss) o h.1 i.1).0), o)
     item_seen (Do a t) ss o h i = ((test_map (IsBound old ss) A (seen ss o) t h.0, (items_seen a (inside ss) o h.1 i.1).0), o)
     item_seen (For first t u a) ss o h i =
         let r = items_seen first (inside ss) o h.0 i.1 in
-        let later = behind_all old (inside ss) first in
-        (((some_map (IsBound old later) A (seen later r.1) t h.1, some_map (IsBound old later) A (seen later r.1) u h.2), r.0, (items_seen a (inside later) r.1 h.3 i.2).0), o)
+        let later = behind_all old (inside ss) first in (
+          (
+            (some_map (IsBound old later) A (seen later r.1) t h.1, some_map (IsBound old later) A (seen later r.1) u h.2),
+            r.0,
+            (items_seen a (inside later) r.1 h.3 i.2).0,
+          ),
+          o,
+        )
     item_seen (Switch s c) ss o h i = let r = sections_seen c (inside ss) o h.1 i.1 in (((seen ss o (selector_source s) h.0, r.1), r.0), o)
     item_seen (Block a) ss o h i = ((tt, (items_seen a (inside ss) o h i.1).0), o)
     item_seen (Local k es) ss o h i =
@@ -147,7 +164,8 @@ module _ (old new : List Slot) (p n : ℕ) (base last : List Scope) (block : (k 
     item_seen (Arrival e) ss o h i = (tt, o)
     item_seen (Note bs) ss o h i = (tt, o)
 
-    sections_seen : (c : Sections) (ss : List Scope) → Over ss → SectionsAreBound old ss c → EverywhereIn (DeclaresIn p n) c → EverywhereIn HasNames c × AllByRecursion A (all_cases c)
+    sections_seen : (c : Sections) (ss : List Scope) → Over ss → SectionsAreBound old ss c → EverywhereIn (DeclaresIn p n) c →
+        EverywhereIn HasNames c × AllByRecursion A (all_cases c)
     sections_seen NoSection ss o h i = (tt, tt)
     sections_seen (Section cases default a ends c) ss o h i =
         let r = items_seen a ss o h.1 i.0 in

@@ -97,15 +97,18 @@ label_there f (Land l) h = tt
 label_there f (Arrival e) h = tt
 label_there f (Note bs) h = tt
 
-pub labels_named : (f : Function) (a : Forest) → AreSpelled f a → gathered marked_label a ≡ numbers_from 0 (length f.labels) → (l : ℕ) → l < length f.labels → IsName (get_or f.labels l [])
+pub labels_named : (f : Function) (a : Forest) → AreSpelled f a → gathered marked_label a ≡ numbers_from 0 (length f.labels) → (l : ℕ) →
+    l < length f.labels → IsName (get_or f.labels l [])
 labels_named f a s e l h =
     let Q = λ (k : ℕ). IsName (label_name f k) in
     let z : 0 + l ≡ l = omega arith in
-    subst IsName (unwrap_or-slice_get f.labels l []) (subst Q z (at_number Q 0 (length f.labels) l (subst (Each Q) e (each_gathered f marked_label Q (label_there f) a s)) h))
+    subst IsName (unwrap_or-slice_get f.labels l [])
+    (subst Q z (at_number Q 0 (length f.labels) l (subst (Each Q) e (each_gathered f marked_label Q (label_there f) a s)) h))
 
 -- ---- variables
 
-named_slot : (ss : List Slot) (k : ℕ) (o : Option Slot) → slice_get ss k ≡ o → (given : Option (List ExpressionTree)) → SlotPrints ss o given → IsName (slot_name ss k)
+named_slot : (ss : List Slot) (k : ℕ) (o : Option Slot) → slice_get ss k ≡ o → (given : Option (List ExpressionTree)) → SlotPrints ss o given →
+    IsName (slot_name ss k)
 named_slot ss k None e given h = absurd h
 named_slot ss k (Some s) e given h = subst IsName (sym (ap (λ q. option_map_or (λ (r : Slot). r.name) q []) e)) h.named
 
@@ -129,7 +132,8 @@ slot_there f (Land l) h = tt
 slot_there f (Arrival e) h = tt
 slot_there f (Note bs) h = tt
 
-pub slots_named : (f : Function) (a : Forest) → AreSpelled f a → f.params ≤ length f.slots → gathered declared_slot a ≡ numbers_from f.params (length f.slots - f.params) → Each (λ (s : Slot). IsName s.name) (drop f.params f.slots)
+pub slots_named : (f : Function) (a : Forest) → AreSpelled f a → f.params ≤ length f.slots →
+    gathered declared_slot a ≡ numbers_from f.params (length f.slots - f.params) → Each (λ (s : Slot). IsName s.name) (drop f.params f.slots)
 slots_named f a s p e = each_at (λ (r : Slot). IsName r.name) (drop f.params f.slots) named
   where
     named : (k : ℕ) (r : Slot) → slice_get (drop f.params f.slots) k ≡ Some r → IsName r.name
@@ -137,5 +141,6 @@ slots_named f a s p e = each_at (λ (r : Slot). IsName r.name) (drop f.params f.
         let Q = λ (j : ℕ). IsName (slot_name f.slots j) in
         let there = get_dropped f.params f.slots k r i in
         let b = slice_get_within f.slots (f.params + k) r there in
-        let n = at_number Q f.params (length f.slots - f.params) k (subst (Each Q) e (each_gathered f declared_slot Q (slot_there f) a s)) (omega (arith, b, p)) in
+        let n = at_number Q f.params (length f.slots - f.params) k (subst (Each Q) e (each_gathered f declared_slot Q (slot_there f) a s))
+        (omega (arith, b, p)) in
         subst IsName (ap (λ q. option_map_or (λ (t : Slot). t.name) q []) there) n

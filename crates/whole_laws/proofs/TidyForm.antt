@@ -114,13 +114,15 @@ entered_more cases more default also (inl h) = let e = length-append cases more 
 entered_more cases more true also (inr h) = inr h
 entered_more cases more false also (inr h) = cc
 
-give_sections : (cases : List ExpressionTree) (default : Bool) (a : Forest) (ends : Bool) (c : Sections) → Entered cases default → (ends_with_break a ≡ true → ends ≡ true) → HasNoArrival a → AreSections c → AreSections (give cases default a ends c)
+give_sections : (cases : List ExpressionTree) (default : Bool) (a : Forest) (ends : Bool) (c : Sections) → Entered cases default →
+    (ends_with_break a ≡ true → ends ≡ true) → HasNoArrival a → AreSections c → AreSections (give cases default a ends c)
 give_sections cases default Nil false NoSection e b n r = (e, b, tt, tt, tt)
 give_sections cases default Nil false (Section cases' default' d ends c) e b n r = (entered_more cases cases' default default' e, r.1, r.2, r.3, r.4)
 give_sections cases default Nil true c e b n r = (e, b, tt, tt, r)
 give_sections cases default (Then x a) ends c e b n r = (e, b, tt, n, r)
 
-put_sections : (b : Bool) (cases : List ExpressionTree) (default : Bool) (a : Forest) (ends : Bool) (c : Sections) → (not ends && last_break a) ≡ b → Entered cases default → HasNoArrival a → AreSections c
+put_sections : (b : Bool) (cases : List ExpressionTree) (default : Bool) (a : Forest) (ends : Bool) (c : Sections) → (not ends && last_break a) ≡ b →
+    Entered cases default → HasNoArrival a → AreSections c
     → AreSections (cond b (give cases default (without_last a) true c) (give cases default a ends c))
 put_sections true cases default a ends c q e n r = give_sections cases default (without_last a) true c e (λ i. refl) (no_arrival_before a n) r
 put_sections false cases default a ends c q e n r = give_sections cases default a ends c e (λ i. ends_or ends (last_break a) q (sym (ends_same a) ∙ i)) n r
@@ -128,7 +130,8 @@ put_sections false cases default a ends c q e n r = give_sections cases default 
 pub sections_form : (c : Sections) → AllEntered c → EverywhereIn IsPlainItem c → AreSections (tidy_sections c)
 sections_form NoSection e h = tt
 sections_form (Section cases default a ends c) e h =
-    put_sections (not ends && last_break (tidy a)) cases default (tidy a) ends (tidy_sections c) refl e.0 (no_arrival (tidy a) (tidy_plain a h.0)) (sections_form c e.1 h.1)
+    put_sections (not ends && last_break (tidy a)) cases default (tidy a) ends (tidy_sections c) refl e.0 (no_arrival (tidy a) (tidy_plain a h.0))
+    (sections_form c e.1 h.1)
 
 -- ---- the form of items
 
@@ -148,13 +151,15 @@ without_everywhere P Nil h = tt
 without_everywhere P (Then x Nil) h = tt
 without_everywhere P (Then x (Then y a)) h = (h.0, without_everywhere P (Then y a) h.1)
 
-give_everywhere : (P : Tree → Type 0) (cases : List ExpressionTree) (default : Bool) (a : Forest) (ends : Bool) (c : Sections) → Everywhere P a → EverywhereIn P c → EverywhereIn P (give cases default a ends c)
+give_everywhere : (P : Tree → Type 0) (cases : List ExpressionTree) (default : Bool) (a : Forest) (ends : Bool) (c : Sections) → Everywhere P a →
+    EverywhereIn P c → EverywhereIn P (give cases default a ends c)
 give_everywhere P cases default Nil false NoSection h g = (h, g)
 give_everywhere P cases default Nil false (Section cases' default' b ends c) h g = g
 give_everywhere P cases default Nil true c h g = (h, g)
 give_everywhere P cases default (Then x a) ends c h g = (h, g)
 
-pub put_everywhere : (P : Tree → Type 0) (b : Bool) (cases : List ExpressionTree) (default : Bool) (a : Forest) (ends : Bool) (c : Sections) → Everywhere P a → EverywhereIn P c
+pub put_everywhere : (P : Tree → Type 0) (b : Bool) (cases : List ExpressionTree) (default : Bool) (a : Forest) (ends : Bool) (c : Sections) →
+    Everywhere P a → EverywhereIn P c
     → EverywhereIn P (cond b (give cases default (without_last a) true c) (give cases default a ends c))
 put_everywhere P true cases default a ends c h g = give_everywhere P cases default (without_last a) true c (without_everywhere P a h) g
 put_everywhere P false cases default a ends c h g = give_everywhere P cases default a ends c h g
@@ -241,7 +246,8 @@ module _ (g : Tree → List ℕ) (none : g Break ≡ []) where
   gathered_before (Then x Nil) e = cc
   gathered_before (Then x (Then y a)) e = ap (λ l. gathered_of g x ++ l) (gathered_before (Then y a) e)
 
-  gathered_give : (cases : List ExpressionTree) (default : Bool) (a : Forest) (ends : Bool) (c : Sections) → gathered_in g (give cases default a ends c) ≡ gathered g a ++ gathered_in g c
+  gathered_give : (cases : List ExpressionTree) (default : Bool) (a : Forest) (ends : Bool) (c : Sections) →
+      gathered_in g (give cases default a ends c) ≡ gathered g a ++ gathered_in g c
   gathered_give cases default Nil false NoSection = refl
   gathered_give cases default Nil false (Section cases' default' b ends c) = refl
   gathered_give cases default Nil true c = refl
@@ -249,7 +255,8 @@ module _ (g : Tree → List ℕ) (none : g Break ≡ []) where
 
   gathered_put : (b : Bool) (cases : List ExpressionTree) (default : Bool) (a : Forest) (ends : Bool) (c : Sections) → (not ends && last_break a) ≡ b
       → gathered_in g (cond b (give cases default (without_last a) true c) (give cases default a ends c)) ≡ gathered g a ++ gathered_in g c
-  gathered_put true cases default a ends c q = gathered_give cases default (without_last a) true c ∙ ap (λ l. l ++ gathered_in g c) (gathered_before a (second (not ends) (last_break a) q))
+  gathered_put true cases default a ends c q = gathered_give cases default (without_last a) true c ∙ ap (λ l. l ++ gathered_in g c)
+      (gathered_before a (second (not ends) (last_break a) q))
     where
       second : (x y : Bool) → (x && y) ≡ true → y ≡ true
       second true y h = h
@@ -259,13 +266,16 @@ module _ (g : Tree → List ℕ) (none : g Break ≡ []) where
   mutual
     pub gathered_tidy : (a : Forest) → gathered g (tidy a) ≡ gathered g a
     gathered_tidy Nil = refl
-    gathered_tidy (Then x a) = both_same (λ k l. k ++ l) (gathered_of g (tidy_item x)) (gathered g (tidy a)) (gathered_of g x) (gathered g a) (gathered_tidy_of x) (gathered_tidy a)
+    gathered_tidy (Then x a) = both_same (λ k l. k ++ l) (gathered_of g (tidy_item x)) (gathered g (tidy a)) (gathered_of g x) (gathered g a)
+        (gathered_tidy_of x) (gathered_tidy a)
 
     gathered_tidy_of : (x : Tree) → gathered_of g (tidy_item x) ≡ gathered_of g x
-    gathered_tidy_of (If t a b) = both_same (λ k l. k ++ l) (gathered g (tidy a)) (gathered g (tidy b)) (gathered g a) (gathered g b) (gathered_tidy a) (gathered_tidy b)
+    gathered_tidy_of (If t a b) = both_same (λ k l. k ++ l) (gathered g (tidy a)) (gathered g (tidy b)) (gathered g a) (gathered g b)
+        (gathered_tidy a) (gathered_tidy b)
     gathered_tidy_of (While t a) = gathered_tidy a
     gathered_tidy_of (Do a t) = gathered_tidy a
-    gathered_tidy_of (For first t u a) = both_same (λ k l. k ++ l) (gathered g (tidy first)) (gathered g (tidy a)) (gathered g first) (gathered g a) (gathered_tidy first) (gathered_tidy a)
+    gathered_tidy_of (For first t u a) = both_same (λ k l. k ++ l) (gathered g (tidy first)) (gathered g (tidy a)) (gathered g first) (gathered g a)
+        (gathered_tidy first) (gathered_tidy a)
     gathered_tidy_of (Switch s c) = gathered_tidy_in c
     gathered_tidy_of (Block a) = gathered_tidy a
     gathered_tidy_of (Evaluate e) = refl
@@ -285,7 +295,8 @@ module _ (g : Tree → List ℕ) (none : g Break ≡ []) where
     gathered_tidy_in NoSection = refl
     gathered_tidy_in (Section cases default a ends c) =
         gathered_put (not ends && last_break (tidy a)) cases default (tidy a) ends (tidy_sections c) refl
-        ∙ both_same (λ k l. k ++ l) (gathered g (tidy a)) (gathered_in g (tidy_sections c)) (gathered g a) (gathered_in g c) (gathered_tidy a) (gathered_tidy_in c)
+        ∙ both_same (λ k l. k ++ l) (gathered g (tidy a)) (gathered_in g (tidy_sections c)) (gathered g a) (gathered_in g c) (gathered_tidy a)
+        (gathered_tidy_in c)
 
 continues_before : (a : Forest) → last_break a ≡ true → continues (without_last a) ≡ continues a
 continues_before Nil e = cc
@@ -294,7 +305,8 @@ continues_before (Then Break (Then y a)) e = ap (λ n. 0 + n) (continues_before 
 continues_before (Then x Nil) e = cc
 continues_before (Then x (Then y a)) e = ap (λ n. continues_of x + n) (continues_before (Then y a) e)
 
-continues_give : (cases : List ExpressionTree) (default : Bool) (a : Forest) (ends : Bool) (c : Sections) → continues_in (give cases default a ends c) ≡ continues a + continues_in c
+continues_give : (cases : List ExpressionTree) (default : Bool) (a : Forest) (ends : Bool) (c : Sections) →
+    continues_in (give cases default a ends c) ≡ continues a + continues_in c
 continues_give cases default Nil false NoSection = refl
 continues_give cases default Nil false (Section cases' default' b ends c) = omega arith
 continues_give cases default Nil true c = refl
@@ -302,7 +314,8 @@ continues_give cases default (Then x a) ends c = refl
 
 continues_put : (b : Bool) (cases : List ExpressionTree) (default : Bool) (a : Forest) (ends : Bool) (c : Sections) → (not ends && last_break a) ≡ b
     → continues_in (cond b (give cases default (without_last a) true c) (give cases default a ends c)) ≡ continues a + continues_in c
-continues_put true cases default a ends c q = continues_give cases default (without_last a) true c ∙ ap (λ n. n + continues_in c) (continues_before a (second (not ends) (last_break a) q))
+continues_put true cases default a ends c q = continues_give cases default (without_last a) true c ∙ ap (λ n. n + continues_in c)
+    (continues_before a (second (not ends) (last_break a) q))
   where
     second : (x y : Bool) → (x && y) ≡ true → y ≡ true
     second true y h = h
@@ -323,10 +336,12 @@ mutual
 mutual
   pub continues_tidy : (a : Forest) → continues (tidy a) ≡ continues a
   continues_tidy Nil = refl
-  continues_tidy (Then x a) = both_same (λ m n. m + n) (continues_of (tidy_item x)) (continues (tidy a)) (continues_of x) (continues a) (continues_tidy_of x) (continues_tidy a)
+  continues_tidy (Then x a) = both_same (λ m n. m + n) (continues_of (tidy_item x)) (continues (tidy a)) (continues_of x) (continues a)
+      (continues_tidy_of x) (continues_tidy a)
 
   continues_tidy_of : (x : Tree) → continues_of (tidy_item x) ≡ continues_of x
-  continues_tidy_of (If t a b) = both_same (λ m n. m + n) (continues (tidy a)) (continues (tidy b)) (continues a) (continues b) (continues_tidy a) (continues_tidy b)
+  continues_tidy_of (If t a b) = both_same (λ m n. m + n) (continues (tidy a)) (continues (tidy b)) (continues a) (continues b) (continues_tidy a)
+      (continues_tidy b)
   continues_tidy_of (For first t u a) = continues_tidy first
   continues_tidy_of (Switch s c) = continues_tidy_in c
   continues_tidy_of (Block a) = continues_tidy a
@@ -340,7 +355,8 @@ mutual
 
 -- ---- defaults
 
-give_defaults : (cases : List ExpressionTree) (default : Bool) (a : Forest) (ends : Bool) (c : Sections) → defaults (give cases default a ends c) ≤ cond default 1 0 + defaults c
+give_defaults : (cases : List ExpressionTree) (default : Bool) (a : Forest) (ends : Bool) (c : Sections) →
+    defaults (give cases default a ends c) ≤ cond default 1 0 + defaults c
 give_defaults cases default Nil false NoSection = omega arith
 give_defaults cases true Nil false (Section cases' true b ends c) = omega arith
 give_defaults cases true Nil false (Section cases' false b ends c) = omega arith

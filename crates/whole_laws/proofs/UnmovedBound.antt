@@ -40,20 +40,29 @@ module _ (slots : List Slot) where
 
   behind_left : (a : Forest) (ss : List Scope) → behind_all slots ss (unlabelled a) ≡ behind_all slots ss a
   behind_left Nil ss = refl
-  behind_left (Then x a) ss = behind_join (unlabelled_item x) (unlabelled a) ss ∙ ap (λ sc. behind_all slots sc (unlabelled a)) (behind_item_left x ss) ∙ behind_left a (behind slots ss x)
+  behind_left (Then x a) ss = behind_join (unlabelled_item x) (unlabelled a) ss ∙
+      ap (λ sc. behind_all slots sc (unlabelled a)) (behind_item_left x ss) ∙ behind_left a (behind slots ss x)
 
   mutual
     bound_left : (a : Forest) (ss : List Scope) → AreBound slots ss a → AreBound slots ss (unlabelled a)
     bound_left Nil ss h = tt
-    bound_left (Then x a) ss h = bound_join slots (unlabelled_item x) (unlabelled a) ss (bound_item_left x ss h.0) (subst (λ sc. AreBound slots sc (unlabelled a)) (sym (behind_item_left x ss)) (bound_left a (behind slots ss x) h.1))
+    bound_left (Then x a) ss h = bound_join slots (unlabelled_item x) (unlabelled a) ss (bound_item_left x ss h.0)
+        (subst (λ sc. AreBound slots sc (unlabelled a)) (sym (behind_item_left x ss)) (bound_left a (behind slots ss x) h.1))
 
     bound_item_left : (x : Tree) (ss : List Scope) → ItemIsBound slots ss x → AreBound slots ss (unlabelled_item x)
     bound_item_left (If t a b) ss h = ((h.0, bound_left a (inside ss) h.1, bound_left b (inside ss) h.2), tt)
     bound_item_left (While t a) ss h = ((h.0, bound_left a (inside ss) h.1), tt)
     bound_item_left (Do a t) ss h = ((h.0, bound_left a (inside ss) h.1), tt)
     bound_item_left (For first t u a) ss h =
-        let e = sym (behind_left first (inside ss)) in
-        ((bound_left first (inside ss) h.0, subst (λ sc. IfSome t (IsBound slots sc)) e h.1, subst (λ sc. IfSome u (IsBound slots sc)) e h.2, subst (λ sc. AreBound slots (inside sc) (unlabelled a)) e (bound_left a (inside (behind_all slots (inside ss) first)) h.3)), tt)
+        let e = sym (behind_left first (inside ss)) in (
+          (
+            bound_left first (inside ss) h.0,
+            subst (λ sc. IfSome t (IsBound slots sc)) e h.1,
+            subst (λ sc. IfSome u (IsBound slots sc)) e h.2,
+            subst (λ sc. AreBound slots (inside sc) (unlabelled a)) e (bound_left a (inside (behind_all slots (inside ss) first)) h.3),
+          ),
+          tt,
+        )
     bound_item_left (Switch s c) ss h = ((h.0, sections_left c (inside ss) h.1), tt)
     bound_item_left (Block a) ss h = (bound_left a (inside ss) h, tt)
     bound_item_left (Mark l) ss h = tt
@@ -71,8 +80,12 @@ module _ (slots : List Slot) where
 
     sections_left : (c : Sections) (ss : List Scope) → SectionsAreBound slots ss c → SectionsAreBound slots ss (unlabelled_among c)
     sections_left NoSection ss h = tt
-    sections_left (Section cases default a ends c) ss h =
-        (h.0, bound_left a ss h.1, subst (λ sc. SectionsAreBound slots sc (unlabelled_among c)) (sym (behind_left a ss)) (sections_left c (behind_all slots ss a) h.2))
+    sections_left (Section cases default a ends c) ss h = (
+      h.0,
+      bound_left a ss h.1,
+      subst (λ sc. SectionsAreBound slots sc (unlabelled_among c)) (sym (behind_left a ss))
+          (sections_left c (behind_all slots ss a) h.2),
+    )
 
   -- ---- sections in their plain form
 
@@ -111,7 +124,8 @@ module _ (slots : List Slot) where
   bound_before (Then x Nil) ss h = tt
   bound_before (Then x (Then y a)) ss h = (h.0, bound_before (Then y a) (behind slots ss x) h.1)
 
-  give_bound : (cases : List ExpressionTree) (default : Bool) (a : Forest) (ends : Bool) (c : Sections) (ss : List Scope) → Each (IsBound slots ss) cases → AreBound slots ss a → SectionsAreBound slots (behind_all slots ss a) c
+  give_bound : (cases : List ExpressionTree) (default : Bool) (a : Forest) (ends : Bool) (c : Sections) (ss : List Scope) →
+      Each (IsBound slots ss) cases → AreBound slots ss a → SectionsAreBound slots (behind_all slots ss a) c
       → SectionsAreBound slots ss (give cases default a ends c)
   give_bound cases default Nil false NoSection ss k h g = (k, h, g)
   give_bound cases default Nil false (Section cases' default' b ends c) ss k h g = (each_join (IsBound slots ss) cases cases' k g.0, g.1, g.2)
@@ -122,24 +136,35 @@ module _ (slots : List Slot) where
   second true y h = h
   second false y h = cc
 
-  put_bound : (b : Bool) (cases : List ExpressionTree) (default : Bool) (a : Forest) (ends : Bool) (c : Sections) (ss : List Scope) → (not ends && last_break a) ≡ b → Each (IsBound slots ss) cases → AreBound slots ss a
-      → SectionsAreBound slots (behind_all slots ss a) c → SectionsAreBound slots ss (cond b (give cases default (without_last a) true c) (give cases default a ends c))
+  put_bound : (b : Bool) (cases : List ExpressionTree) (default : Bool) (a : Forest) (ends : Bool) (c : Sections) (ss : List Scope) →
+      (not ends && last_break a) ≡ b → Each (IsBound slots ss) cases → AreBound slots ss a
+      → SectionsAreBound slots (behind_all slots ss a) c → SectionsAreBound slots ss
+      (cond b (give cases default (without_last a) true c) (give cases default a ends c))
   put_bound true cases default a ends c ss q k h g =
-      give_bound cases default (without_last a) true c ss k (bound_before a ss h) (subst (λ sc. SectionsAreBound slots sc c) (sym (behind_before a ss (second (not ends) (last_break a) q))) g)
+      give_bound cases default (without_last a) true c ss k (bound_before a ss h)
+      (subst (λ sc. SectionsAreBound slots sc c) (sym (behind_before a ss (second (not ends) (last_break a) q))) g)
   put_bound false cases default a ends c ss q k h g = give_bound cases default a ends c ss k h g
 
   mutual
     bound_tidy : (a : Forest) (ss : List Scope) → AreBound slots ss a → AreBound slots ss (tidy a)
     bound_tidy Nil ss h = tt
-    bound_tidy (Then x a) ss h = (bound_item_tidy x ss h.0, subst (λ sc. AreBound slots sc (tidy a)) (sym (behind_item_tidy x ss)) (bound_tidy a (behind slots ss x) h.1))
+    bound_tidy (Then x a) ss h = (
+      bound_item_tidy x ss h.0,
+      subst (λ sc. AreBound slots sc (tidy a)) (sym (behind_item_tidy x ss))
+          (bound_tidy a (behind slots ss x) h.1),
+    )
 
     bound_item_tidy : (x : Tree) (ss : List Scope) → ItemIsBound slots ss x → ItemIsBound slots ss (tidy_item x)
     bound_item_tidy (If t a b) ss h = (h.0, bound_tidy a (inside ss) h.1, bound_tidy b (inside ss) h.2)
     bound_item_tidy (While t a) ss h = (h.0, bound_tidy a (inside ss) h.1)
     bound_item_tidy (Do a t) ss h = (h.0, bound_tidy a (inside ss) h.1)
     bound_item_tidy (For first t u a) ss h =
-        let e = sym (behind_tidy first (inside ss)) in
-        (bound_tidy first (inside ss) h.0, subst (λ sc. IfSome t (IsBound slots sc)) e h.1, subst (λ sc. IfSome u (IsBound slots sc)) e h.2, subst (λ sc. AreBound slots (inside sc) (tidy a)) e (bound_tidy a (inside (behind_all slots (inside ss) first)) h.3))
+        let e = sym (behind_tidy first (inside ss)) in (
+          bound_tidy first (inside ss) h.0,
+          subst (λ sc. IfSome t (IsBound slots sc)) e h.1,
+          subst (λ sc. IfSome u (IsBound slots sc)) e h.2,
+          subst (λ sc. AreBound slots (inside sc) (tidy a)) e (bound_tidy a (inside (behind_all slots (inside ss) first)) h.3),
+        )
     bound_item_tidy (Switch s c) ss h = (h.0, sections_tidy c (inside ss) h.1)
     bound_item_tidy (Block a) ss h = bound_tidy a (inside ss) h
     bound_item_tidy (Mark l) ss h = h

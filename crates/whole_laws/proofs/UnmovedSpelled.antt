@@ -82,13 +82,15 @@ module _ (f : Function) where
   spelled_before (Then x Nil) h = tt
   spelled_before (Then x (Then y a)) h = (h.0, spelled_before (Then y a) h.1)
 
-  give_spelled : (cases : List ExpressionTree) (default : Bool) (a : Forest) (ends : Bool) (c : Sections) → ListPrints f.slots 3 cases → AreSpelled f a → SectionsAreSpelled f c → SectionsAreSpelled f (give cases default a ends c)
+  give_spelled : (cases : List ExpressionTree) (default : Bool) (a : Forest) (ends : Bool) (c : Sections) → ListPrints f.slots 3 cases →
+      AreSpelled f a → SectionsAreSpelled f c → SectionsAreSpelled f (give cases default a ends c)
   give_spelled cases default Nil false NoSection k h g = (k, h, g)
   give_spelled cases default Nil false (Section cases' default' b ends c) k h g = (list_join f.slots 3 cases cases' k g.0, g.1, g.2)
   give_spelled cases default Nil true c k h g = (k, h, g)
   give_spelled cases default (Then x a) ends c k h g = (k, h, g)
 
-  put_spelled : (b : Bool) (cases : List ExpressionTree) (default : Bool) (a : Forest) (ends : Bool) (c : Sections) → ListPrints f.slots 3 cases → AreSpelled f a → SectionsAreSpelled f c
+  put_spelled : (b : Bool) (cases : List ExpressionTree) (default : Bool) (a : Forest) (ends : Bool) (c : Sections) → ListPrints f.slots 3 cases →
+      AreSpelled f a → SectionsAreSpelled f c
       → SectionsAreSpelled f (cond b (give cases default (without_last a) true c) (give cases default a ends c))
   put_spelled true cases default a ends c k h g = give_spelled cases default (without_last a) true c k (spelled_before a h) g
   put_spelled false cases default a ends c k h g = give_spelled cases default a ends c k h g
@@ -120,7 +122,8 @@ module _ (f : Function) where
 
     sections_tidy : (c : Sections) → SectionsAreSpelled f c → SectionsAreSpelled f (tidy_sections c)
     sections_tidy NoSection h = tt
-    sections_tidy (Section cases default a ends c) h = put_spelled (not ends && last_break (tidy a)) cases default (tidy a) ends (tidy_sections c) h.0 (spelled_tidy a h.1) (sections_tidy c h.2)
+    sections_tidy (Section cases default a ends c) h = put_spelled (not ends && last_break (tidy a)) cases default (tidy a) ends (tidy_sections c) h.0
+        (spelled_tidy a h.1) (sections_tidy c h.2)
 
 -- a list without jumps is spelled alike in each function with these slots
 module _ (f h : Function) (e : h.slots ≡ f.slots) where
@@ -136,7 +139,12 @@ module _ (f h : Function) (e : h.slots ≡ f.slots) where
     item_over (If t a b) p k = (over (λ ss. TestPrints ss t) k.0, spelled_over a p.1 k.1, spelled_over b p.2 k.2)
     item_over (While t a) p k = (over (λ ss. TestPrints ss t) k.0, spelled_over a p.1 k.1)
     item_over (Do a t) p k = (spelled_over a p.1 k.0, over (λ ss. TestPrints ss t) k.1)
-    item_over (For first t u a) p k = (over (λ ss. StartPrints ss first) k.0, over (λ ss. OptionPrints ss t) k.1, over (λ ss. OptionPrints ss u) k.2, spelled_over a p.2 k.3)
+    item_over (For first t u a) p k = (
+      over (λ ss. StartPrints ss first) k.0,
+      over (λ ss. OptionPrints ss t) k.1,
+      over (λ ss. OptionPrints ss u) k.2,
+      spelled_over a p.2 k.3,
+    )
     item_over (Switch s c) p k = (over (λ ss. SelectorPrints ss s) k.0, sections_over c p.1 k.1)
     item_over (Block a) p k = spelled_over a p.1 k
     item_over (Evaluate x) p k = over (λ ss. FullPrints ss 1 x) k
@@ -156,7 +164,8 @@ module _ (f h : Function) (e : h.slots ≡ f.slots) where
     sections_over NoSection p k = tt
     sections_over (Section cases default a ends c) p k = (over (λ ss. ListPrints ss 3 cases) k.0, spelled_over a p.0 k.1, sections_over c p.1 k.2)
 
-pub spelled_unmoved : (f h : Function) → h.slots ≡ f.slots → (a : Forest) → Everywhere IsPlainItem (tidy (unlabelled a)) → AreSpelled f a → AreSpelled h (tidy (unlabelled a))
+pub spelled_unmoved : (f h : Function) → h.slots ≡ f.slots → (a : Forest) → Everywhere IsPlainItem (tidy (unlabelled a)) → AreSpelled f a →
+    AreSpelled h (tidy (unlabelled a))
 spelled_unmoved f h e a p k = spelled_over f h e (tidy (unlabelled a)) p (spelled_tidy f (unlabelled a) (spelled_left f a k))
 
 -- ---- nesting
@@ -175,7 +184,9 @@ mutual
   depth_left (Then x a) = let e = depth_join (unlabelled_item x) (unlabelled a) in let i = depth_left_of x in let j = depth_left a in omega (arith, e, i, j)
 
   depth_left_of : (x : Tree) → depth (unlabelled_item x) ≤ depth_of x
-  depth_left_of (If t a b) = let i = depth_left a in let j = depth_left b in let p = depth_if t (unlabelled a) (unlabelled b) in let q = depth_if t a b in omega (arith, i, j, p, q)
+  depth_left_of (If t a b) = let i = depth_left a in let j = depth_left b in let p = depth_if t (unlabelled a) (unlabelled b) in let q =
+      depth_if t a
+      b in omega (arith, i, j, p, q)
   depth_left_of (While t a) = let i = depth_left a in omega (arith, i)
   depth_left_of (Do a t) = let i = depth_left a in omega (arith, i)
   depth_left_of (For first t u a) = let i = depth_left a in omega (arith, i)
@@ -192,13 +203,15 @@ depth_before Nil = omega arith
 depth_before (Then x Nil) = omega arith
 depth_before (Then x (Then y a)) = let i = depth_before (Then y a) in omega (arith, i)
 
-depth_give : (cases : List ExpressionTree) (default : Bool) (a : Forest) (ends : Bool) (c : Sections) → depth_in (give cases default a ends c) ≤ max (depth a) (depth_in c)
+depth_give : (cases : List ExpressionTree) (default : Bool) (a : Forest) (ends : Bool) (c : Sections) →
+    depth_in (give cases default a ends c) ≤ max (depth a) (depth_in c)
 depth_give cases default Nil false NoSection = omega arith
 depth_give cases default Nil false (Section cases' default' b ends c) = omega arith
 depth_give cases default Nil true c = omega arith
 depth_give cases default (Then x a) ends c = omega arith
 
-depth_put : (b : Bool) (cases : List ExpressionTree) (default : Bool) (a : Forest) (ends : Bool) (c : Sections) → depth_in (cond b (give cases default (without_last a) true c) (give cases default a ends c)) ≤ max (depth a) (depth_in c)
+depth_put : (b : Bool) (cases : List ExpressionTree) (default : Bool) (a : Forest) (ends : Bool) (c : Sections) →
+    depth_in (cond b (give cases default (without_last a) true c) (give cases default a ends c)) ≤ max (depth a) (depth_in c)
 depth_put true cases default a ends c = let i = depth_give cases default (without_last a) true c in let j = depth_before a in omega (arith, i, j)
 depth_put false cases default a ends c = depth_give cases default a ends c
 
@@ -208,7 +221,8 @@ mutual
   depth_tidy (Then x a) = let i = depth_tidy_of x in let j = depth_tidy a in omega (arith, i, j)
 
   depth_tidy_of : (x : Tree) → depth_of (tidy_item x) ≤ depth_of x
-  depth_tidy_of (If t a b) = let i = depth_tidy a in let j = depth_tidy b in let p = depth_if t (tidy a) (tidy b) in let q = depth_if t a b in omega (arith, i, j, p, q)
+  depth_tidy_of (If t a b) = let i = depth_tidy a in let j = depth_tidy b in let p = depth_if t (tidy a) (tidy b) in let q = depth_if t a b in
+      omega (arith, i, j, p, q)
   depth_tidy_of (While t a) = let i = depth_tidy a in omega (arith, i)
   depth_tidy_of (Do a t) = let i = depth_tidy a in omega (arith, i)
   depth_tidy_of (For first t u a) = let i = depth_tidy a in omega (arith, i)

@@ -41,7 +41,11 @@ kept p q ms s w =
     let f = flat_program p w.flat s w.flattened in
     let c = moved_tops f.convertible w.moved in
     let r = chain_steady c f.steady in
-    record { steady = r.0; same = record { codes = same_trans (code_of p) (code_of w.flat) (code_of q) f.same.codes r.1.codes }; kinded = chain_kinds c f.kinded }
+    record {
+      steady = r.0;
+      same = record { codes = same_trans (code_of p) (code_of w.flat) (code_of q) f.same.codes r.1.codes };
+      kinded = chain_kinds c f.kinded;
+    }
 
 -- ---- no jumps
 
@@ -71,9 +75,14 @@ jump_free p q ms s w = free_tops q.tops (ended p q ms s w)
 
 -- ---- the plain form
 
-pub finished_tops : (c : Code) (names : Function → List (List ℕ)) (ts : List Top) → AllByRecursion IsEnded ts → AllByRecursion (IsKindedTop c) ts → AllByRecursion (IsTopNamed names) ts → AllByRecursion (IsTopFinished c names) ts
+pub finished_tops : (c : Code) (names : Function → List (List ℕ)) (ts : List Top) → AllByRecursion IsEnded ts → AllByRecursion (IsKindedTop c) ts →
+    AllByRecursion (IsTopNamed names) ts → AllByRecursion (IsTopFinished c names) ts
 finished_tops c names [] e k n = tt
-finished_tops c names (T.Function f ∷ ts) e k n = (record { kinded = k.0; made = e.0.made; leapless = e.0.leapless; named = n.0 }, finished_tops c names ts e.1 k.1 n.1)
+finished_tops c names (T.Function f ∷ ts) e k n = (
+  record { kinded = k.0; made = e.0.made; leapless = e.0.leapless; named = n.0 },
+  finished_tops c
+      names ts e.1 k.1 n.1,
+)
 finished_tops c names (T.Include b ∷ ts) e k n = (tt, finished_tops c names ts e.1 k.1 n.1)
 finished_tops c names (T.Enum es ∷ ts) e k n = (tt, finished_tops c names ts e.1 k.1 n.1)
 finished_tops c names (T.Global g ∷ ts) e k n = (tt, finished_tops c names ts e.1 k.1 n.1)
@@ -81,14 +90,19 @@ finished_tops c names (T.Note b ∷ ts) e k n = (tt, finished_tops c names ts e.
 
 pub both_runs : (p q r : Program) → BehaveTheSame p q → BehavesAsStructured q r → BehavesAsStructured p r
 both_runs p q r h k = record {
-  entries = λ m arguments. (λ e. (k.entries m arguments).0 ((h.codes.entries m arguments).0 e), λ e. (h.codes.entries m arguments).1 ((k.entries m arguments).1 e));
+  entries = λ m arguments. (
+    λ e. (k.entries m arguments).0 ((h.codes.entries m arguments).0 e),
+    λ e. (h.codes.entries m arguments).1 ((k.entries m arguments).1 e),
+  );
   runs = λ m arguments e input answers.
-      same_runs_trans (jump_run (code_of p) m arguments input answers) (jump_run (code_of q) m arguments input answers) (structural_run (code_of r) m arguments input answers)
+      same_runs_trans (jump_run (code_of p) m arguments input answers) (jump_run (code_of q) m arguments input answers)
+      (structural_run (code_of r) m arguments input answers)
       (h.codes.runs m arguments e input answers) (k.runs m arguments ((h.codes.entries m arguments).0 e) input answers);
 }
 
 -- what is reached is ready for its plain form
-ready : (names : Function → List (List ℕ)) (p q : Program) (ms : List Move) → IsSource p → IsRewritten p q ms → All (IsTopNamed names) q.tops → IsProgramReady names q
+ready : (names : Function → List (List ℕ)) (p q : Program) (ms : List Move) → IsSource p → IsRewritten p q ms → All (IsTopNamed names) q.tops →
+    IsProgramReady names q
 ready names p q ms s w n =
     let k = kept p q ms s w in
     let c = code_of q in
@@ -96,10 +110,12 @@ ready names p q ms s w n =
     (finished_tops c names q.tops (ended p q ms s w) (recursion_from_All (IsKindedTop c) q.tops k.kinded) (recursion_from_All (IsTopNamed names) q.tops n)) in
     plain_laws.of_steady names q k.steady finished
 
-pub resolved_ready : (counts : FlatCounts) (names : Function → List (List ℕ)) (p q : Program) (ms : List Move) → IsResolvedWith counts p → IsRewritten p q ms → All (IsTopNamed names) q.tops → IsProgramReady names q
+pub resolved_ready : (counts : FlatCounts) (names : Function → List (List ℕ)) (p q : Program) (ms : List Move) → IsResolvedWith counts p →
+    IsRewritten p q ms → All (IsTopNamed names) q.tops → IsProgramReady names q
 resolved_ready counts names p q ms r w n = ready names p q ms (resolved_source counts p r) w n
 
-whole : (names : Function → List (List ℕ)) (p q : Program) (ms : List Move) → IsSource p → IsRewritten p q ms → All (IsTopNamed names) q.tops → IsRight names p q
+whole : (names : Function → List (List ℕ)) (p q : Program) (ms : List Move) → IsSource p → IsRewritten p q ms → All (IsTopNamed names) q.tops →
+    IsRight names p q
 whole names p q ms s w n =
     let k = kept p q ms s w in
     let is_ready = ready names p q ms s w n in

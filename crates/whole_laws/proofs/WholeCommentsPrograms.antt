@@ -26,8 +26,10 @@ use Rattle.whole_laws.proofs.Plain.{plain_function_notes}
 -- ---- flat forms
 
 top_flat : {t u : Top} → FlatTop t u → top_notes u ≡ top_notes t
-top_flat (ft_flat {f = f} {g = g} e w) = ap notes (body_is g w.new w.new_body ∙ w.trees) ∙ flat_body_notes _ _ _ (trees_of w.old) ∙ ap notes (sym (body_is f w.old w.old_body))
-top_flat (ft_unlabelled {f = f} {g = g} e w) = ap notes (body_is g w.new w.new_body ∙ w.trees) ∙ unlabelled_notes (trees_of w.old) ∙ ap notes (sym (body_is f w.old w.old_body))
+top_flat (ft_flat {f = f} {g = g} e w) = ap notes (body_is g w.new w.new_body ∙ w.trees) ∙ flat_body_notes _ _ _ (trees_of w.old) ∙ ap notes
+    (sym (body_is f w.old w.old_body))
+top_flat (ft_unlabelled {f = f} {g = g} e w) = ap notes (body_is g w.new w.new_body ∙ w.trees) ∙ unlabelled_notes (trees_of w.old) ∙ ap notes
+    (sym (body_is f w.old w.old_body))
 top_flat (ft_declared f e) = refl
 top_flat (ft_other t n) = refl
 
@@ -46,7 +48,8 @@ top_moved (mt_other t unflat) c = refl
 
 tops_moved : {ts us : List Top} {ms : List Move} → MovedTops ts us ms → AreConvertible ts → tops_notes us ≡ tops_notes ts
 tops_moved mt_none c = refl
-tops_moved (mt_more {t = t} {u = u} {ts = ts} {us = us} m r) c = both (top_notes u) (top_notes t) (tops_notes us) (tops_notes ts) (top_moved m c.0) (tops_moved r c.1)
+tops_moved (mt_more {t = t} {u = u} {ts = ts} {us = us} m r) c = both (top_notes u) (top_notes t) (tops_notes us) (tops_notes ts) (top_moved m c.0)
+    (tops_moved r c.1)
 
 -- ---- the plain form
 
@@ -62,7 +65,8 @@ module _ (names : Function → List (List ℕ)) where
   tops_plain [] = refl
   tops_plain (t ∷ ts) = both (top_notes (plain_top names t)) (top_notes t) (tops_notes (map (plain_top names) ts)) (tops_notes ts) (top_plain t) (tops_plain ts)
 
-program_notes : (counts : FlatCounts) (names : Function → List (List ℕ)) (p q : Program) (ms : List Move) → IsResolvedWith counts p → IsRewritten p q ms → notes_of (plain_with names q) ≡ notes_of p
+program_notes : (counts : FlatCounts) (names : Function → List (List ℕ)) (p q : Program) (ms : List Move) → IsResolvedWith counts p →
+    IsRewritten p q ms → notes_of (plain_with names q) ≡ notes_of p
 program_notes counts names p q ms r w =
     let f = flat_program p w.flat (resolved_source counts p r) w.flattened in
     tops_plain names q.tops ∙ tops_moved w.moved f.convertible ∙ tops_flat w.flattened

@@ -47,8 +47,10 @@ changed_tops (later_function t r) = (same_top t, changed_tops r)
 
 pub tops_over : (p q : Code) → SameKinds p q → (ts : List Top) → AllByRecursion (IsKindedTop p) ts → AllByRecursion (IsKindedTop q) ts
 tops_over p q same [] h = tt
-tops_over p q same (T.Function f ∷ ts) h =
-    (everywhere_map (KindedItem p f.slots) (KindedItem q f.slots) (item_kept p q f.slots f.slots same (same_slots f.slots)) (body_of f) h.0, tops_over p q same ts h.1)
+tops_over p q same (T.Function f ∷ ts) h = (
+  everywhere_map (KindedItem p f.slots) (KindedItem q f.slots) (item_kept p q f.slots f.slots same (same_slots f.slots)) (body_of f) h.0,
+  tops_over p q same ts h.1,
+)
 tops_over p q same (T.Include b ∷ ts) h = (tt, tops_over p q same ts h.1)
 tops_over p q same (T.Enum es ∷ ts) h = (tt, tops_over p q same ts h.1)
 tops_over p q same (T.Global g ∷ ts) h = (tt, tops_over p q same ts h.1)
@@ -58,10 +60,12 @@ tops_over p q same (T.Note b ∷ ts) h = (tt, tops_over p q same ts h.1)
 abbrev pub KeepsKinds : (List Item → List Item → Type 0) → Type 0
 KeepsKinds R = (p : Code) (ss : List Slot) (a b : List Item) → R a b → Everywhere (KindedItem p ss) (trees_of a) → Everywhere (KindedItem p ss) (trees_of b)
 
-body_kinds : {R : List Item → List Item → Type 0} → KeepsKinds R → (p : Code) (f : Function) (a b : List Item) → f.body ≡ Some a → R a b → IsKindedTop p (T.Function f) → IsKindedTop p (T.Function (with_body f b))
+body_kinds : {R : List Item → List Item → Type 0} → KeepsKinds R → (p : Code) (f : Function) (a b : List Item) → f.body ≡ Some a → R a b →
+    IsKindedTop p (T.Function f) → IsKindedTop p (T.Function (with_body f b))
 body_kinds k p f a b e r h = k p f.slots a b r (subst (λ o. Everywhere (KindedItem p f.slots) (option_map_or trees_of o Nil)) e h)
 
-pub program_kinds : {R : List Item → List Item → Type 0} → KeepsKinds R → (p q : Program) → OneBodyChanged R p.tops q.tops → IsKindedProgram p → IsKindedProgram q
+pub program_kinds : {R : List Item → List Item → Type 0} → KeepsKinds R → (p q : Program) → OneBodyChanged R p.tops q.tops → IsKindedProgram p →
+    IsKindedProgram q
 program_kinds k p q r h =
     let c = code_of p in
     let i = tops_kept (IsKindedTop c) (body_kinds k c) r (recursion_from_All (IsKindedTop c) p.tops h) in

@@ -33,7 +33,8 @@ cond_within P false x y h k = k
 
 pub constant_counted : (k : IntKind) (z : ℤ) → counted (constant k z) ≤ 2
 constant_counted k z =
-    cond_within (λ e. counted e ≤ 2) (int_le (pos 0) z) _ _ (omega arith) (cond_within (λ e. counted e ≤ 2) (int_le z (least k)) _ _ (omega arith) (omega arith))
+    cond_within (λ e. counted e ≤ 2) (int_le (pos 0) z) _ _ (omega arith)
+    (cond_within (λ e. counted e ≤ 2) (int_le z (least k)) _ _ (omega arith) (omega arith))
 
 pub and_counted : (x : ℕ) (e : ExpressionTree) → counted_at 2 (Typed (Some Int) (Binary AndThen (guard_off x) e)) ≤ counted_at 2 e + 3
 and_counted x e = let b = bracket_most (level_of e) 6 in omega (arith, b)
@@ -41,11 +42,13 @@ and_counted x e = let b = bracket_most (level_of e) 6 in omega (arith, b)
 pub or_counted : (x : ℕ) (e : ExpressionTree) → counted_at 2 (Typed (Some Int) (Binary OrElse (guard x) e)) ≤ counted_at 2 e + 2
 or_counted x e = let b = bracket_most (level_of e) 5 in omega (arith, b)
 
-pub pick_counted : (x : ℕ) (k : IntKind) (z : ℤ) (e : ExpressionTree) → counted_at 2 (Typed (Some k) (Conditional (guard x) (constant k z) e)) ≤ counted_at 2 e + 4
+pub pick_counted : (x : ℕ) (k : IntKind) (z : ℤ) (e : ExpressionTree) →
+    counted_at 2 (Typed (Some k) (Conditional (guard x) (constant k z) e)) ≤ counted_at 2 e + 4
 pick_counted x k z e = let b = bracket_most (level_of e) 3 in let c = constant_counted k z in omega (arith, b, c)
 
 pub truth_counted : (e : ExpressionTree) → counted_at 2 (truth e) ≤ counted_at 2 e + 2
-truth_counted e = let b = bracket_most (level_of e) 9 in cond_within (λ x. counted_at 2 x ≤ counted_at 2 e + 2) (is_truth e) e (unequal_zero e) (omega arith) (omega (arith, b))
+truth_counted e = let b = bracket_most (level_of e) 9 in cond_within (λ x. counted_at 2 x ≤ counted_at 2 e + 2) (is_truth e) e (unequal_zero e)
+    (omega arith) (omega (arith, b))
 
 pub case_counted : (k : IntKind) (v : ℕ) (z : ℤ) → counted_at 2 (is_number k v (constant k z)) ≤ 4
 case_counted k v z = let b = bracket_most (level_of (constant k z)) 10 in let c = constant_counted k z in omega (arith, b, c)
@@ -143,7 +146,8 @@ module _ (slot : ℕ → ℕ) (M n : ℕ) (some : 1 ≤ M) where
       omega (arith, u, i, c)
 
   -- and in one Pick
-  selector_counted : (k : IntKind) (picks : List ℕ) (s : SelectorTree) → repeat_pick picks s ≡ None → SelectorLabels (λ l. l < n) s → counted_at 2 (selector_source s) ≤ M
+  selector_counted : (k : IntKind) (picks : List ℕ) (s : SelectorTree) → repeat_pick picks s ≡ None → SelectorLabels (λ l. l < n) s →
+      counted_at 2 (selector_source s) ≤ M
       → counted_at 2 (picked slot k s) ≤ M + 4 * unseen picks n
   selector_counted k picks (Selects e) r l h = omega (arith, h)
   selector_counted k picks (Pick m z s) r l h =
@@ -153,8 +157,10 @@ module _ (slot : ℕ → ℕ) (M n : ℕ) (some : 1 ≤ M) where
       let c = pick_counted (slot m) k z (picked slot k s) in
       omega (arith, u, i, c)
 
-  pub simple_test : (t : TestTree) → repeat [] [] t ≡ None → TestLabels (λ l. l < n) t → TestExpression (λ e. counted_at 2 e ≤ M) t → counted_at 2 (plain_test slot t) ≤ M + 5 * n
+  pub simple_test : (t : TestTree) → repeat [] [] t ≡ None → TestLabels (λ l. l < n) t → TestExpression (λ e. counted_at 2 e ≤ M) t →
+      counted_at 2 (plain_test slot t) ≤ M + 5 * n
   simple_test t r l h = let i = test_counted [] [] t r l h in let u = unseen_none n in omega (arith, i, u)
 
-  pub simple_selector : (k : IntKind) (s : SelectorTree) → repeat_pick [] s ≡ None → SelectorLabels (λ l. l < n) s → counted_at 2 (selector_source s) ≤ M → counted_at 2 (picked slot k s) ≤ M + 4 * n
+  pub simple_selector : (k : IntKind) (s : SelectorTree) → repeat_pick [] s ≡ None → SelectorLabels (λ l. l < n) s →
+      counted_at 2 (selector_source s) ≤ M → counted_at 2 (picked slot k s) ≤ M + 4 * n
   simple_selector k s r l h = let i = selector_counted k [] s r l h in let u = unseen_none n in omega (arith, i, u)

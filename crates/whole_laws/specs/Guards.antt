@@ -28,4 +28,5 @@ TopHasNames p _ = Unit {0}
 
 -- the plain form with the names of guards that the tool gives is resolved
 abbrev pub NamedPlainFormIsResolved : Type 0
-NamedPlainFormIsResolved = (p q : Program) (ms : List Move) → IsResolved p → IsRewritten p q ms → All (TopHasNames p) q.tops → IsResolved (plain_with (guard_names (names p)) q)
+NamedPlainFormIsResolved = (p q : Program) (ms : List Move) → IsResolved p → IsRewritten p q ms → All (TopHasNames p) q.tops →
+    IsResolved (plain_with (guard_names (names p)) q)

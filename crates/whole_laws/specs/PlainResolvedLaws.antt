@@ -19,4 +19,5 @@ IsTopOwn ts names _ = Unit {0}
 -- the plain form of what a resolved program is rewritten to is resolved
 abbrev pub PlainFormIsResolved : Type 0
 PlainFormIsResolved =
-    (names : Function → List (List ℕ)) (p q : Program) (ms : List Move) → IsResolved p → IsRewritten p q ms → All (IsTopNamed names) q.tops → All (IsTopOwn p.tops names) q.tops → IsResolved (plain_with names q)
+    (names : Function → List (List ℕ)) (p q : Program) (ms : List Move) → IsResolved p → IsRewritten p q ms → All (IsTopNamed names) q.tops →
+    All (IsTopOwn p.tops names) q.tops → IsResolved (plain_with names q)

@@ -26,4 +26,5 @@ pub record NotesLaws : Type 0 where
   -- and so has the plain form of any function
   pub plain : (names : List (List ℕ)) (f : Function) → notes (body_of (plain_function names f)) ≡ notes (body_of f)
   -- so the plain form of what a resolved program is rewritten to has the Notes of the program
-  pub program : (counts : FlatCounts) (names : Function → List (List ℕ)) (p q : Program) (ms : List Move) → IsResolvedWith counts p → IsRewritten p q ms → notes_of (plain_with names q) ≡ notes_of p
+  pub program : (counts : FlatCounts) (names : Function → List (List ℕ)) (p q : Program) (ms : List Move) → IsResolvedWith counts p →
+      IsRewritten p q ms → notes_of (plain_with names q) ≡ notes_of p

@@ -34,4 +34,5 @@ pub record WholeLaws : Type 0 where
   -- it has no jumps
   pub jump_free : (counts : FlatCounts) (p q : Program) (ms : List Move) → IsResolvedWith counts p → IsRewritten p q ms → is_jump_free_program q ≡ true
   -- and its plain form is plain, in range, and its structural runs are the runs of the program
-  pub whole : (counts : FlatCounts) (names : Function → List (List ℕ)) (p q : Program) (ms : List Move) → IsResolvedWith counts p → IsRewritten p q ms → All (IsTopNamed names) q.tops → IsRight names p q
+  pub whole : (counts : FlatCounts) (names : Function → List (List ℕ)) (p q : Program) (ms : List Move) → IsResolvedWith counts p →
+      IsRewritten p q ms → All (IsTopNamed names) q.tops → IsRight names p q

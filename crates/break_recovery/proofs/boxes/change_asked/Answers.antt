@@ -15,9 +15,11 @@ returns-then-is_some c =
     let x = an_entry xs c.args.at c.requires in
     let n = sym c.is_some.ensures ∙ c.if-is_some.true in
     record {
-      made = λ f h p. here_found xs c.args.at x.0 f c.args.level _ c.requires x.1 (c.in_ok-here.ensures.made f h) (a_slot c.in_ok-here.here (trees_of c.change_here.new.list) n);
+      made = λ f h p. here_found xs c.args.at x.0 f c.args.level _ c.requires x.1 (c.in_ok-here.ensures.made f h)
+          (a_slot c.in_ok-here.here (trees_of c.change_here.new.list) n);
       kept = an_answer c.in_ok-here.here n;
-      way = λ g r f h d l z p. no_way c.args.sure.now h c.args.level (reverse c.new.result) (trees_of (drop c.args.at c.change_here.new.list)) (ap reverse c.new.ensures);
+      way = λ g r f h d l z p. no_way c.args.sure.now h c.args.level (reverse c.new.result) (trees_of (drop c.args.at c.change_here.new.list))
+          (ap reverse c.new.ensures);
     }
 
 pub change_within-requires : goal.change_within-requires
@@ -36,7 +38,8 @@ returns c =
     let q = c.in_ok-here.ensures.kept (no_answer s o) in
     let u : (f : FunctionTree) → Tells c.args.counts.now f → next_here f n (trees_of (drop at ys)) ≡ None = λ f h.
     ap (λ zs. next_here f n (trees_of (drop at zs))) q ∙ no_here xs at f n s (trees_of ys) (c.in_ok-here.ensures.made f h) o in
-    let v : (f : FunctionTree) → IsWayAt c.args.sure.now f n (reverse c.args.way.now) (trees_of (drop at xs)) → IsWayAt c.args.sure.now f n (reverse c.args.way.now) (trees_of (drop at ys)) = λ f p.
+    let v : (f : FunctionTree) → IsWayAt c.args.sure.now f n (reverse c.args.way.now) (trees_of (drop at xs)) →
+    IsWayAt c.args.sure.now f n (reverse c.args.way.now) (trees_of (drop at ys)) = λ f p.
     subst (λ zs. IsWayAt c.args.sure.now f n (reverse c.args.way.now) (trees_of (drop at zs))) (sym q) p in
     record {
       made = if_ok_more c.change_within.result _ _

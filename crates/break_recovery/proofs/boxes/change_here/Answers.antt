@@ -11,10 +11,12 @@ returns-in_ok-make-in-Some-clause-made c =
     let xs = c.args.list.now in
     let at = c.args.at in
     let b = trees_of c.make.new.list in
-    λ f h. ap (λ g. changed_to (Some g) b) c.slot_of.ensures ∙ here_changed f c.args.level (trees_of (drop at xs)) (join (trees_of (take at xs))) (count_in c.args.counts.now) (fun_ext h) _ c.in_ok-change.ensures c.in-Some.change b c.in-Some.is c.in_ok-make-in-Some.ensures
+    λ f h. ap (λ g. changed_to (Some g) b) c.slot_of.ensures ∙ here_changed f c.args.level (trees_of (drop at xs)) (join (trees_of (take at xs)))
+    (count_in c.args.counts.now) (fun_ext h) _ c.in_ok-change.ensures c.in-Some.change b c.in-Some.is c.in_ok-make-in-Some.ensures
 
 pub returns-in-None-clause-made : goal.returns-in-None-clause-made
 returns-in-None-clause-made c =
     let xs = c.args.list.now in
     let at = c.args.at in
-    λ f h. here_none f c.args.level (trees_of (drop at xs)) (join (trees_of (take at xs))) (count_in c.args.counts.now) (fun_ext h) _ c.in_ok-change.ensures (trees_of xs) c.in-None.is
+    λ f h. here_none f c.args.level (trees_of (drop at xs)) (join (trees_of (take at xs))) (count_in c.args.counts.now) (fun_ext h)
+    _ c.in_ok-change.ensures (trees_of xs) c.in-None.is

@@ -26,12 +26,15 @@ returns c =
     record {
       made = if_ok_more c.change_item.result _ _
           (λ it k f h o p. item_changed xs at x c.requires e f n y it o
-          (k f h (subst (λ z. IsWayIn c.args.sure.now f n v (tree_at z)) (sym u) (i f n at v xs xs x c.requires e refl p)) ∙ ap (λ z. next_item f n (tree_at z)) u))
+          (k f h (subst (λ z. IsWayIn c.args.sure.now f n v (tree_at z)) (sym u) (i f n at v xs xs x c.requires e refl p)) ∙
+          ap (λ z. next_item f n (tree_at z)) u))
           c.change_item.ensures.made;
-      kept = if_ok_more c.change_item.result _ _ (λ it k i. ap (slice_set xs at) (k i ∙ u) ∙ set_same xs at x c.at_mut.ensures.value) c.change_item.ensures.kept;
+      kept = if_ok_more c.change_item.result _ _ (λ it k i. ap (slice_set xs at) (k i ∙ u) ∙ set_same xs at x c.at_mut.ensures.value)
+          c.change_item.ensures.kept;
       way = if_ok_both c.change_item.result _ _ _
           (λ it a k g r f h d l z p. item_goes_in sure f h g l z n at w xs x y c.requires e
-          (said_more it sure (λ g. IsAlike g (tree_at c.get_mut.result.now) (tree_at y)) (λ g. IsAlike g (tree_at x) (tree_at y)) (λ g. subst (λ z. IsAlike g (tree_at z) (tree_at y)) u) a g r) p.0
+          (said_more it sure (λ g. IsAlike g (tree_at c.get_mut.result.now) (tree_at y)) (λ g. IsAlike g (tree_at x) (tree_at y))
+          (λ g. subst (λ z. IsAlike g (tree_at z) (tree_at y)) u) a g r) p.0
           (k g r f h d l z (subst (λ z. IsWayIn c.args.sure.now f n v (tree_at z)) (sym u) (i f n at v xs xs x c.requires e refl p.1))))
           c.change_item.ensures.alike c.change_item.ensures.way;
     }

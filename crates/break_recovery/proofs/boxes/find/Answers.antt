@@ -17,7 +17,8 @@ returns-in-Some c =
     let x = c.index-items-at.result in
     let e : x ≡ get_or xs at x = c.index-items-at.is ∙ ap (λ z. get_or z at x) c.as_slice-items.ensures.value in
     if_ok_more c.change_of.result _ _
-    (λ it h. h ∙ ap₂ (λ z b. change_there k c.args.level (tree_at z) (trees_of b)) c.get-in-Some.ensures (c.from_ref.ensures.value ∙ ap (λ z. z ∷ []) c.get-in-Some-2.ensures)
+    (λ it h. h ∙ ap₂ (λ z b. change_there k c.args.level (tree_at z) (trees_of b)) c.get-in-Some.ensures
+    (c.from_ref.ensures.value ∙ ap (λ z. z ∷ []) c.get-in-Some-2.ensures)
     ∙ before_next k c.args.level xs at x c.requires e c.in-Some.next.now (sym c.get.ensures.value ∙ ap option_copied c.in-Some.is))
     c.change_of.ensures
 

@@ -13,7 +13,8 @@ returns-then-keeps_next c =
     let at = c.args.at in
     let x = c.at_mut.result.now in
     let y = c.changed_loop.new.item in
-    let k : tree_at y ≡ loop_after c.args.change (tree_at x) = c.in_ok-changed_loop.ensures ∙ ap (λ z. loop_after c.args.change (tree_at z)) c.get_mut.ensures.value in
+    let k : tree_at y ≡ loop_after c.args.change (tree_at x) = c.in_ok-changed_loop.ensures ∙ ap (λ z. loop_after c.args.change (tree_at z))
+    c.get_mut.ensures.value in
     next_kept xs at x c.requires (entry_is xs at x c.at_mut.ensures.value) y c.args.change k (sym c.keeps_next.ensures ∙ c.if-keeps_next.true)
 
 pub returns-then-at-count : goal.returns-then-at-count
@@ -22,9 +23,11 @@ returns-then-at-count c =
     let at = c.args.at in
     let x = c.at_mut.result.now in
     let y = c.changed_loop.new.item in
-    let k : tree_at y ≡ loop_after c.args.change (tree_at x) = c.in_ok-changed_loop.ensures ∙ ap (λ z. loop_after c.args.change (tree_at z)) c.get_mut.ensures.value in
+    let k : tree_at y ≡ loop_after c.args.change (tree_at x) = c.in_ok-changed_loop.ensures ∙ ap (λ z. loop_after c.args.change (tree_at z))
+    c.get_mut.ensures.value in
     let l : at + 1 < length xs = omega (arith, c.if-at-count.true, c.len-count.ensures.value, length-set xs at y) in
-    ap trees_of c.remove.ensures.rest ∙ next_taken xs at x c.requires (entry_is xs at x c.at_mut.ensures.value) y c.args.change k (sym c.keeps_next.ensures ∙ c.if-keeps_next.false) l
+    ap trees_of c.remove.ensures.rest ∙ next_taken xs at x c.requires (entry_is xs at x c.at_mut.ensures.value) y c.args.change k
+    (sym c.keeps_next.ensures ∙ c.if-keeps_next.false) l
 
 pub returns-else-at-count : goal.returns-else-at-count
 returns-else-at-count c =
@@ -32,6 +35,7 @@ returns-else-at-count c =
     let at = c.args.at in
     let x = c.at_mut.result.now in
     let y = c.changed_loop.new.item in
-    let k : tree_at y ≡ loop_after c.args.change (tree_at x) = c.in_ok-changed_loop.ensures ∙ ap (λ z. loop_after c.args.change (tree_at z)) c.get_mut.ensures.value in
+    let k : tree_at y ≡ loop_after c.args.change (tree_at x) = c.in_ok-changed_loop.ensures ∙ ap (λ z. loop_after c.args.change (tree_at z))
+    c.get_mut.ensures.value in
     let l : length xs ≤ at + 1 = omega (arith, c.if-at-count.false, c.len-count.ensures.value, length-set xs at y) in
     none_next xs at x c.requires (entry_is xs at x c.at_mut.ensures.value) y c.args.change k (sym c.keeps_next.ensures ∙ c.if-keeps_next.false) l

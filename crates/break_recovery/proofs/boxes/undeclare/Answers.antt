@@ -15,7 +15,8 @@ loop-i-preserved c =
     let x = c.index-as_slice-i.result in
     let e : x ≡ get_or c.loop-i.list c.loop-i.i x = c.index-as_slice-i.is ∙ ap (λ z. get_or z c.loop-i.i x) c.as_slice.ensures.value in
     let h : c.loop-i.i < length c.loop-i.list = omega (arith, c.loop-i-test.true, c.len.ensures.value) in
-    one_passed c.args.slot c.loop-i.i c.args.list.now c.loop-i.list x h e (ap (λ z. is_declaration c.args.slot (tree_at z)) (sym c.get.ensures) ∙ sym c.is_declaration.ensures ∙ c.if-is_declaration.false) c.loop-i.invariant
+    one_passed c.args.slot c.loop-i.i c.args.list.now c.loop-i.list x h e
+    (ap (λ z. is_declaration c.args.slot (tree_at z)) (sym c.get.ensures) ∙ sym c.is_declaration.ensures ∙ c.if-is_declaration.false) c.loop-i.invariant
 
 pub returns-then-is_declaration : goal.returns-then-is_declaration
 returns-then-is_declaration c =
@@ -23,7 +24,9 @@ returns-then-is_declaration c =
     let e : x ≡ get_or c.loop-i.list c.loop-i.i x = c.index-as_slice-i.is ∙ ap (λ z. get_or z c.loop-i.i x) c.as_slice.ensures.value in
     let h : c.loop-i.i < length c.loop-i.list = omega (arith, c.loop-i-test.true, c.len.ensures.value) in
     record {
-      gone = declaration_gone c.args.slot c.loop-i.i c.args.list.now c.loop-i.list c.remove.new.self x h e (ap (λ z. is_declaration c.args.slot (tree_at z)) (sym c.get.ensures) ∙ sym c.is_declaration.ensures ∙ c.if-is_declaration.true) c.remove.ensures.rest c.loop-i.invariant;
+      gone = declaration_gone c.args.slot c.loop-i.i c.args.list.now c.loop-i.list c.remove.new.self x h e
+          (ap (λ z. is_declaration c.args.slot (tree_at z)) (sym c.get.ensures) ∙ sym c.is_declaration.ensures ∙ c.if-is_declaration.true)
+          c.remove.ensures.rest c.loop-i.invariant;
       place = ap trees_of c.remove.ensures.rest ∙ removed_is c.loop-i.list c.loop-i.i h ∙ ap (λ xs. removed c.loop-i.i (trees_of xs)) c.loop-i.invariant.same;
     }
 

@@ -7,7 +7,8 @@ use Rattle.break_recovery.proofs.Numbered.{Going}
 use Rattle.break_recovery.proofs.functions.change_boxes.Given as goal
 
 abbrev pub invariant-changes : goal.invariant-changes
-invariant-changes l = Going l.count (with_body l.function l.initial.list) l.gone l.counts (with_body l.function l.list) × IsStart l.counts l.start l.sure (reverse l.way) (trees_of l.list)
+invariant-changes l = Going l.count (with_body l.function l.initial.list) l.gone l.counts (with_body l.function l.list) ×
+    IsStart l.counts l.start l.sure (reverse l.way) (trees_of l.list)
 
 abbrev pub decreases-changes : goal.decreases-changes
 decreases-changes l = length (left l.gone l.function.slots)

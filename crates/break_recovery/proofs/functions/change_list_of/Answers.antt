@@ -15,12 +15,16 @@ returns-in-Some c =
     let g = c.in-Some.slot in
     let k = c.in-Some.place in
     record {
-      made = λ f h q e. body_changed f g a b (trees_of c.undeclare-gone.new.list) e (found_changed f g k a b (subst (λ it. IsFoundAt f 2 it a b) c.in-Some.is (c.in_ok-change.ensures.made f h q))) c.undeclare-gone.ensures.gone;
+      made = λ f h q e. body_changed f g a b (trees_of c.undeclare-gone.new.list) e
+          (found_changed f g k a b (subst (λ it. IsFoundAt f 2 it a b) c.in-Some.is (c.in_ok-change.ensures.made f h q))) c.undeclare-gone.ensures.gone;
       kept = λ e. none_some g (sym e);
       start = λ x e f h t l z q.
           let r = c.behind_change.result in (
-            found_goes_on f h l g k a b (trees_of c.undeclare-gone.new.list) c.undeclare-gone.result r.doubt r.from (subst (λ it. IsFoundAt f 2 it a b) c.in-Some.is (c.in_ok-change.ensures.made f t q)) c.undeclare-gone.ensures.place c.behind_change.ensures.goes_on,
-            way_goes_on c.change_from.new.sure h 2 c.change_from.new.way c.keep_way.new.way k c.undeclare-gone.result r.from b (trees_of c.undeclare-gone.new.list) c.undeclare-gone.ensures.place c.behind_change.ensures.way c.keep_way.ensures
+            found_goes_on f h l g k a b (trees_of c.undeclare-gone.new.list) c.undeclare-gone.result r.doubt r.from
+                (subst (λ it. IsFoundAt f 2 it a b) c.in-Some.is (c.in_ok-change.ensures.made f t q)) c.undeclare-gone.ensures.place
+                c.behind_change.ensures.goes_on,
+            way_goes_on c.change_from.new.sure h 2 c.change_from.new.way c.keep_way.new.way k c.undeclare-gone.result r.from b
+                (trees_of c.undeclare-gone.new.list) c.undeclare-gone.ensures.place c.behind_change.ensures.way c.keep_way.ensures
                 (c.in_ok-change.ensures.way (g, k) c.in-Some.is f h t l (ap (counts_of h) (one_slot g x e) ∙ z) q),
           );
     }

@@ -24,7 +24,8 @@ returns-in-Some c =
           (λ t. subst (λ it. IsBodyChanged h it (Some (trees_of b))) c.in-Some.is (c.in_ok-change.ensures.made h t (s h t) refl));
       start = λ w f t s h u.
           let k = function_tree (with_body f a) in
-          c.in_ok-change.ensures.start g c.in-Some.is k h t (fewer_counted k h c.args.counts.now c.forget.new.counts g c.forget.ensures t u) (none_counted h c.args.counts.now c.forget.new.counts g c.forget.ensures u) (s k t);
+          c.in_ok-change.ensures.start g c.in-Some.is k h t (fewer_counted k h c.args.counts.now c.forget.new.counts g c.forget.ensures t u)
+          (none_counted h c.args.counts.now c.forget.new.counts g c.forget.ensures u) (s k t);
     }
 
 pub returns-in-None : goal.returns-in-None

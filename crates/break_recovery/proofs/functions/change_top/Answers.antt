@@ -8,5 +8,6 @@ use Rattle.break_recovery.proofs.functions.change_top.Goals as goal
 pub returns-in-Function : goal.returns-in-Function
 returns-in-Function c =
     if_ok_more c.change_fully.result _ _
-    (λ n h. subst (λ z. TopTidied n z (T.Function c.change_fully.new.function)) (sym c.in-Function.is) (top_of n c.in-Function.function c.change_fully.new.function h))
+    (λ n h. subst (λ z. TopTidied n z (T.Function c.change_fully.new.function)) (sym c.in-Function.is)
+    (top_of n c.in-Function.function c.change_fully.new.function h))
     c.change_fully.ensures

@@ -8,7 +8,8 @@ loop-i-init c = none_done c.args.tops.now
 pub loop-i-preserved : goal.loop-i-preserved
 loop-i-preserved c =
     let more : c.loop-i.i + 1 ≡ suc c.loop-i.i = omega arith in
-    one_done c.loop-i.i c.loop-i.count c.in_ok-more.more (c.loop-i.i + 1) c.in_ok-count.count c.args.tops.now c.loop-i.tops (slice_set c.loop-i.tops c.loop-i.i c.change_top.new.top) c.at_mut.result.now c.change_top.new.top
+    one_done c.loop-i.i c.loop-i.count c.in_ok-more.more (c.loop-i.i + 1) c.in_ok-count.count c.args.tops.now c.loop-i.tops
+    (slice_set c.loop-i.tops c.loop-i.i c.change_top.new.top) c.at_mut.result.now c.change_top.new.top
     c.at_mut.ensures.value c.in_ok-more.ensures refl c.in_ok-count.ensures more c.loop-i.invariant
 
 pub returns : goal.returns

@@ -21,7 +21,8 @@ returns-in_ok-make-in-Some c =
     let e : x ≡ get_or xs at x = c.index-as_slice-at.is ∙ ap (λ z. get_or z at x) c.as_slice.ensures.value in
     record {
       made = λ f h. ap (λ g. changed_to (Some g) (trees_of ys)) c.slot_of-slot.ensures
-          ∙ here_changed f c.args.level (trees_of (drop at xs)) (join (trees_of (take at xs))) (count_in c.args.counts.now) (fun_ext h) _ c.in_ok-change.ensures r (trees_of ys) c.in-Some.is c.in_ok-make-in-Some.ensures;
+          ∙ here_changed f c.args.level (trees_of (drop at xs)) (join (trees_of (take at xs))) (count_in c.args.counts.now) (fun_ext h)
+          _ c.in_ok-change.ensures r (trees_of ys) c.in-Some.is c.in_ok-make-in-Some.ensures;
       kept = λ e. some_none g e;
       alike = said_here g c.item_is_steady-steady.result (λ g. AreAlike g (trees_of xs) (trees_of ys))
           (λ i. subst (λ g. AreAlike g (trees_of xs) (trees_of ys)) (sym c.slot_of-slot.ensures)
@@ -33,4 +34,5 @@ pub returns-in-None-clause-made : goal.returns-in-None-clause-made
 returns-in-None-clause-made c =
     let xs = c.args.list.now in
     let at = c.args.at in
-    λ f h. here_none f c.args.level (trees_of (drop at xs)) (join (trees_of (take at xs))) (count_in c.args.counts.now) (fun_ext h) _ c.in_ok-change.ensures (trees_of xs) c.in-None.is
+    λ f h. here_none f c.args.level (trees_of (drop at xs)) (join (trees_of (take at xs))) (count_in c.args.counts.now) (fun_ext h)
+    _ c.in_ok-change.ensures (trees_of xs) c.in-None.is

@@ -15,5 +15,6 @@ returns c =
     let x = c.index-items-at.result in
     let e : x ≡ get_or xs at x = c.index-items-at.is ∙ ap (λ z. get_or z at x) c.as_slice-items.ensures.value in
     if_ok_more c.change_of.result _ _
-    (λ it h. h ∙ ap (λ b. change_there k c.args.level (tree_at x) (trees_of b)) (c.split_at.ensures.back ∙ ap (drop (at + 1)) c.as_slice-items.ensures.value) ∙ before_rest k c.args.level xs at x c.requires e)
+    (λ it h. h ∙ ap (λ b. change_there k c.args.level (tree_at x) (trees_of b))
+    (c.split_at.ensures.back ∙ ap (drop (at + 1)) c.as_slice-items.ensures.value) ∙ before_rest k c.args.level xs at x c.requires e)
     c.change_of.ensures

@@ -10,7 +10,8 @@ returns-then-keeps_next c =
     let xs = c.args.list.now in
     let at = c.args.at in
     let x = c.at_mut.result.now in
-    next_kept xs at x c.requires (entry_is xs at x c.at_mut.ensures.value) c.changed_loop.new.item c.args.change c.in_ok-changed_loop.ensures (sym c.keeps_next.ensures ∙ c.if-keeps_next.true)
+    next_kept xs at x c.requires (entry_is xs at x c.at_mut.ensures.value) c.changed_loop.new.item c.args.change c.in_ok-changed_loop.ensures
+    (sym c.keeps_next.ensures ∙ c.if-keeps_next.true)
 
 pub returns-then-at-count : goal.returns-then-at-count
 returns-then-at-count c =
@@ -20,7 +21,8 @@ returns-then-at-count c =
     let y = c.changed_loop.new.item in
     let l : at + 1 < length xs = omega (arith, c.if-at-count.true, c.len-count.ensures.value, length-set xs at y) in
     ap trees_of c.remove.ensures.rest
-    ∙ next_taken xs at x c.requires (entry_is xs at x c.at_mut.ensures.value) y c.args.change c.in_ok-changed_loop.ensures (sym c.keeps_next.ensures ∙ c.if-keeps_next.false) l
+    ∙ next_taken xs at x c.requires (entry_is xs at x c.at_mut.ensures.value) y c.args.change c.in_ok-changed_loop.ensures
+    (sym c.keeps_next.ensures ∙ c.if-keeps_next.false) l
 
 pub returns-else-at-count : goal.returns-else-at-count
 returns-else-at-count c =
@@ -29,4 +31,5 @@ returns-else-at-count c =
     let x = c.at_mut.result.now in
     let y = c.changed_loop.new.item in
     let l : length xs ≤ at + 1 = omega (arith, c.if-at-count.false, c.len-count.ensures.value, length-set xs at y) in
-    none_next xs at x c.requires (entry_is xs at x c.at_mut.ensures.value) y c.args.change c.in_ok-changed_loop.ensures (sym c.keeps_next.ensures ∙ c.if-keeps_next.false) l
+    none_next xs at x c.requires (entry_is xs at x c.at_mut.ensures.value) y c.args.change c.in_ok-changed_loop.ensures
+    (sym c.keeps_next.ensures ∙ c.if-keeps_next.false) l

@@ -41,13 +41,15 @@ returns-in-Some c =
       made = λ f h g p.
           let v = c.loop-i.invariant.1 f h g p in
           one_found f n i (trees_of xs) (trees_of ys) c.in_ok-change.change c.in-Some.slot
-          (place_told f n i xs c.loop-i.list c.in_ok-change.change (trees_of ys) q (c.in_ok-change.ensures.made f h (place_in c.loop-i.sure f n i xs c.loop-i.list (reverse c.loop-i.way) q v.1))) c.in-Some.is v.0;
+          (place_told f n i xs c.loop-i.list c.in_ok-change.change (trees_of ys) q
+          (c.in_ok-change.ensures.made f h (place_in c.loop-i.sure f n i xs c.loop-i.list (reverse c.loop-i.way) q v.1))) c.in-Some.is v.0;
       kept = λ e. some_none (c.in-Some.slot, i) e;
       way = λ x e f h d l z p.
           let v = c.loop-i.invariant.1 f d p.0 p.1 in
           let r = pair_is c.in-Some.slot i x e in
           subst (λ j. IsWayAt c.change_place.new.sure h n (reverse c.change_place.new.way) (behind j (trees_of ys))) r
-          (c.in_ok-change.ensures.way c.in-Some.slot c.in-Some.is f h d l (ap (counts_of h) (pair_slot c.in-Some.slot i x e) ∙ z) (place_in c.loop-i.sure f n i xs c.loop-i.list (reverse c.loop-i.way) q v.1));
+          (c.in_ok-change.ensures.way c.in-Some.slot c.in-Some.is f h d l (ap (counts_of h) (pair_slot c.in-Some.slot i x e) ∙ z)
+          (place_in c.loop-i.sure f n i xs c.loop-i.list (reverse c.loop-i.way) q v.1));
     }
 
 pub returns : goal.returns

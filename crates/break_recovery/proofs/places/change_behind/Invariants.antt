@@ -9,7 +9,8 @@ use Rattle.break_recovery.proofs.places.change_behind.Given as goal
 abbrev pub invariant-loop-i : goal.invariant-loop-i
 invariant-loop-i l =
     (l.list ≡ l.initial.list)
-    × ((f : FunctionTree) → Tells l.counts f → AreQuiet f l.level l.from (trees_of l.initial.list) → IsWayAt l.initial.sure f l.level (reverse l.initial.way) (behind l.from (trees_of l.initial.list))
+    × ((f : FunctionTree) → Tells l.counts f → AreQuiet f l.level l.from (trees_of l.initial.list) →
+    IsWayAt l.initial.sure f l.level (reverse l.initial.way) (behind l.from (trees_of l.initial.list))
     → AreQuiet f l.level l.i (trees_of l.initial.list) × IsWayAt l.sure f l.level (reverse l.way) (behind l.i (trees_of l.initial.list)))
 
 abbrev pub decreases-loop-i : goal.decreases-loop-i

@@ -19,11 +19,14 @@ returns-in-Some c =
     let u = c.new-inside.result in
     record {
       made = λ f h q. one_found f n s.doubt a (trees_of c.change_place.new.list) c.in_ok-change.change c.in-Some.slot
-          (c.in_ok-change.ensures.made f h (no_way true f n (reverse u) (behind s.doubt a) (ap reverse c.new-inside.ensures))) c.in-Some.is (before_doubt f n s.doubt s.from a c.requires q.0);
+          (c.in_ok-change.ensures.made f h (no_way true f n (reverse u) (behind s.doubt a) (ap reverse c.new-inside.ensures))) c.in-Some.is
+          (before_doubt f n s.doubt s.from a c.requires q.0);
       kept = λ e. some_none (c.in-Some.slot, s.doubt) e;
       way = λ x e f h d l z p.
-          subst (λ j. IsWayAt c.change_place.new.sure h n (reverse c.change_place.new.way) (behind j (trees_of c.change_place.new.list))) (pair_is c.in-Some.slot s.doubt x e)
-          (c.in_ok-change.ensures.way c.in-Some.slot c.in-Some.is f h d l (ap (counts_of h) (pair_slot c.in-Some.slot s.doubt x e) ∙ z) (no_way true f n (reverse u) (behind s.doubt a) (ap reverse c.new-inside.ensures)));
+          subst (λ j. IsWayAt c.change_place.new.sure h n (reverse c.change_place.new.way) (behind j (trees_of c.change_place.new.list)))
+          (pair_is c.in-Some.slot s.doubt x e)
+          (c.in_ok-change.ensures.way c.in-Some.slot c.in-Some.is f h d l (ap (counts_of h) (pair_slot c.in-Some.slot s.doubt x e) ∙ z)
+          (no_way true f n (reverse u) (behind s.doubt a) (ap reverse c.new-inside.ensures)));
     }
 
 pub returns-in-None : goal.returns-in-None
@@ -34,12 +37,14 @@ returns-in-None c =
     let e = c.in_ok-change.ensures.kept c.in-None.is in
     let u = c.new-inside.result in
     let v = reverse c.args.way.now in
-    let r : (f : FunctionTree) → Tells c.args.counts.now f → AreQuietBut f n s.doubt s.from a → AreQuiet f n s.from (trees_of c.change_place.new.list) = λ f h q.
+    let r : (f : FunctionTree) → Tells c.args.counts.now f → AreQuietBut f n s.doubt s.from a →
+    AreQuiet f n s.from (trees_of c.change_place.new.list) = λ f h q.
     subst (λ xs. AreQuiet f n s.from (trees_of xs)) (sym e)
     (doubt_gone f n s.doubt s.from a
     (none_found (λ c. replaced s.doubt c a) c.in_ok-change.change (trees_of c.change_place.new.list) (next_at f n (behind s.doubt a))
     (c.in_ok-change.ensures.made f h (no_way true f n (reverse u) (behind s.doubt a) (ap reverse c.new-inside.ensures))) c.in-None.is) q) in
-    let w : (f : FunctionTree) → IsWayAt c.args.sure.now f n v (behind s.from a) → IsWayAt c.args.sure.now f n v (behind s.from (trees_of c.change_place.new.list)) = λ f p.
+    let w : (f : FunctionTree) → IsWayAt c.args.sure.now f n v (behind s.from a) →
+    IsWayAt c.args.sure.now f n v (behind s.from (trees_of c.change_place.new.list)) = λ f p.
     subst (λ xs. IsWayAt c.args.sure.now f n v (behind s.from (trees_of xs))) (sym e) p in
     record {
       made = if_ok_more c.change_behind.result _ _

@@ -17,7 +17,8 @@ returns-then-place-len c =
           c.change_at.ensures.made;
       kept = c.change_at.ensures.kept;
       way = if_ok_more c.change_at.result _ _
-          (λ it k g r f h d l z p. subst (IsWayAt c.change_at.new.sure h n (reverse c.change_at.new.way)) (behind_is i c.change_at.new.list) (k g r f h d l z (subst (IsWayAt c.args.sure.now f n v) (sym (behind_is i xs)) p)))
+          (λ it k g r f h d l z p. subst (IsWayAt c.change_at.new.sure h n (reverse c.change_at.new.way)) (behind_is i c.change_at.new.list)
+          (k g r f h d l z (subst (IsWayAt c.args.sure.now f n v) (sym (behind_is i xs)) p)))
           c.change_at.ensures.way;
     }
 

@@ -40,7 +40,8 @@ change_list-loop-i-preserved t c =
       c.in_ok-change.ensures.kept o ∙ q,
       λ f h p.
           let v = c.loop-i.invariant.1 f h p in
-          let k = c.in_ok-change.ensures.made f h (premise_at c.loop-i.sure f n c.in_ok-inside.inside i xs c.loop-i.list (reverse c.loop-i.way) c.in_ok-inside.ensures q v.1) in (
+          let k = c.in_ok-change.ensures.made f h (premise_at c.loop-i.sure f n c.in_ok-inside.inside i xs c.loop-i.list (reverse c.loop-i.way)
+          c.in_ok-inside.ensures q v.1) in (
             more_quiet f (suc n) i (trees_of xs)
                 (none_found (λ c. replaced i c (trees_of xs)) c.in_ok-change.change (trees_of c.change_at.new.list) (next_at f (suc n) (behind i (trees_of xs)))
                 (at_told f n c.in_ok-inside.inside i xs c.loop-i.list c.in_ok-change.change (trees_of c.change_at.new.list) c.in_ok-inside.ensures q k) o) v.0,
@@ -64,7 +65,8 @@ change_list-returns-then-is_some t c =
           let v = c.loop-i.invariant.1 f h
           (list_stepped c.args.sure.now f n c.next_step-i.result (reverse c.args.way.now) (reverse c.next_step-i.new.way) xs c.next_step-i.ensures p) in
           list_found f n i (trees_of xs) (trees_of ys) s o
-          (at_told f n m i xs c.loop-i.list s (trees_of ys) e q (c.in_ok-change.ensures.made f h (premise_at c.loop-i.sure f n m i xs c.loop-i.list (reverse c.loop-i.way) e q v.1))) v.0;
+          (at_told f n m i xs c.loop-i.list s (trees_of ys) e q
+          (c.in_ok-change.ensures.made f h (premise_at c.loop-i.sure f n m i xs c.loop-i.list (reverse c.loop-i.way) e q v.1))) v.0;
       kept = an_answer s o;
       alike = said_more s c.change_at.new.sure (λ g. AreAlike g (trees_of c.loop-i.list) (trees_of ys)) (λ g. AreAlike g (trees_of xs) (trees_of ys))
           (λ g. subst (λ zs. AreAlike g (trees_of zs) (trees_of ys)) q) c.in_ok-change.ensures.alike;
@@ -154,7 +156,8 @@ change_asked-returns t c =
           c.change_within.ensures.made;
       kept = if_ok_more c.change_within.result _ _ (λ it k e. k e ∙ q.0) c.change_within.ensures.kept;
       alike = if_ok_more c.change_within.result _ _
-          (λ it k. said_more it c.change_within.new.sure (λ g. AreAlike g (trees_of ys) r) (λ g. AreAlike g (trees_of xs) r) (λ g. subst (λ zs. AreAlike g (trees_of zs) r) q.0) k)
+          (λ it k. said_more it c.change_within.new.sure (λ g. AreAlike g (trees_of ys) r) (λ g. AreAlike g (trees_of xs) r)
+          (λ g. subst (λ zs. AreAlike g (trees_of zs) r) q.0) k)
           c.change_within.ensures.alike;
       way = if_ok_more c.change_within.result _ _ (λ it k g e f h d l z p. k g e f h d l z (u f d, v f p)) c.change_within.ensures.way;
     }
@@ -182,10 +185,12 @@ change_within-returns t c =
           c.change_item.ensures.made;
       kept = if_ok_more c.change_item.result _ _ (λ it k i. ap (slice_set xs at) (k i) ∙ set_same xs at x c.at_mut.ensures.value) c.change_item.ensures.kept;
       alike = if_ok_more c.change_item.result _ _
-          (λ it k. said_more it sure (λ g. IsAlike g (tree_at x) (tree_at y)) (λ g. AreAlike g (trees_of xs) (trees_of (slice_set xs at y))) (λ g. alike_set g xs at x y c.requires e) k)
+          (λ it k. said_more it sure (λ g. IsAlike g (tree_at x) (tree_at y)) (λ g. AreAlike g (trees_of xs) (trees_of (slice_set xs at y)))
+          (λ g. alike_set g xs at x y c.requires e) k)
           c.change_item.ensures.alike;
       way = if_ok_both c.change_item.result _ _ _
-          (λ it a k g r f h d l z p. item_goes_in sure f h g l z n at w xs x y c.requires e (a g r) p.0 (k g r f h d l z (i f n at v xs xs x c.requires e refl p.1)))
+          (λ it a k g r f h d l z p. item_goes_in sure f h g l z n at w xs x y c.requires e (a g r) p.0
+          (k g r f h d l z (i f n at v xs xs x c.requires e refl p.1)))
           c.change_item.ensures.alike c.change_item.ensures.way;
     }
 
@@ -216,7 +221,8 @@ change_either-returns-then-next_step-gt0 t c =
           second_alone f n a b r it u.0 (m f h u.1)) c.change_second.ensures.made;
       kept = if_ok_more c.change_second.result _ _ (λ it m e. (refl, m e)) c.change_second.ensures.kept;
       alike = if_ok_more c.change_second.result _ _
-          (λ it m. said_more it c.change_second.new.sure (λ g. AreAlike g b r) (λ g. AreAlikeOf g a b a r) (λ g q. inr (refl, q)) m) c.change_second.ensures.alike;
+          (λ it m. said_more it c.change_second.new.sure (λ g. AreAlike g b r) (λ g. AreAlikeOf g a b a r) (λ g q. inr (refl, q)) m)
+          c.change_second.ensures.alike;
       way = if_ok_more c.change_second.result _ _
           (λ it m g e f h d l y p.
           let i = step_in_second c.args.sure.now f n k v w a b z c.next_step.ensures p in
@@ -258,17 +264,21 @@ change_either-returns t c =
     let r = trees_of c.change_second-2.new.second in
     let u = reverse c.change_second-2.new.way in
     let none : (f : FunctionTree) → Tells c.args.counts.now f → IsWayOf c.args.sure.now f n v a b → next_list f n a ≡ None = λ f h p.
-    nothing_made c.in_ok-change.change (trees_of c.change_list.new.list) (next_list f n a) o (c.in_ok-change.ensures.made f h (step_in_first c.args.sure.now f n k v w a b z c.next_step.ensures p)) in
+    nothing_made c.in_ok-change.change (trees_of c.change_list.new.list) (next_list f n a) o
+    (c.in_ok-change.ensures.made f h (step_in_first c.args.sure.now f n k v w a b z c.next_step.ensures p)) in
     record {
       made = if_ok_more c.change_second-2.result _ _
           (λ it m f h p. ap (λ xs. changed_to it (trees_of xs, r)) q
-          ∙ second_alone f n a b r it (none f h p) (m f h (no_way_of_list c.change_list.new.sure f n c.new.result b c.new.ensures))) c.change_second-2.ensures.made;
+          ∙ second_alone f n a b r it (none f h p) (m f h (no_way_of_list c.change_list.new.sure f n c.new.result b c.new.ensures)))
+          c.change_second-2.ensures.made;
       kept = if_ok_more c.change_second-2.result _ _ (λ it m e. (q, m e)) c.change_second-2.ensures.kept;
       alike = if_ok_more c.change_second-2.result _ _
-          (λ it m. said_more it c.change_second-2.new.sure (λ g. AreAlike g b r) (λ g. AreAlikeOf g a b (trees_of c.change_list.new.list) r) (λ g p. inr (ap trees_of q, p)) m) c.change_second-2.ensures.alike;
+          (λ it m. said_more it c.change_second-2.new.sure (λ g. AreAlike g b r) (λ g. AreAlikeOf g a b (trees_of c.change_list.new.list) r)
+          (λ g p. inr (ap trees_of q, p)) m) c.change_second-2.ensures.alike;
       way = if_ok_more c.change_second-2.result _ _
           (λ it m g e f h d l y p. subst (λ xs. IsWayOf c.change_second-2.new.sure h n u (trees_of xs) r) (sym q)
-          (second_out c.change_second-2.new.sure f h l n u a r (none f d p) (m g e f h d l y (no_way_of_list c.change_list.new.sure f n c.new.result b c.new.ensures)))) c.change_second-2.ensures.way;
+          (second_out c.change_second-2.new.sure f h l n u a r (none f d p)
+          (m g e f h d l y (no_way_of_list c.change_list.new.sure f n c.new.result b c.new.ensures)))) c.change_second-2.ensures.way;
     }
 
 pub change_second-change_list-requires : goal.change_second-change_list-requires
@@ -281,7 +291,11 @@ change_second-returns-then-is_some t c =
       made = c.in_ok-change.ensures.made;
       kept = an_answer c.in_ok-change.change o;
       alike = c.in_ok-change.ensures.alike;
-      way = λ g r f h d l z p. (reverse c.change_list.new.way, way_told c.push.new.self c.change_list.new.way 1 c.in_ok-push.ensures.ok, c.in_ok-change.ensures.way g r f h d l z p);
+      way = λ g r f h d l z p. (
+        reverse c.change_list.new.way,
+        way_told c.push.new.self c.change_list.new.way 1 c.in_ok-push.ensures.ok,
+        c.in_ok-change.ensures.way g r f h d l z p,
+      );
     }
 
 pub change_second-returns : goal.change_second-returns
@@ -322,7 +336,8 @@ change_sections-loop-i-preserved t c =
           let v = c.loop-i.invariant.1 f h p in (
             more_quiet_sections f n i cs s l (entry_is cs i s g)
                 (nothing_made c.in_ok-change.change (trees_of (list_of c.change_section.new.section)) (next_list f n (trees_of (list_of s))) o
-                (c.in_ok-change.ensures.made f h (subst (IsWay c.loop-i.sure f n (reverse c.loop-i.way)) (list_there_is i cs s l (entry_is cs i s g)) v.1))) v.0,
+                (c.in_ok-change.ensures.made f h (subst (IsWay c.loop-i.sure f n (reverse c.loop-i.way)) (list_there_is i cs s l (entry_is cs i s g))
+                v.1))) v.0,
             no_way_of_list c.change_section.new.sure f n c.new.result (list_there (i + 1) (sections_of cs)) c.new.ensures,
           ),
     )
@@ -343,21 +358,26 @@ change_sections-returns-then-is_some t c =
     record {
       made = λ f h p.
           let v = c.loop-i.invariant.1 f h
-          (step_in_sections c.args.sure.now f n c.next_step-i.result (reverse c.args.way.now) (reverse c.next_step-i.new.way) (sections_of cs) c.next_step-i.ensures p) in
+          (step_in_sections c.args.sure.now f n c.next_step-i.result (reverse c.args.way.now) (reverse c.next_step-i.new.way) (sections_of cs)
+          c.next_step-i.ensures p) in
           ap (λ ys. changed_to c.in_ok-change.change (sections_of (slice_set ys i r))) q
           ∙ section_found f n cs i s _ l (entry_is cs i s found)
           (section_changed f n cs i s r c.in_ok-change.change l c.in_ok-change.ensures.rest
           (c.in_ok-change.ensures.made f h (subst (IsWay c.loop-i.sure f n (reverse c.loop-i.way)) (list_there_is i cs s l (entry_is cs i s found)) v.1)))
           (a_slot c.in_ok-change.change (sections_of (slice_set cs i r)) o) (quiet_go f n i cs v.0);
       kept = an_answer c.in_ok-change.change o;
-      alike = said_more k u (λ g. AreAlike g (trees_of (list_of s)) (trees_of (list_of r))) (λ g. AreSectionsAlike g (sections_of cs) (sections_of (slice_set c.loop-i.sections i r)))
-          (λ g p. subst (λ ys. AreSectionsAlike g (sections_of cs) (sections_of (slice_set ys i r))) (sym q) (sections_alike g cs i s r l (entry_is cs i s found) p)) c.in_ok-change.ensures.alike;
+      alike = said_more k u (λ g. AreAlike g (trees_of (list_of s)) (trees_of (list_of r)))
+          (λ g. AreSectionsAlike g (sections_of cs) (sections_of (slice_set c.loop-i.sections i r)))
+          (λ g p. subst (λ ys. AreSectionsAlike g (sections_of cs) (sections_of (slice_set ys i r))) (sym q)
+          (sections_alike g cs i s r l (entry_is cs i s found) p)) c.in_ok-change.ensures.alike;
       way = λ x e f h d m y p.
           let v = c.loop-i.invariant.1 f d
-          (step_in_sections c.args.sure.now f n c.next_step-i.result (reverse c.args.way.now) (reverse c.next_step-i.new.way) (sections_of cs) c.next_step-i.ensures p) in
+          (step_in_sections c.args.sure.now f n c.next_step-i.result (reverse c.args.way.now) (reverse c.next_step-i.new.way) (sections_of cs)
+          c.next_step-i.ensures p) in
           subst (λ ys. IsWayThrough u h n (reverse c.push.new.self) (sections_of (slice_set ys i r))) (sym q)
           (section_way u f h m n i cs r c.push.new.self c.change_section.new.way l v.0 c.in_ok-push.ensures.ok
-          (c.in_ok-change.ensures.way x e f h d m y (subst (IsWay c.loop-i.sure f n (reverse c.loop-i.way)) (list_there_is i cs s l (entry_is cs i s found)) v.1)));
+          (c.in_ok-change.ensures.way x e f h d m y (subst (IsWay c.loop-i.sure f n (reverse c.loop-i.way))
+          (list_there_is i cs s l (entry_is cs i s found)) v.1)));
     }
 
 pub change_sections-returns : goal.change_sections-returns
@@ -369,7 +389,8 @@ change_sections-returns t c =
     record {
       made = λ f h p.
           let v = c.loop-i.invariant.1 f h
-          (step_in_sections c.args.sure.now f n c.next_step-i.result (reverse c.args.way.now) (reverse c.next_step-i.new.way) (sections_of cs) c.next_step-i.ensures p) in
+          (step_in_sections c.args.sure.now f n c.next_step-i.result (reverse c.args.way.now) (reverse c.next_step-i.new.way) (sections_of cs)
+          c.next_step-i.ensures p) in
           sections_end f n cs c.loop-i.i l (quiet_go f n c.loop-i.i cs v.0);
       kept = λ e. q;
       alike = λ g e. none_some g e;
@@ -377,22 +398,28 @@ change_sections-returns t c =
     }
 
 pub change_item-change_either-change-requires : goal.change_item-change_either-change-requires
-change_item-change_either-change-requires t c = let n = of_if c.args.item.now c.in-If.test c.in-If.a c.in-If.b (sym c.replace.ensures.value ∙ c.in-If.is) in (omega (arith, n, c.decreases), tt)
+change_item-change_either-change-requires t c = let n = of_if c.args.item.now c.in-If.test c.in-If.a c.in-If.b
+    (sym c.replace.ensures.value ∙ c.in-If.is) in (omega (arith, n, c.decreases), tt)
 
 pub change_item-change_list-change-requires : goal.change_item-change_list-change-requires
-change_item-change_list-change-requires t c = let n = of_while c.args.item.now c.in-While.test c.in-While.a (sym c.replace.ensures.value ∙ c.in-While.is) in (omega (arith, n, c.decreases), tt)
+change_item-change_list-change-requires t c = let n = of_while c.args.item.now c.in-While.test c.in-While.a
+    (sym c.replace.ensures.value ∙ c.in-While.is) in (omega (arith, n, c.decreases), tt)
 
 pub change_item-change_list-change-requires-in-Do : goal.change_item-change_list-change-requires-in-Do
-change_item-change_list-change-requires-in-Do t c = let n = of_do c.args.item.now c.in-Do.test c.in-Do.a (sym c.replace.ensures.value ∙ c.in-Do.is) in (omega (arith, n, c.decreases), tt)
+change_item-change_list-change-requires-in-Do t c = let n = of_do c.args.item.now c.in-Do.test c.in-Do.a (sym c.replace.ensures.value ∙ c.in-Do.is) in
+    (omega (arith, n, c.decreases), tt)
 
 pub change_item-change_either-change-requires-in-For : goal.change_item-change_either-change-requires-in-For
-change_item-change_either-change-requires-in-For t c = let n = of_for c.args.item.now c.in-For.first c.in-For.test c.in-For.third c.in-For.a (sym c.replace.ensures.value ∙ c.in-For.is) in (omega (arith, n, c.decreases), tt)
+change_item-change_either-change-requires-in-For t c = let n = of_for c.args.item.now c.in-For.first c.in-For.test c.in-For.third c.in-For.a
+    (sym c.replace.ensures.value ∙ c.in-For.is) in (omega (arith, n, c.decreases), tt)
 
 pub change_item-change_sections-change-requires : goal.change_item-change_sections-change-requires
-change_item-change_sections-change-requires t c = let n = of_switch c.args.item.now c.in-Switch.selector c.in-Switch.sections (sym c.replace.ensures.value ∙ c.in-Switch.is) in (omega (arith, n, c.decreases), tt)
+change_item-change_sections-change-requires t c = let n = of_switch c.args.item.now c.in-Switch.selector c.in-Switch.sections
+    (sym c.replace.ensures.value ∙ c.in-Switch.is) in (omega (arith, n, c.decreases), tt)
 
 pub change_item-change_list-change-requires-in-Block : goal.change_item-change_list-change-requires-in-Block
-change_item-change_list-change-requires-in-Block t c = let n = of_block c.args.item.now c.in-Block.a (sym c.replace.ensures.value ∙ c.in-Block.is) in (omega (arith, n, c.decreases), tt)
+change_item-change_list-change-requires-in-Block t c = let n = of_block c.args.item.now c.in-Block.a (sym c.replace.ensures.value ∙ c.in-Block.is) in
+    (omega (arith, n, c.decreases), tt)
 
 pub change_item-returns-in-If : goal.change_item-returns-in-If
 change_item-returns-in-If t c =
@@ -403,16 +430,22 @@ change_item-returns-in-If t c =
     let w = reverse c.change_either-change.new.way in
     record {
       made = if_ok_more c.change_either-change.result _ _
-          (λ it k f h p. if_changed f n x it c.in-If.test c.in-If.a c.in-If.b c.change_either-change.new.first c.change_either-change.new.second e (k f h (if_in c.args.sure.now f n v x c.in-If.test c.in-If.a c.in-If.b e p)))
+          (λ it k f h p. if_changed f n x it c.in-If.test c.in-If.a c.in-If.b c.change_either-change.new.first c.change_either-change.new.second e
+          (k f h (if_in c.args.sure.now f n v x c.in-If.test c.in-If.a c.in-If.b e p)))
           c.change_either-change.ensures.made;
       kept = if_ok_more c.change_either-change.result _ _
           (λ it k d. ap₂ (If c.in-If.test) (k d).0 (k d).1 ∙ sym e)
           c.change_either-change.ensures.kept;
       alike = if_ok_more c.change_either-change.result _ _
-          (λ it k. said_more it c.change_either-change.new.sure (λ g. AreAlikeOf g (trees_of c.in-If.a) (trees_of c.in-If.b) (trees_of c.change_either-change.new.first) (trees_of c.change_either-change.new.second)) (λ g. IsAlike g (tree_at x) (tree_at (If c.in-If.test c.change_either-change.new.first c.change_either-change.new.second))) (λ g. if_is_alike g x c.in-If.test c.in-If.a c.in-If.b c.change_either-change.new.first c.change_either-change.new.second e) k)
+          (λ it k. said_more it c.change_either-change.new.sure
+          (λ g. AreAlikeOf g (trees_of c.in-If.a) (trees_of c.in-If.b) (trees_of c.change_either-change.new.first)
+          (trees_of c.change_either-change.new.second))
+          (λ g. IsAlike g (tree_at x) (tree_at (If c.in-If.test c.change_either-change.new.first c.change_either-change.new.second)))
+          (λ g. if_is_alike g x c.in-If.test c.in-If.a c.in-If.b c.change_either-change.new.first c.change_either-change.new.second e) k)
           c.change_either-change.ensures.alike;
       way = if_ok_more c.change_either-change.result _ _
-          (λ it k g r f h d l z p. if_out c.change_either-change.new.sure h n w c.in-If.test c.change_either-change.new.first c.change_either-change.new.second (k g r f h d l z (if_in c.args.sure.now f n v x c.in-If.test c.in-If.a c.in-If.b e p)))
+          (λ it k g r f h d l z p. if_out c.change_either-change.new.sure h n w c.in-If.test c.change_either-change.new.first
+          c.change_either-change.new.second (k g r f h d l z (if_in c.args.sure.now f n v x c.in-If.test c.in-If.a c.in-If.b e p)))
           c.change_either-change.ensures.way;
     }
 
@@ -425,14 +458,18 @@ change_item-returns-in-While t c =
     let w = reverse c.change_list-change.new.way in
     record {
       made = if_ok_more c.change_list-change.result _ _
-          (λ it k f h p. while_changed f n x it c.in-While.test c.in-While.a c.change_list-change.new.list e (k f h (while_in c.args.sure.now f n v x c.in-While.test c.in-While.a e p)))
+          (λ it k f h p. while_changed f n x it c.in-While.test c.in-While.a c.change_list-change.new.list e
+          (k f h (while_in c.args.sure.now f n v x c.in-While.test c.in-While.a e p)))
           c.change_list-change.ensures.made;
       kept = if_ok_more c.change_list-change.result _ _ (λ it k d. ap (While c.in-While.test) (k d) ∙ sym e) c.change_list-change.ensures.kept;
       alike = if_ok_more c.change_list-change.result _ _
-          (λ it k. said_more it c.change_list-change.new.sure (λ g. AreAlike g (trees_of c.in-While.a) (trees_of c.change_list-change.new.list)) (λ g. IsAlike g (tree_at x) (tree_at (While c.in-While.test c.change_list-change.new.list))) (λ g. while_is_alike g x c.in-While.test c.in-While.a c.change_list-change.new.list e) k)
+          (λ it k. said_more it c.change_list-change.new.sure (λ g. AreAlike g (trees_of c.in-While.a) (trees_of c.change_list-change.new.list))
+          (λ g. IsAlike g (tree_at x) (tree_at (While c.in-While.test c.change_list-change.new.list)))
+          (λ g. while_is_alike g x c.in-While.test c.in-While.a c.change_list-change.new.list e) k)
           c.change_list-change.ensures.alike;
       way = if_ok_more c.change_list-change.result _ _
-          (λ it k g r f h d l z p. while_out c.change_list-change.new.sure h n w c.in-While.test c.change_list-change.new.list (k g r f h d l z (while_in c.args.sure.now f n v x c.in-While.test c.in-While.a e p)))
+          (λ it k g r f h d l z p. while_out c.change_list-change.new.sure h n w c.in-While.test c.change_list-change.new.list
+          (k g r f h d l z (while_in c.args.sure.now f n v x c.in-While.test c.in-While.a e p)))
           c.change_list-change.ensures.way;
     }
 
@@ -445,16 +482,21 @@ change_item-returns-in-Do t c =
     let w = reverse c.change_list-change-in-Do.new.way in
     record {
       made = if_ok_more c.change_list-change-in-Do.result _ _
-          (λ it k f h p. do_changed f n x it c.in-Do.test c.in-Do.a c.change_list-change-in-Do.new.list e (k f h (do_in c.args.sure.now f n v x c.in-Do.test c.in-Do.a e p)))
+          (λ it k f h p. do_changed f n x it c.in-Do.test c.in-Do.a c.change_list-change-in-Do.new.list e
+          (k f h (do_in c.args.sure.now f n v x c.in-Do.test c.in-Do.a e p)))
           c.change_list-change-in-Do.ensures.made;
       kept = if_ok_more c.change_list-change-in-Do.result _ _
           (λ it k d. ap (λ a. Do a c.in-Do.test) (k d) ∙ sym e)
           c.change_list-change-in-Do.ensures.kept;
       alike = if_ok_more c.change_list-change-in-Do.result _ _
-          (λ it k. said_more it c.change_list-change-in-Do.new.sure (λ g. AreAlike g (trees_of c.in-Do.a) (trees_of c.change_list-change-in-Do.new.list)) (λ g. IsAlike g (tree_at x) (tree_at (Do c.change_list-change-in-Do.new.list c.in-Do.test))) (λ g. do_is_alike g x c.in-Do.test c.in-Do.a c.change_list-change-in-Do.new.list e) k)
+          (λ it k. said_more it c.change_list-change-in-Do.new.sure
+          (λ g. AreAlike g (trees_of c.in-Do.a) (trees_of c.change_list-change-in-Do.new.list))
+          (λ g. IsAlike g (tree_at x) (tree_at (Do c.change_list-change-in-Do.new.list c.in-Do.test)))
+          (λ g. do_is_alike g x c.in-Do.test c.in-Do.a c.change_list-change-in-Do.new.list e) k)
           c.change_list-change-in-Do.ensures.alike;
       way = if_ok_more c.change_list-change-in-Do.result _ _
-          (λ it k g r f h d l z p. do_out c.change_list-change-in-Do.new.sure h n w c.in-Do.test c.change_list-change-in-Do.new.list (k g r f h d l z (do_in c.args.sure.now f n v x c.in-Do.test c.in-Do.a e p)))
+          (λ it k g r f h d l z p. do_out c.change_list-change-in-Do.new.sure h n w c.in-Do.test c.change_list-change-in-Do.new.list
+          (k g r f h d l z (do_in c.args.sure.now f n v x c.in-Do.test c.in-Do.a e p)))
           c.change_list-change-in-Do.ensures.way;
     }
 
@@ -467,16 +509,25 @@ change_item-returns-in-For t c =
     let w = reverse c.change_either-change-in-For.new.way in
     record {
       made = if_ok_more c.change_either-change-in-For.result _ _
-          (λ it k f h p. for_changed f n x it c.in-For.test c.in-For.third c.in-For.first c.in-For.a c.change_either-change-in-For.new.first c.change_either-change-in-For.new.second e (k f h (for_in c.args.sure.now f n v x c.in-For.first c.in-For.test c.in-For.third c.in-For.a e p)))
+          (λ it k f h p. for_changed f n x it c.in-For.test c.in-For.third c.in-For.first c.in-For.a c.change_either-change-in-For.new.first
+          c.change_either-change-in-For.new.second e (k f h (for_in c.args.sure.now f n v x c.in-For.first c.in-For.test c.in-For.third c.in-For.a e p)))
           c.change_either-change-in-For.ensures.made;
       kept = if_ok_more c.change_either-change-in-For.result _ _
           (λ it k d. ap₂ (λ a b. For a c.in-For.test c.in-For.third b) (k d).0 (k d).1 ∙ sym e)
           c.change_either-change-in-For.ensures.kept;
       alike = if_ok_more c.change_either-change-in-For.result _ _
-          (λ it k. said_more it c.change_either-change-in-For.new.sure (λ g. AreAlikeOf g (trees_of c.in-For.first) (trees_of c.in-For.a) (trees_of c.change_either-change-in-For.new.first) (trees_of c.change_either-change-in-For.new.second)) (λ g. IsAlike g (tree_at x) (tree_at (For c.change_either-change-in-For.new.first c.in-For.test c.in-For.third c.change_either-change-in-For.new.second))) (λ g. for_is_alike g x c.in-For.first c.in-For.test c.in-For.third c.in-For.a c.change_either-change-in-For.new.first c.change_either-change-in-For.new.second e) k)
+          (λ it k. said_more it c.change_either-change-in-For.new.sure
+          (λ g. AreAlikeOf g (trees_of c.in-For.first) (trees_of c.in-For.a) (trees_of c.change_either-change-in-For.new.first)
+          (trees_of c.change_either-change-in-For.new.second))
+          (λ g. IsAlike g (tree_at x)
+          (tree_at (For c.change_either-change-in-For.new.first c.in-For.test c.in-For.third c.change_either-change-in-For.new.second)))
+          (λ g. for_is_alike g x c.in-For.first c.in-For.test c.in-For.third c.in-For.a c.change_either-change-in-For.new.first
+          c.change_either-change-in-For.new.second e) k)
           c.change_either-change-in-For.ensures.alike;
       way = if_ok_more c.change_either-change-in-For.result _ _
-          (λ it k g r f h d l z p. for_out c.change_either-change-in-For.new.sure h n w c.change_either-change-in-For.new.first c.in-For.test c.in-For.third c.change_either-change-in-For.new.second (k g r f h d l z (for_in c.args.sure.now f n v x c.in-For.first c.in-For.test c.in-For.third c.in-For.a e p)))
+          (λ it k g r f h d l z p. for_out c.change_either-change-in-For.new.sure h n w c.change_either-change-in-For.new.first c.in-For.test
+          c.in-For.third c.change_either-change-in-For.new.second
+          (k g r f h d l z (for_in c.args.sure.now f n v x c.in-For.first c.in-For.test c.in-For.third c.in-For.a e p)))
           c.change_either-change-in-For.ensures.way;
     }
 
@@ -490,16 +541,19 @@ change_item-returns-in-Switch t c =
     let r = c.change_sections-change.new.sections in
     record {
       made = if_ok_more c.change_sections-change.result _ _
-          (λ it k f h p. switch_changed f n x it c.in-Switch.selector c.in-Switch.sections r e (k f h (switch_in c.args.sure.now f n v x c.in-Switch.selector c.in-Switch.sections e p)))
+          (λ it k f h p. switch_changed f n x it c.in-Switch.selector c.in-Switch.sections r e
+          (k f h (switch_in c.args.sure.now f n v x c.in-Switch.selector c.in-Switch.sections e p)))
           c.change_sections-change.ensures.made;
       kept = if_ok_more c.change_sections-change.result _ _
           (λ it k d. ap (Switch c.in-Switch.selector) (k d) ∙ sym e)
           c.change_sections-change.ensures.kept;
       alike = if_ok_more c.change_sections-change.result _ _
-          (λ it k. said_more it c.change_sections-change.new.sure (λ g. AreSectionsAlike g (sections_of c.in-Switch.sections) (sections_of r)) (λ g. IsAlike g (tree_at x) (tree_at (Switch c.in-Switch.selector r))) (λ g. switch_is_alike g x c.in-Switch.selector c.in-Switch.sections r e) k)
+          (λ it k. said_more it c.change_sections-change.new.sure (λ g. AreSectionsAlike g (sections_of c.in-Switch.sections) (sections_of r))
+          (λ g. IsAlike g (tree_at x) (tree_at (Switch c.in-Switch.selector r))) (λ g. switch_is_alike g x c.in-Switch.selector c.in-Switch.sections r e) k)
           c.change_sections-change.ensures.alike;
       way = if_ok_more c.change_sections-change.result _ _
-          (λ it k g u f h d l z p. switch_out c.change_sections-change.new.sure h n w c.in-Switch.selector r (k g u f h d l z (switch_in c.args.sure.now f n v x c.in-Switch.selector c.in-Switch.sections e p)))
+          (λ it k g u f h d l z p. switch_out c.change_sections-change.new.sure h n w c.in-Switch.selector r
+          (k g u f h d l z (switch_in c.args.sure.now f n v x c.in-Switch.selector c.in-Switch.sections e p)))
           c.change_sections-change.ensures.way;
     }
 
@@ -512,21 +566,27 @@ change_item-returns-in-Block t c =
     let w = reverse c.change_list-change-in-Block.new.way in
     record {
       made = if_ok_more c.change_list-change-in-Block.result _ _
-          (λ it k f h p. block_changed f n x it c.in-Block.a c.change_list-change-in-Block.new.list e (k f h (block_in c.args.sure.now f n v x c.in-Block.a e p)))
+          (λ it k f h p. block_changed f n x it c.in-Block.a c.change_list-change-in-Block.new.list e
+          (k f h (block_in c.args.sure.now f n v x c.in-Block.a e p)))
           c.change_list-change-in-Block.ensures.made;
       kept = if_ok_more c.change_list-change-in-Block.result _ _ (λ it k d. ap Block (k d) ∙ sym e) c.change_list-change-in-Block.ensures.kept;
       alike = if_ok_more c.change_list-change-in-Block.result _ _
-          (λ it k. said_more it c.change_list-change-in-Block.new.sure (λ g. AreAlike g (trees_of c.in-Block.a) (trees_of c.change_list-change-in-Block.new.list)) (λ g. IsAlike g (tree_at x) (tree_at (Block c.change_list-change-in-Block.new.list))) (λ g. block_is_alike g x c.in-Block.a c.change_list-change-in-Block.new.list e) k)
+          (λ it k. said_more it c.change_list-change-in-Block.new.sure
+          (λ g. AreAlike g (trees_of c.in-Block.a) (trees_of c.change_list-change-in-Block.new.list))
+          (λ g. IsAlike g (tree_at x) (tree_at (Block c.change_list-change-in-Block.new.list)))
+          (λ g. block_is_alike g x c.in-Block.a c.change_list-change-in-Block.new.list e) k)
           c.change_list-change-in-Block.ensures.alike;
       way = if_ok_more c.change_list-change-in-Block.result _ _
-          (λ it k g r f h d l z p. block_out c.change_list-change-in-Block.new.sure h n w c.change_list-change-in-Block.new.list (k g r f h d l z (block_in c.args.sure.now f n v x c.in-Block.a e p)))
+          (λ it k g r f h d l z p. block_out c.change_list-change-in-Block.new.sure h n w c.change_list-change-in-Block.new.list
+          (k g r f h d l z (block_in c.args.sure.now f n v x c.in-Block.a e p)))
           c.change_list-change-in-Block.ensures.way;
     }
 
 pub change_item-returns-in_default : goal.change_item-returns-in_default
 change_item-returns-in_default t c =
     record {
-      made = λ f h p. leaf_stays f c.args.level c.args.item.now c.replace.result (sym c.replace.ensures.value) c.in_default.not-If c.in_default.not-While c.in_default.not-Do c.in_default.not-For c.in_default.not-Switch c.in_default.not-Block;
+      made = λ f h p. leaf_stays f c.args.level c.args.item.now c.replace.result (sym c.replace.ensures.value) c.in_default.not-If
+          c.in_default.not-While c.in_default.not-Do c.in_default.not-For c.in_default.not-Switch c.in_default.not-Block;
       kept = λ e. c.replace.ensures.value;
       alike = λ g e. none_some g e;
       way = λ g e. none_some g e;

@@ -39,7 +39,8 @@ abbrev pub invariant-change_list-loop-i : goal.invariant-change_list-loop-i
 invariant-change_list-loop-i l =
     (l.list ≡ l.initial.list)
     × ((f : FunctionTree) → Tells l.counts f
-    → AreQuiet f (suc l.level) l.initial.i (trees_of l.initial.list) × IsWayAt l.initial.sure f (suc l.level) (reverse l.initial.way) (trees_of (drop l.initial.i l.initial.list))
+    → AreQuiet f (suc l.level) l.initial.i (trees_of l.initial.list) ×
+    IsWayAt l.initial.sure f (suc l.level) (reverse l.initial.way) (trees_of (drop l.initial.i l.initial.list))
     → AreQuiet f (suc l.level) l.i (trees_of l.initial.list) × IsWayAt l.sure f (suc l.level) (reverse l.way) (trees_of (drop l.i l.initial.list)))
 
 abbrev pub decreases-change_list-loop-i : goal.decreases-change_list-loop-i
@@ -47,8 +48,10 @@ decreases-change_list-loop-i l = length l.list - l.i
 
 abbrev pub invariant-change_sections-loop-i : goal.invariant-change_sections-loop-i
 invariant-change_sections-loop-i l = (l.sections ≡ l.initial.sections) × ((f : FunctionTree) → Tells l.counts f
-    → AreQuietSections f l.level l.initial.i (sections_of l.initial.sections) × IsWay l.initial.sure f l.level (reverse l.initial.way) (list_there l.initial.i (sections_of l.initial.sections))
-    → AreQuietSections f l.level l.i (sections_of l.initial.sections) × IsWay l.sure f l.level (reverse l.way) (list_there l.i (sections_of l.initial.sections)))
+    → AreQuietSections f l.level l.initial.i (sections_of l.initial.sections) ×
+    IsWay l.initial.sure f l.level (reverse l.initial.way) (list_there l.initial.i (sections_of l.initial.sections))
+    → AreQuietSections f l.level l.i (sections_of l.initial.sections) ×
+    IsWay l.sure f l.level (reverse l.way) (list_there l.i (sections_of l.initial.sections)))
 
 abbrev pub decreases-change_sections-loop-i : goal.decreases-change_sections-loop-i
 decreases-change_sections-loop-i l = length l.sections - l.i

@@ -11,12 +11,14 @@ use Rattle.break_recovery.proofs.steady.+steady.Goals as goal
 
 pub items_are_steady-returns-then-not-item_is_steady : goal.items_are_steady-returns-then-not-item_is_steady
 items_are_steady-returns-then-not-item_is_steady t c =
-    steady_first c.args.slot c.args.items.now c.loop-i.i c.index-items-i.result false c.loop-i-test.true c.index-items-i.is (sym c.item_is_steady.ensures ∙ c.if-not-item_is_steady.true)
+    steady_first c.args.slot c.args.items.now c.loop-i.i c.index-items-i.result false c.loop-i-test.true c.index-items-i.is
+    (sym c.item_is_steady.ensures ∙ c.if-not-item_is_steady.true)
     ∙ c.loop-i.invariant
 
 pub items_are_steady-loop-i-preserved : goal.items_are_steady-loop-i-preserved
 items_are_steady-loop-i-preserved t c =
-    steady_first c.args.slot c.args.items.now c.loop-i.i c.index-items-i.result true c.loop-i-test.true c.index-items-i.is (sym c.item_is_steady.ensures ∙ c.if-not-item_is_steady.false)
+    steady_first c.args.slot c.args.items.now c.loop-i.i c.index-items-i.result true c.loop-i-test.true c.index-items-i.is
+    (sym c.item_is_steady.ensures ∙ c.if-not-item_is_steady.false)
     ∙ c.loop-i.invariant
 
 pub items_are_steady-returns : goal.items_are_steady-returns
@@ -35,7 +37,8 @@ sections_are_steady-loop-i-preserved t c =
     ∙ c.loop-i.invariant
 
 pub sections_are_steady-returns : goal.sections_are_steady-returns
-sections_are_steady-returns t c = sym (ap (sections_are_steady c.args.slot) (sections-end c.args.sections.now c.loop-i.i c.loop-i-test.false)) ∙ c.loop-i.invariant
+sections_are_steady-returns t c = sym (ap (sections_are_steady c.args.slot) (sections-end c.args.sections.now c.loop-i.i c.loop-i-test.false)) ∙
+    c.loop-i.invariant
 
 pub item_is_steady-returns-in-Evaluate : goal.item_is_steady-returns-in-Evaluate
 item_is_steady-returns-in-Evaluate t c =
@@ -51,7 +54,8 @@ item_is_steady-returns-then-a t c =
     let h = ap (λ t. has_else t b) (test_same c.in-If.test) ∙ sym c.has_else.ensures ∙ c.if-has_else.false in
     let p = sym c.is_steady-a.ensures ∙ c.if-a.true in
     c.is_steady-b.ensures
-    ∙ sym (ap (item_is_steady g) (ap tree_at c.in-If.is ∙ at-If c.in-If.test c.in-If.a c.in-If.b) ∙ ap (λ z. not z && (is_steady g a && is_steady g b)) h ∙ ap (λ z. z && is_steady g b) p)
+    ∙ sym (ap (item_is_steady g) (ap tree_at c.in-If.is ∙ at-If c.in-If.test c.in-If.a c.in-If.b) ∙
+    ap (λ z. not z && (is_steady g a && is_steady g b)) h ∙ ap (λ z. z && is_steady g b) p)
 
 pub item_is_steady-returns-then-has_else : goal.item_is_steady-returns-then-has_else
 item_is_steady-returns-then-has_else t c =

@@ -93,18 +93,29 @@ decreases-pass_over l = 9 * weight l.x.now + 1
 
 abbrev pub invariant-add_list-loop-x : goal.invariant-add_list-loop-x
 invariant-add_list-loop-x l = record {
-  behind : behind_items (context_of l.ctx) (items_of (words_of l.ctx.words) (drop l.x-index l.nodes)) (walk_of l.state) ≡ behind_items (context_of l.ctx) (items_of (words_of l.ctx.words) l.nodes) (walk_of l.initial.state);
-  items : l.out ++ list_items (context_of l.ctx) (items_of (words_of l.ctx.words) (drop l.x-index l.nodes)) (walk_of l.state) ≡ l.initial.out ++ list_items (context_of l.ctx) (items_of (words_of l.ctx.words) l.nodes) (walk_of l.initial.state);
-  cases : list_entries (context_of l.ctx) (items_of (words_of l.ctx.words) (drop l.x-index l.nodes)) (walk_of l.state) l.state.cases ≡ list_entries (context_of l.ctx) (items_of (words_of l.ctx.words) l.nodes) (walk_of l.initial.state) l.initial.state.cases;
-  faults : list_faults (context_of l.ctx) (around_of l.around) (items_of (words_of l.ctx.words) (drop l.x-index l.nodes)) (walk_of l.state) l.state.faults ≡ list_faults (context_of l.ctx) (around_of l.around) (items_of (words_of l.ctx.words) l.nodes) (walk_of l.initial.state) l.initial.state.faults;
+  behind : behind_items (context_of l.ctx) (items_of (words_of l.ctx.words) (drop l.x-index l.nodes)) (walk_of l.state) ≡ behind_items
+      (context_of l.ctx) (items_of (words_of l.ctx.words) l.nodes) (walk_of l.initial.state);
+  items : l.out ++ list_items (context_of l.ctx) (items_of (words_of l.ctx.words) (drop l.x-index l.nodes)) (walk_of l.state) ≡ l.initial.out ++
+      list_items (context_of l.ctx) (items_of (words_of l.ctx.words) l.nodes) (walk_of l.initial.state);
+  cases : list_entries (context_of l.ctx) (items_of (words_of l.ctx.words) (drop l.x-index l.nodes)) (walk_of l.state) l.state.cases ≡ list_entries
+      (context_of l.ctx) (items_of (words_of l.ctx.words) l.nodes) (walk_of l.initial.state) l.initial.state.cases;
+  faults : list_faults (context_of l.ctx) (around_of l.around) (items_of (words_of l.ctx.words) (drop l.x-index l.nodes)) (walk_of l.state)
+      l.state.faults ≡ list_faults (context_of l.ctx) (around_of l.around) (items_of (words_of l.ctx.words) l.nodes) (walk_of l.initial.state)
+      l.initial.state.faults;
 }
 
 abbrev pub invariant-sections_of-loop-x : goal.invariant-sections_of-loop-x
 invariant-sections_of-loop-x l = record {
-  behind : behind_items (context_of l.ctx) (items_of (words_of l.ctx.words) (drop l.x-index l.nodes)) (walk_of l.state) ≡ behind_items (context_of l.ctx) (items_of (words_of l.ctx.words) l.nodes) (walk_of l.initial.state);
-  sections : l.read.done ++ sections_behind (context_of l.ctx) l.read.current (items_of (words_of l.ctx.words) (drop l.x-index l.nodes)) (notes_at (context_of l.ctx) (AtEnd l.first)) (walk_of l.state)
-      ≡ front (outside_items (context_of l.ctx) (items_of (words_of l.ctx.words) l.nodes) (walk_of l.initial.state)) ++ sections_from (context_of l.ctx) None (items_of (words_of l.ctx.words) l.nodes) (notes_at (context_of l.ctx) (AtEnd l.first)) (walk_of l.initial.state);
-  cases : list_entries (context_of l.ctx) (items_of (words_of l.ctx.words) (drop l.x-index l.nodes)) (walk_of l.state) l.state.cases ≡ list_entries (context_of l.ctx) (items_of (words_of l.ctx.words) l.nodes) (walk_of l.initial.state) l.initial.state.cases;
-  faults : section_faults (context_of l.ctx) (around_of l.around) l.read.current.begun (items_of (words_of l.ctx.words) (drop l.x-index l.nodes)) (walk_of l.state) l.state.faults
+  behind : behind_items (context_of l.ctx) (items_of (words_of l.ctx.words) (drop l.x-index l.nodes)) (walk_of l.state) ≡ behind_items
+      (context_of l.ctx) (items_of (words_of l.ctx.words) l.nodes) (walk_of l.initial.state);
+  sections : l.read.done ++ sections_behind (context_of l.ctx) l.read.current (items_of (words_of l.ctx.words) (drop l.x-index l.nodes))
+      (notes_at (context_of l.ctx) (AtEnd l.first)) (walk_of l.state)
+      ≡ front (outside_items (context_of l.ctx) (items_of (words_of l.ctx.words) l.nodes) (walk_of l.initial.state)) ++
+      sections_from (context_of l.ctx) None (items_of (words_of l.ctx.words) l.nodes) (notes_at (context_of l.ctx) (AtEnd l.first))
+      (walk_of l.initial.state);
+  cases : list_entries (context_of l.ctx) (items_of (words_of l.ctx.words) (drop l.x-index l.nodes)) (walk_of l.state) l.state.cases ≡ list_entries
+      (context_of l.ctx) (items_of (words_of l.ctx.words) l.nodes) (walk_of l.initial.state) l.initial.state.cases;
+  faults : section_faults (context_of l.ctx) (around_of l.around) l.read.current.begun (items_of (words_of l.ctx.words) (drop l.x-index l.nodes))
+      (walk_of l.state) l.state.faults
       ≡ outside_faults (context_of l.ctx) (around_of l.around) (items_of (words_of l.ctx.words) l.nodes) (walk_of l.initial.state) l.initial.state.faults;
 }

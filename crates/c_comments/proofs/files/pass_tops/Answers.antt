@@ -10,7 +10,8 @@ pub returns-then-token-after-clause-leads : goal.returns-then-token-after-clause
 returns-then-token-after-clause-leads c =
     let word = words_of c.args.words.now in
     subst (Leads word (place_in (tops_in word c.args.tops.now)) c.args.token) (sym c.bounded.ensures)
-    (tops_step word c.args.tops.now c.loop-i.i c.index-tops-i.result c.args.token c.top_after-after.result c.top_step.result c.loop-i-test.true c.index-tops-i.is c.if-token-after.true c.top_after-after.ensures
+    (tops_step word c.args.tops.now c.loop-i.i c.index-tops-i.result c.args.token c.top_after-after.result c.top_step.result c.loop-i-test.true
+    c.index-tops-i.is c.if-token-after.true c.top_after-after.ensures
     c.loop-i.invariant.rest c.top_step.ensures)
 
 pub loop-i-preserved : goal.loop-i-preserved
@@ -18,7 +19,8 @@ loop-i-preserved c =
     record {
       within = omega (arith, c.loop-i-test.true);
       rest =
-          λ s l. tops_past (words_of c.args.words.now) c.args.tops.now c.loop-i.i c.index-tops-i.result c.args.token c.top_after-after.result c.loop-i-test.true c.index-tops-i.is c.if-token-after.false
+          λ s l. tops_past (words_of c.args.words.now) c.args.tops.now c.loop-i.i c.index-tops-i.result c.args.token c.top_after-after.result
+          c.loop-i-test.true c.index-tops-i.is c.if-token-after.false
           c.top_after-after.ensures s l
           ∙ c.loop-i.invariant.rest s l;
     }

@@ -14,5 +14,6 @@ returns-in-Defines c =
     let x = out-Syntax c.args.x.now in
     let form = top_form word (layer.Defines c.in-Defines.f) in
     leads_on word (top_place (top_of word c.args.x.now)) (form_place c.first-first.result form) c.args.token c.function_step.result
-    (at_top (top_of word c.args.x.now) c.first-first.result x.after form c.args.token (c.in-Defines.ensures ∙ ap (λ n. tops.From n x.after form) c.first-first.ensures) c.if-token-first.false)
+    (at_top (top_of word c.args.x.now) c.first-first.result x.after form c.args.token
+    (c.in-Defines.ensures ∙ ap (λ n. tops.From n x.after form) c.first-first.ensures) c.if-token-first.false)
     c.function_step.ensures

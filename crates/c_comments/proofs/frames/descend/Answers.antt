@@ -24,6 +24,7 @@ loop-place-preserved c =
             subst (λ n. (t : ℕ) → c.args.token ≤ t → t < n → rest_place word c.in-Into.rest t ≡ place t) bound
                 (inner word place frame c.in-Into.rest c.args.token c.in-Into.bound c.loop-place.invariant.from step.1 both.0),
             subst (All (Speaks word place)) (sym c.in_ok-push.ensures.ok)
-                (All-cons (Speaks word place) passed c.loop-place.frames (still word place frame c.pass-passed.result.rest c.args.token c.loop-place.invariant.from c.pass-passed.ensures.rest both.0) both.1),
+                (All-cons (Speaks word place) passed c.loop-place.frames
+                (still word place frame c.pass-passed.result.rest c.args.token c.loop-place.invariant.from c.pass-passed.ensures.rest both.0) both.1),
           );
     }

@@ -12,7 +12,8 @@ invariant-loop-place l =
       from : l.frame.from ≤ l.fn.token;
       to : l.fn.token < l.frame.to;
       here : rest_place word l.frame.rest l.fn.token ≡ rest_place word l.fn.start.rest l.fn.token;
-      frames : (place : ℕ → Anchor) → Speaks word place l.fn.start → All (Speaks word place) l.fn.frames → Speaks word place l.frame × All (Speaks word place) l.frames;
+      frames : (place : ℕ → Anchor) → Speaks word place l.fn.start → All (Speaks word place) l.fn.frames →
+          Speaks word place l.frame × All (Speaks word place) l.frames;
     }
 
 abbrev pub decreases-loop-place : goal.decreases-loop-place

@@ -20,4 +20,5 @@ returns-in-Into-clause-walk c =
     ] in
     let step = subst (Leads word (place_in (tops_in word tops)) c.args.token) c.in-Into.is c.pass_tops-passed.ensures.leads in
     let speaks : Speaks word file (record { rest = c.in-Into.rest; from = c.args.token; to = c.in-Into.bound }) = λ s l u. sym (step.1 s l u) ∙ whole s l in
-    IfOk-weaker c.descend.result _ _ (λ a frames. (λ s l. c.pass_tops-passed.ensures.tops s l ∙ whole s l, frames file speaks c.requires.1)) c.descend.ensures.frames
+    IfOk-weaker c.descend.result _ _ (λ a frames. (λ s l. c.pass_tops-passed.ensures.tops s l ∙ whole s l, frames file speaks c.requires.1))
+    c.descend.ensures.frames

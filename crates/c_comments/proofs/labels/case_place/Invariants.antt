@@ -5,4 +5,5 @@ use Rattle.c_comments.specs.Notes.{case_place}
 use Rattle.c_comments.proofs.labels.case_place.Given as goal
 
 abbrev pub invariant-loop-x : goal.invariant-loop-x
-invariant-loop-x l = case_place l.fn.first (labels_of (words_of l.words) (drop l.x-index l.nodes)) ≡ case_place l.fn.first (labels_of (words_of l.words) l.nodes)
+invariant-loop-x l = case_place l.fn.first (labels_of (words_of l.words) (drop l.x-index l.nodes)) ≡ case_place l.fn.first
+    (labels_of (words_of l.words) l.nodes)

@@ -11,20 +11,23 @@ pub returns-then-ends_behind-clause-leads : goal.returns-then-ends_behind-clause
 returns-then-ends_behind-clause-leads c =
     let word = words_of c.args.words.now in
     subst (Leads word (list_place c.args.end (items_of word c.args.items.now)) c.args.token) (sym c.bounded.ensures)
-    (items_step word c.args.end c.args.items.now c.loop-i.i c.index-items-i.result c.args.token c.item_after.result c.item_step.result c.loop-i-test.true c.index-items-i.is
+    (items_step word c.args.end c.args.items.now c.loop-i.i c.index-items-i.result c.args.token c.item_after.result c.item_step.result
+    c.loop-i-test.true c.index-items-i.is
     (sym c.ends_behind.ensures ∙ c.if-ends_behind.true) c.item_after.ensures c.loop-i.invariant.rest c.item_step.ensures.leads)
 
 pub returns-then-ends_behind-clause-smaller : goal.returns-then-ends_behind-clause-smaller
 returns-then-ends_behind-clause-smaller c =
     subst (IsBelow (weights c.args.items.now)) (sym c.bounded.ensures)
-    (below_node c.args.items.now c.loop-i.i c.index-items-i.result c.item_after.result c.item_step.result c.loop-i-test.true c.index-items-i.is c.item_step.ensures.smaller)
+    (below_node c.args.items.now c.loop-i.i c.index-items-i.result c.item_after.result c.item_step.result c.loop-i-test.true c.index-items-i.is
+    c.item_step.ensures.smaller)
 
 pub loop-i-preserved : goal.loop-i-preserved
 loop-i-preserved c =
     record {
       within = omega (arith, c.loop-i-test.true);
       rest =
-          λ s l. items_past (words_of c.args.words.now) c.args.end c.args.items.now c.loop-i.i c.index-items-i.result c.args.token c.loop-i-test.true c.index-items-i.is
+          λ s l. items_past (words_of c.args.words.now) c.args.end c.args.items.now c.loop-i.i c.index-items-i.result c.args.token c.loop-i-test.true
+          c.index-items-i.is
           (sym c.ends_behind.ensures ∙ c.if-ends_behind.false) s l
           ∙ c.loop-i.invariant.rest s l;
     }

@@ -13,4 +13,5 @@ returns-clause-leads c =
     let p = plain_of word c.args.plain.now in
     let place : ℕ → Anchor = λ t. or_behind (place_in_labels c.args.section (labels_of word c.args.labels.now) t) (plain_place p t) in
     leads_on word place (plain_place p) c.args.token c.plain_step.result
-    (λ s l. ap (λ o. or_behind o (plain_place p s)) (sym (c.loop-i.invariant.rest s l) ∙ labels_none word c.args.section c.args.labels.now c.loop-i.i s c.loop-i-test.false)) c.plain_step.ensures.leads
+    (λ s l. ap (λ o. or_behind o (plain_place p s)) (sym (c.loop-i.invariant.rest s l) ∙
+    labels_none word c.args.section c.args.labels.now c.loop-i.i s c.loop-i-test.false)) c.plain_step.ensures.leads

@@ -7,7 +7,8 @@ use Rattle.c_comments.proofs.lists.pass_labels.Given as goal
 abbrev pub invariant-loop-i : goal.invariant-loop-i
 invariant-loop-i l = record {
   within : l.i ≤ length l.labels;
-  rest : (t : ℕ) → l.fn.token ≤ t → place_in_labels l.fn.section (labels_of (words_of l.words) (drop l.i l.labels)) t ≡ place_in_labels l.fn.section (labels_of (words_of l.words) l.labels) t;
+  rest : (t : ℕ) → l.fn.token ≤ t → place_in_labels l.fn.section (labels_of (words_of l.words) (drop l.i l.labels)) t ≡ place_in_labels l.fn.section
+      (labels_of (words_of l.words) l.labels) t;
 }
 
 abbrev pub decreases-loop-i : goal.decreases-loop-i

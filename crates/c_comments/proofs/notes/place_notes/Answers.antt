@@ -51,6 +51,7 @@ returns c =
     let tokens = c.args.words.now.tokens.now in
     let text = c.args.words.now.text.now in
     let i = c.loop-comment.comment-index in
-    ap (λ l. placed (comment_place tokens file) (comment_bytes text) l (notes_of c.loop-comment.notes)) (sym (drop_all i c.args.comments.now c.loop-comment-test.false))
+    ap (λ l. placed (comment_place tokens file) (comment_bytes text) l (notes_of c.loop-comment.notes))
+    (sym (drop_all i c.args.comments.now c.loop-comment-test.false))
     ∙ c.loop-comment.invariant.notes
     ∙ placed_notes text tokens c.args.comments.now file

@@ -16,5 +16,6 @@ invariant-loop-comment l =
       within : l.reached.at ≤ length tokens;
       walk : IsWalk (words_of l.words) (place_in file) l.walk;
       reached : l.reached.at ≡ next_token tokens l.reached.start;
-      notes : placed (comment_place tokens file) (comment_bytes text) (drop l.comment-index l.comments) (notes_of l.notes) ≡ placed (comment_place tokens file) (comment_bytes text) l.comments (λ a. []);
+      notes : placed (comment_place tokens file) (comment_bytes text) (drop l.comment-index l.comments) (notes_of l.notes) ≡ placed
+          (comment_place tokens file) (comment_bytes text) l.comments (λ a. []);
     }

@@ -24,4 +24,5 @@ returns-clause-leads c =
     let second = body_of word c.args.other.now in
     let place : ℕ → Anchor = λ t. body_place (body_place c.args.before first t) second t in
     leads_on word place (body_place c.args.before second) c.args.token c.body_step-2.result
-    (λ s l. not_ahead (body_place c.args.before first s) c.args.before second s (subst (λ n. n ≤ s) c.body_ahead-ahead.ensures (omega (arith, l, c.if-token-ahead.false)))) c.body_step-2.ensures.leads
+    (λ s l. not_ahead (body_place c.args.before first s) c.args.before second s
+    (subst (λ n. n ≤ s) c.body_ahead-ahead.ensures (omega (arith, l, c.if-token-ahead.false)))) c.body_step-2.ensures.leads

@@ -8,7 +8,8 @@ use Rattle.c_comments.proofs.statements.layer_step.Goals as goal
 pub returns-in-Braces-clause-leads : goal.returns-in-Braces-clause-leads
 returns-in-Braces-clause-leads c =
     let word = words_of c.args.words.now in
-    subst (λ b. Leads word (body_place c.args.before (body_form word b)) c.args.token c.block_step.result) (sym c.in-Braces.is) (c.block_step.ensures.leads word)
+    subst (λ b. Leads word (body_place c.args.before (body_form word b)) c.args.token c.block_step.result) (sym c.in-Braces.is)
+    (c.block_step.ensures.leads word)
 
 pub returns-in-Lone-clause-leads : goal.returns-in-Lone-clause-leads
 returns-in-Lone-clause-leads c =

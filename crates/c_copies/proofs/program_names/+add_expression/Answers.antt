@@ -45,10 +45,12 @@ add_node-returns-in_ok-add_place-in-Update t c =
 pub add_node-returns-in_ok-add_expression-in-Conditional-2 : goal.add_node-returns-in_ok-add_expression-in-Conditional-2
 add_node-returns-in_ok-add_expression-in-Conditional-2 t c =
     let e = ap node_names c.in-Conditional.is ∙ node_names-Conditional c.in-Conditional.a c.in-Conditional.b c.in-Conditional.c in
-    let f : node_names c.args.node.now ≡ expression_names c.get-in-Conditional.result.now ++ expression_names c.get-in-Conditional-2.result.now ++ expression_names c.get-in-Conditional-3.result.now =
+    let f : node_names c.args.node.now ≡ expression_names c.get-in-Conditional.result.now ++ expression_names c.get-in-Conditional-2.result.now ++
+    expression_names c.get-in-Conditional-3.result.now =
     cc (e, c.get-in-Conditional.ensures, c.get-in-Conditional-2.ensures, c.get-in-Conditional-3.ensures) in
     after_names c.add_expression-in-Conditional-3.result c.args.set.now c.add_expression-in-Conditional-2.new.set c.add_expression-in-Conditional-3.new.set
-    (expression_names c.get-in-Conditional.result.now ++ expression_names c.get-in-Conditional-2.result.now) (expression_names c.get-in-Conditional-3.result.now) (node_names c.args.node.now)
+    (expression_names c.get-in-Conditional.result.now ++ expression_names c.get-in-Conditional-2.result.now)
+    (expression_names c.get-in-Conditional-3.result.now) (node_names c.args.node.now)
     (then_names c.args.set.now c.add_expression-in-Conditional.new.set c.add_expression-in-Conditional-2.new.set
     (expression_names c.get-in-Conditional.result.now) (expression_names c.get-in-Conditional-2.result.now)
     c.in_ok-add_expression-in-Conditional.ensures c.in_ok-add_expression-in-Conditional-2.ensures)

@@ -52,7 +52,8 @@ add_item-returns-in_ok-add_items-in-Do t c =
 pub add_item-returns-in_ok-add_selector-in-Switch : goal.add_item-returns-in_ok-add_selector-in-Switch
 add_item-returns-in_ok-add_selector-in-Switch t c =
     let e = ap item_names c.in-Switch.is ∙ item_names-Switch c.in-Switch.selector c.in-Switch.sections in
-    let f : item_names c.args.item.now ≡ selector_names c.in-Switch.selector ++ sections_names c.as_slice-in-Switch.result.now = cc (e, c.as_slice-in-Switch.ensures.value) in
+    let f : item_names c.args.item.now ≡ selector_names c.in-Switch.selector ++ sections_names c.as_slice-in-Switch.result.now =
+    cc (e, c.as_slice-in-Switch.ensures.value) in
     after_names c.add_sections.result c.args.set.now c.add_selector.new.set c.add_sections.new.set
     (selector_names c.in-Switch.selector) (sections_names c.as_slice-in-Switch.result.now) (item_names c.args.item.now)
     c.in_ok-add_selector-in-Switch.ensures f c.add_sections.ensures
@@ -60,12 +61,14 @@ add_item-returns-in_ok-add_selector-in-Switch t c =
 pub add_item-returns-in_ok-add_part-in-For-2 : goal.add_item-returns-in_ok-add_part-in-For-2
 add_item-returns-in_ok-add_part-in-For-2 t c =
     let e = ap item_names c.in-For.is ∙ item_names-For c.in-For.first c.in-For.test c.in-For.third c.in-For.a in
-    let f : item_names c.args.item.now ≡ items_names c.as_slice-in-For.result.now ++ option_names c.in-For.test ++ option_names c.in-For.third ++ items_names c.as_slice-in-For-2.result.now =
+    let f : item_names c.args.item.now ≡ items_names c.as_slice-in-For.result.now ++ option_names c.in-For.test ++ option_names c.in-For.third ++
+    items_names c.as_slice-in-For-2.result.now =
     cc (e, c.as_slice-in-For.ensures.value, c.as_slice-in-For-2.ensures.value) in
     let two = then_names c.args.set.now c.add_items-in-For.new.set c.add_part.new.set
     (items_names c.as_slice-in-For.result.now) (option_names c.in-For.test) c.in_ok-add_items-in-For.ensures c.in_ok-add_part-in-For.ensures in
     let three = then_names c.args.set.now c.add_part.new.set c.add_part-in-For.new.set
     (items_names c.as_slice-in-For.result.now ++ option_names c.in-For.test) (option_names c.in-For.third) two c.in_ok-add_part-in-For-2.ensures in
     after_names c.add_items-in-For-2.result c.args.set.now c.add_part-in-For.new.set c.add_items-in-For-2.new.set
-    (items_names c.as_slice-in-For.result.now ++ option_names c.in-For.test ++ option_names c.in-For.third) (items_names c.as_slice-in-For-2.result.now) (item_names c.args.item.now)
+    (items_names c.as_slice-in-For.result.now ++ option_names c.in-For.test ++ option_names c.in-For.third)
+    (items_names c.as_slice-in-For-2.result.now) (item_names c.args.item.now)
     three f c.add_items-in-For-2.ensures

@@ -15,5 +15,7 @@ returns-clause-rising c =
 pub returns-clause-members : goal.returns-clause-members
 returns-clause-members c =
     let e : c.add_top_names.new.set ≡ rising (all_file_names c.args.program.now) = search rules in
-    IfOk-weaker c.into_list.result (λ (it : List (List ℕ)). it ≡ c.add_top_names.new.set) (λ (it : List (List ℕ)). (n : List ℕ) → has_name it n ≡ has_name (all_file_names c.args.program.now) n)
-    (λ x h. subst (λ (l : List (List ℕ)). (n : List ℕ) → has_name l n ≡ has_name (all_file_names c.args.program.now) n) (sym (h ∙ e)) (rising-members (all_file_names c.args.program.now))) c.into_list.ensures
+    IfOk-weaker c.into_list.result (λ (it : List (List ℕ)). it ≡ c.add_top_names.new.set)
+    (λ (it : List (List ℕ)). (n : List ℕ) → has_name it n ≡ has_name (all_file_names c.args.program.now) n)
+    (λ x h. subst (λ (l : List (List ℕ)). (n : List ℕ) → has_name l n ≡ has_name (all_file_names c.args.program.now) n) (sym (h ∙ e))
+    (rising-members (all_file_names c.args.program.now))) c.into_list.ensures

@@ -10,7 +10,8 @@ returns-in-Greater c _ =
     let xs = c.args.names.now in
     let n = c.args.name.now in
     let x = c.index-names-end.result in
-    let more : name_cmp n (get_or xs (length xs - 1) x) ≡ Greater = ap (name_cmp n) (sym (c.key.ensures ∙ c.index-names-end.is)) ∙ sym c.cmp.ensures ∙ c.in-Greater.is in
+    let more : name_cmp n (get_or xs (length xs - 1) x) ≡ Greater = ap (name_cmp n) (sym (c.key.ensures ∙ c.index-names-end.is)) ∙ sym c.cmp.ensures ∙
+    c.in-Greater.is in
     let end : length xs - 1 + 1 ≡ length xs = omega arith in
     with_name-gap n xs (length xs) (omega arith) (subst (λ k. AreBelow n (take k xs)) end (below_it n xs (length xs - 1) x c.requires (omega arith) more))
     (subst (AreAbove n) (sym (drop-length xs)) tt)

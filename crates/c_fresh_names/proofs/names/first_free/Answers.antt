@@ -16,7 +16,8 @@ loop-n-preserved c =
 pub returns-clause-unused : goal.returns-clause-unused
 returns-clause-unused c =
     let below : c.loop-n.n ≤ c.len.result + 2 = omega arith in
-    let last = first_free_last c.args.used.now c.args.base.now (first_free c.args.used.now c.args.base.now 2 (length c.args.used.now)) c.loop-n.n (c.len.result + 2)
+    let last = first_free_last c.args.used.now c.args.base.now (first_free c.args.used.now c.args.base.now 2 (length c.args.used.now)) c.loop-n.n
+    (c.len.result + 2)
     below c.loop-n-test.false c.loop-n.invariant in
     let few : 2 + length c.args.used.now < 2 ^ 64 = omega (arith, c.len.ensures.value, c.len.ensures.bound) in
     let all : length c.args.used.now ≤ length c.args.used.now = omega arith in

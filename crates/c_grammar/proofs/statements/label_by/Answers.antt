@@ -15,4 +15,5 @@ returns c =
     let word = words_of c.args.words.now in
     let ps = map (part_of word) c.args.parts.now in
     let other = ap (bytes_eq (codes "default")) (sym c.get.ensures) ∙ sym c.is_default.ensures ∙ c.if-is_default.false in
-    ap (λ y. cond y (Case f a (term_at ps 1)) (two_part_label (keyword_class (word f)) f a)) (ne_eqb (length ps) 3 (λ h. c.if-parts-eq3.false (sym (length-map c.args.parts.now (part_of word)) ∙ h))) ∙ other_word f a (word f) other
+    ap (λ y. cond y (Case f a (term_at ps 1)) (two_part_label (keyword_class (word f)) f a))
+    (ne_eqb (length ps) 3 (λ h. c.if-parts-eq3.false (sym (length-map c.args.parts.now (part_of word)) ∙ h))) ∙ other_word f a (word f) other

@@ -30,4 +30,5 @@ returns-else-is_constant-3 t c =
 
 pub returns-in_default : goal.returns-in_default
 returns-in_default t c =
-    sym (not_constant c.args.e.now c.in_default.not-Number c.in_default.not-Character c.in_default.not-EnumName c.in_default.not-Unary c.in_default.not-Cast c.in_default.not-Binary c.in_default.not-Conditional)
+    sym (not_constant c.args.e.now c.in_default.not-Number c.in_default.not-Character c.in_default.not-EnumName c.in_default.not-Unary
+    c.in_default.not-Cast c.in_default.not-Binary c.in_default.not-Conditional)

@@ -29,7 +29,8 @@ abbrev pub decreases-assigned : goal.decreases-assigned
 decreases-assigned l = 4 * weight l.t.now + 4 * (weight l.a.now - weight l.t.now) + 2
 
 abbrev pub decreases-chosen : goal.decreases-chosen
-decreases-chosen l = 4 * weight l.a.now + 4 * (weight l.b.now - weight l.a.now) + 4 * (weight l.c.now - (weight l.a.now + (weight l.b.now - weight l.a.now))) + 2
+decreases-chosen l = 4 * weight l.a.now + 4 * (weight l.b.now - weight l.a.now) + 4 * (weight l.c.now -
+    (weight l.a.now + (weight l.b.now - weight l.a.now))) + 2
 
 abbrev pub decreases-behind_left : goal.decreases-behind_left
 decreases-behind_left l = 4 * weight l.x.now + 1
@@ -49,11 +50,13 @@ decreases-given l = 4 * weights l.parts.now + 2
 abbrev pub invariant-commas-loop-x : goal.invariant-commas-loop-x
 invariant-commas-loop-x l = record {
   value : commas (env_of l.known) l.left (terms l.known (drop l.x-index l.parts)) ≡ commas (env_of l.known) l.initial.left (terms l.known l.parts);
-  faults : unused_faults (env_of l.known) (terms l.known (drop l.x-index l.parts)) l.faults ≡ unused_faults (env_of l.known) (terms l.known l.parts) l.initial.faults;
+  faults : unused_faults (env_of l.known) (terms l.known (drop l.x-index l.parts)) l.faults ≡ unused_faults (env_of l.known) (terms l.known l.parts)
+      l.initial.faults;
 }
 
 abbrev pub invariant-given-loop-x : goal.invariant-given-loop-x
 invariant-given-loop-x l = record {
   value : l.out ++ given (env_of l.known) (terms l.known (drop l.x-index l.parts)) ≡ given (env_of l.known) (terms l.known l.parts);
-  faults : given_faults (env_of l.known) (terms l.known (drop l.x-index l.parts)) l.faults ≡ given_faults (env_of l.known) (terms l.known l.parts) l.initial.faults;
+  faults : given_faults (env_of l.known) (terms l.known (drop l.x-index l.parts)) l.faults ≡ given_faults (env_of l.known) (terms l.known l.parts)
+      l.initial.faults;
 }

@@ -16,10 +16,12 @@ pub returns-in-InWord-clause-order : goal.returns-in-InWord-clause-order
 returns-in-InWord-clause-order c = kept c.args.text.now (InWord c.in-InWord.start) _ c.args.byte _ _ c.in-InWord.is c.requires.order c.in_word.ensures
 
 pub returns-in-InNumber-clause-order : goal.returns-in-InNumber-clause-order
-returns-in-InNumber-clause-order c = kept c.args.text.now (InNumber c.in-InNumber.start c.in-InNumber.power) _ c.args.byte _ _ c.in-InNumber.is c.requires.order c.in_number.ensures
+returns-in-InNumber-clause-order c = kept c.args.text.now (InNumber c.in-InNumber.start c.in-InNumber.power) _ c.args.byte _ _ c.in-InNumber.is
+    c.requires.order c.in_number.ensures
 
 pub returns-in-InMark-clause-order : goal.returns-in-InMark-clause-order
-returns-in-InMark-clause-order c = kept c.args.text.now (InMark c.in-InMark.start c.in-InMark.mark) _ c.args.byte _ _ c.in-InMark.is c.requires.order c.in_mark.ensures
+returns-in-InMark-clause-order c = kept c.args.text.now (InMark c.in-InMark.start c.in-InMark.mark) _ c.args.byte _ _ c.in-InMark.is c.requires.order
+    c.in_mark.ensures
 
 pub returns-in-Dots-clause-order : goal.returns-in-Dots-clause-order
 returns-in-Dots-clause-order c = kept c.args.text.now (Dots c.in-Dots.start) _ c.args.byte _ _ c.in-Dots.is c.requires.order c.in_dots.ensures
@@ -29,4 +31,5 @@ returns-in-InDirective-clause-order c =
     kept c.args.text.now (InDirective c.in-InDirective.start c.in-InDirective.end) _ c.args.byte _ _ c.in-InDirective.is c.requires.order c.in_directive.ensures
 
 pub returns-in-InLine-clause-order : goal.returns-in-InLine-clause-order
-returns-in-InLine-clause-order c = kept c.args.text.now (InLine c.in-InLine.start c.in-InLine.end) _ c.args.byte _ _ c.in-InLine.is c.requires.order c.in_line.ensures
+returns-in-InLine-clause-order c = kept c.args.text.now (InLine c.in-InLine.start c.in-InLine.end) _ c.args.byte _ _ c.in-InLine.is c.requires.order
+    c.in_line.ensures

@@ -13,7 +13,8 @@ put_expression-returns g t c =
 
 pub put_node-returns-in-Number : goal.put_node-returns-in-Number
 put_node-returns-in-Number g t c =
-    let printed : Prints (g.W.Output.progress c.args.out.now) (g.W.Output.progress c.put_number.new.out) (number c.args.kind c.in-Number.n) = search (rules, c.put_number.ensures) in
+    let printed : Prints (g.W.Output.progress c.args.out.now) (g.W.Output.progress c.put_number.new.out) (number c.args.kind c.in-Number.n) =
+    search (rules, c.put_number.ensures) in
     reads _ _ _ _ (number_text _ _ _ _ c.in-Number.is) printed
 
 pub put_node-returns-in-Character : goal.put_node-returns-in-Character
@@ -38,13 +39,15 @@ put_node-returns-in-Cast g t c =
 
 pub put_node-returns-in-Binary : goal.put_node-returns-in-Binary
 put_node-returns-in-Binary g t c =
-    reads _ _ _ _ (binary_text _ _ _ _ _ _ _ _ _ _ c.in-Binary.is c.get-in-Binary.ensures c.get-in-Binary-2.ensures c.binary_level-level.ensures.value c.binary_spelling.ensures)
+    reads _ _ _ _ (binary_text _ _ _ _ _ _ _ _ _ _ c.in-Binary.is c.get-in-Binary.ensures c.get-in-Binary-2.ensures c.binary_level-level.ensures.value
+    c.binary_spelling.ensures)
     (then _ _ _ _ _ c.put_left.ensures
     c.put_expression.ensures)
 
 pub put_node-returns-in-Conditional : goal.put_node-returns-in-Conditional
 put_node-returns-in-Conditional g t c =
-    reads _ _ _ _ (conditional_text _ _ _ _ _ _ _ _ _ c.in-Conditional.is c.get-in-Conditional.ensures c.get-in-Conditional-2.ensures c.get-in-Conditional-3.ensures)
+    reads _ _ _ _ (conditional_text _ _ _ _ _ _ _ _ _ c.in-Conditional.is c.get-in-Conditional.ensures c.get-in-Conditional-2.ensures
+    c.get-in-Conditional-3.ensures)
     (then _ _ _ _ _ c.put_left-in-Conditional.ensures
     (then _ _ _ _ _ c.put_left-in-Conditional-2.ensures
     c.put_expression-in-Conditional.ensures))

@@ -38,7 +38,8 @@ put_lines-returns-in-Do g t c =
 
 pub put_lines-returns-in-For : goal.put_lines-returns-in-For
 put_lines-returns-in-For g t c =
-    reads _ _ _ _ (for_lines c.args.function.now c.args.item.now c.args.depth _ _ _ _ _ _ c.in-For.is c.as_slice-in-For.ensures.value c.as_slice-in-For-2.ensures.value)
+    reads _ _ _ _ (for_lines c.args.function.now c.args.item.now c.args.depth _ _ _ _ _ _ c.in-For.is c.as_slice-in-For.ensures.value
+    c.as_slice-in-For-2.ensures.value)
     (then _ _ _ _ _ c.put_for.ensures
     c.put_block-in-For.ensures)
 
@@ -73,7 +74,8 @@ put_else-returns-then-is_lone_if g t c =
 
 pub put_else-returns-else-is_lone_if : goal.put_else-returns-else-is_lone_if
 put_else-returns-else-is_lone_if g t c =
-    reads _ _ _ _ (else_apart c.args.function.now _ _ _ _ c.is_empty.ensures c.if-is_empty.false (c.is_lone_if.ensures c.args.function.now) c.if-is_lone_if.false)
+    reads _ _ _ _ (else_apart c.args.function.now _ _ _ _ c.is_empty.ensures c.if-is_empty.false (c.is_lone_if.ensures c.args.function.now)
+    c.if-is_lone_if.false)
     (then _ _ _ _ _ c.put_space.ensures
     (then _ _ _ _ _ c.put_keyword.ensures
     c.put_block.ensures))
@@ -93,20 +95,44 @@ put_lines-returns-in-Goto g t c =
 -- Arm, Leap, Land and Arrival: these four goals have no names of their own, so each answer serves any of them
 pub put_lines-returns : goal.put_lines-returns
 put_lines-returns g t c =
-    let e : nothing ≡ (printed c.args.function.now c.args.item.now).lines c.args.depth = search (arm_lines c.args.function.now c.args.item.now c.args.depth, leap_lines c.args.function.now c.args.item.now c.args.depth, land_lines c.args.function.now c.args.item.now c.args.depth, arrival_lines c.args.function.now c.args.item.now c.args.depth) in
+    let e : nothing ≡ (printed c.args.function.now c.args.item.now).lines c.args.depth =
+    search (
+      arm_lines c.args.function.now c.args.item.now c.args.depth,
+      leap_lines c.args.function.now c.args.item.now c.args.depth,
+      land_lines c.args.function.now c.args.item.now c.args.depth,
+      arrival_lines c.args.function.now c.args.item.now c.args.depth,
+    ) in
     reads _ _ _ _ e (λ start whole rest h. h)
 
 pub put_lines-returns-2 : goal.put_lines-returns-2
 put_lines-returns-2 g t c =
-    let e : nothing ≡ (printed c.args.function.now c.args.item.now).lines c.args.depth = search (arm_lines c.args.function.now c.args.item.now c.args.depth, leap_lines c.args.function.now c.args.item.now c.args.depth, land_lines c.args.function.now c.args.item.now c.args.depth, arrival_lines c.args.function.now c.args.item.now c.args.depth) in
+    let e : nothing ≡ (printed c.args.function.now c.args.item.now).lines c.args.depth =
+    search (
+      arm_lines c.args.function.now c.args.item.now c.args.depth,
+      leap_lines c.args.function.now c.args.item.now c.args.depth,
+      land_lines c.args.function.now c.args.item.now c.args.depth,
+      arrival_lines c.args.function.now c.args.item.now c.args.depth,
+    ) in
     reads _ _ _ _ e (λ start whole rest h. h)
 
 pub put_lines-returns-3 : goal.put_lines-returns-3
 put_lines-returns-3 g t c =
-    let e : nothing ≡ (printed c.args.function.now c.args.item.now).lines c.args.depth = search (arm_lines c.args.function.now c.args.item.now c.args.depth, leap_lines c.args.function.now c.args.item.now c.args.depth, land_lines c.args.function.now c.args.item.now c.args.depth, arrival_lines c.args.function.now c.args.item.now c.args.depth) in
+    let e : nothing ≡ (printed c.args.function.now c.args.item.now).lines c.args.depth =
+    search (
+      arm_lines c.args.function.now c.args.item.now c.args.depth,
+      leap_lines c.args.function.now c.args.item.now c.args.depth,
+      land_lines c.args.function.now c.args.item.now c.args.depth,
+      arrival_lines c.args.function.now c.args.item.now c.args.depth,
+    ) in
     reads _ _ _ _ e (λ start whole rest h. h)
 
 pub put_lines-returns-4 : goal.put_lines-returns-4
 put_lines-returns-4 g t c =
-    let e : nothing ≡ (printed c.args.function.now c.args.item.now).lines c.args.depth = search (arm_lines c.args.function.now c.args.item.now c.args.depth, leap_lines c.args.function.now c.args.item.now c.args.depth, land_lines c.args.function.now c.args.item.now c.args.depth, arrival_lines c.args.function.now c.args.item.now c.args.depth) in
+    let e : nothing ≡ (printed c.args.function.now c.args.item.now).lines c.args.depth =
+    search (
+      arm_lines c.args.function.now c.args.item.now c.args.depth,
+      leap_lines c.args.function.now c.args.item.now c.args.depth,
+      land_lines c.args.function.now c.args.item.now c.args.depth,
+      arrival_lines c.args.function.now c.args.item.now c.args.depth,
+    ) in
     reads _ _ _ _ e (λ start whole rest h. h)

@@ -8,8 +8,11 @@ pub returns : goal.returns
 unfolding StandsBefore
 returns g c =
     let first = begun c.args.writer.now.sink.ghost_name (g.O.Sink.written c.args.writer.now.sink.now) (g.O.Sink.faults c.args.writer.now.sink.now)
-    c.args.writer.now.held.items c.args.writer.now.failed (text_of c.args.program.now) c.requires.held c.requires.going (g.met.O.Sink.counts c.args.writer.now.sink.now) in
-    let last = c.flush.ensures.gives _ _ [] (c.put_program.ensures (start_of c.args.writer.now.sink.ghost_name (g.O.Sink.written c.args.writer.now.sink.now) (g.O.Sink.faults c.args.writer.now.sink.now)) (text_of c.args.program.now) [] first) in
+    c.args.writer.now.held.items c.args.writer.now.failed (text_of c.args.program.now) c.requires.held c.requires.going
+    (g.met.O.Sink.counts c.args.writer.now.sink.now) in
+    let last = c.flush.ensures.gives _ _ []
+    (c.put_program.ensures (start_of c.args.writer.now.sink.ghost_name (g.O.Sink.written c.args.writer.now.sink.now)
+    (g.O.Sink.faults c.args.writer.now.sink.now)) (text_of c.args.program.now) [] first) in
     record {
       same_reference = end_same _ _ _ _ _ _ _ _ _ last;
       ok = end_ok _ _ _ _ _ _ _ _ _ c.flush.ensures.emptied last;

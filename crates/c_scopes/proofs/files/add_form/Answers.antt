@@ -10,7 +10,8 @@ returns-in_ok-add_variables-in-Globals-clause-state g c =
     let file = file_of (g.C.FlatCounter.flat c.args.counter.now) c.args.file.now in
     let word = words_of c.args.file.now.outside.words in
     let s = state_of c.args.state.now c.args.before.now in
-    (λ i. record { scopes = c.in_ok-add_variables-in-Globals.ensures.scopes i; bodies = c.args.before.now }) ∙ ap (λ t. behind_form file (top_form word t) s) (sym c.in-Globals.is)
+    (λ i. record { scopes = c.in_ok-add_variables-in-Globals.ensures.scopes i; bodies = c.args.before.now }) ∙
+    ap (λ t. behind_form file (top_form word t) s) (sym c.in-Globals.is)
 
 pub returns-in_ok-add_variables-in-Globals-clause-out : goal.returns-in_ok-add_variables-in-Globals-clause-out
 returns-in_ok-add_variables-in-Globals-clause-out g c =

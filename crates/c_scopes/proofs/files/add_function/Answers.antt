@@ -10,4 +10,5 @@ returns-clause-faults g c =
     let word = words_of c.args.file.now.outside.words in
     let declared = c.in_ok-declare.ensures in
     c.in_ok-function.ensures.faults
-    ∙ (λ i. function_faults (g.C.FlatCounter.flat c.args.counter.now) word (notes_of c.args.file.now.outside.notes.now) (function_form word c.args.f) (declared.scopes i) (declared.faults i))
+    ∙ (λ i. function_faults (g.C.FlatCounter.flat c.args.counter.now) word (notes_of c.args.file.now.outside.notes.now) (function_form word c.args.f)
+    (declared.scopes i) (declared.faults i))

@@ -10,8 +10,10 @@ invariant-loop-x g l =
     let file = file_of (g.C.FlatCounter.flat l.counter) l.file in
     let word = words_of l.file.outside.words in
     record {
-      tops : l.out ++ tops_of file (tops_in word l.left) (state_of l.state l.before) ≡ tops_of file (tops_in word l.fn.nodes) (state_of l.initial.state l.initial.before);
-      faults : file_faults file (tops_in word l.left) (state_of l.state l.before) l.state.faults ≡ file_faults file (tops_in word l.fn.nodes) (state_of l.initial.state l.initial.before) l.initial.state.faults;
+      tops : l.out ++ tops_of file (tops_in word l.left) (state_of l.state l.before) ≡ tops_of file (tops_in word l.fn.nodes)
+          (state_of l.initial.state l.initial.before);
+      faults : file_faults file (tops_in word l.left) (state_of l.state l.before) l.state.faults ≡ file_faults file (tops_in word l.fn.nodes)
+          (state_of l.initial.state l.initial.before) l.initial.state.faults;
     }
 
 abbrev pub decreases-loop-x : goal.decreases-loop-x

@@ -7,5 +7,7 @@ use Rattle.c_scopes.proofs.function_names.signature_in.Goals as goal
 
 pub returns : goal.returns
 returns c =
-    let e : not c.has-external.result ≡ not (has_function c.args.bodies.now (words_of c.args.words.now c.args.f.name)) = ap not (c.has-external.ensures ∙ ap (has_function c.args.bodies.now) c.get.ensures) in
-    subst (λ b. IfOk c.signature.result (λ s. s ≡ signature (words_of c.args.words.now) b (function_form (words_of c.args.words.now) c.args.f))) e c.signature.ensures
+    let e : not c.has-external.result ≡ not (has_function c.args.bodies.now (words_of c.args.words.now c.args.f.name)) =
+    ap not (c.has-external.ensures ∙ ap (has_function c.args.bodies.now) c.get.ensures) in
+    subst (λ b. IfOk c.signature.result (λ s. s ≡ signature (words_of c.args.words.now) b (function_form (words_of c.args.words.now) c.args.f))) e
+    c.signature.ensures

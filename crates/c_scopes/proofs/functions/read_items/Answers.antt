@@ -12,7 +12,12 @@ pub returns-clause-walk : goal.returns-clause-walk
 returns-clause-walk c =
     let word = words_of c.args.outside.now.words in
     let block = block_form word c.args.body in
-    let same : record { word = word; notes = notes_of c.args.outside.now.notes.now; labels = c.args.numbers.now; result = c.result_kind.result } ≡ context word (notes_of c.args.outside.now.notes.now) (function_form word c.args.f) block
+    let same : record {
+      word = word;
+      notes = notes_of c.args.outside.now.notes.now;
+      labels = c.args.numbers.now;
+      result = c.result_kind.result;
+    } ≡ context word (notes_of c.args.outside.now.notes.now) (function_form word c.args.f) block
     = λ i. record { word = word; notes = notes_of c.args.outside.now.notes.now; labels = c.requires i; result = c.result_kind.ensures i } in
     subst (λ ctx. OnOk c.read_block.result (walk_of c.read_block.new.state ≡ behind_body ctx block (walk_of c.args.state.now))) same c.read_block.ensures.walk
 
@@ -20,6 +25,12 @@ pub returns-clause-faults : goal.returns-clause-faults
 returns-clause-faults c =
     let word = words_of c.args.outside.now.words in
     let block = block_form word c.args.body in
-    let same : record { word = word; notes = notes_of c.args.outside.now.notes.now; labels = c.args.numbers.now; result = c.result_kind.result } ≡ context word (notes_of c.args.outside.now.notes.now) (function_form word c.args.f) block
+    let same : record {
+      word = word;
+      notes = notes_of c.args.outside.now.notes.now;
+      labels = c.args.numbers.now;
+      result = c.result_kind.result;
+    } ≡ context word (notes_of c.args.outside.now.notes.now) (function_form word c.args.f) block
     = λ i. record { word = word; notes = notes_of c.args.outside.now.notes.now; labels = c.requires i; result = c.result_kind.ensures i } in
-    subst (λ ctx. OnOk c.read_block.result (c.read_block.new.state.faults ≡ body_faults ctx block (walk_of c.args.state.now) c.args.state.now.faults)) same c.read_block.ensures.faults
+    subst (λ ctx. OnOk c.read_block.result (c.read_block.new.state.faults ≡ body_faults ctx block (walk_of c.args.state.now) c.args.state.now.faults))
+    same c.read_block.ensures.faults

@@ -19,4 +19,5 @@ decreases-list_longest l = 2 * weights l.items.now + 1
 
 abbrev pub invariant-list_longest-loop-x : goal.invariant-list_longest-loop-x
 invariant-list_longest-loop-x l =
-    max l.longest (list_longest (words_of l.words) (items_of (words_of l.words) (drop l.x-index l.items))) ≡ list_longest (words_of l.words) (items_of (words_of l.words) l.items)
+    max l.longest (list_longest (words_of l.words) (items_of (words_of l.words) (drop l.x-index l.items))) ≡ list_longest (words_of l.words)
+    (items_of (words_of l.words) l.items)

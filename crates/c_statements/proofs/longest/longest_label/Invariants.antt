@@ -6,4 +6,5 @@ use Rattle.c_statements.proofs.longest.longest_label.Given as goal
 
 abbrev pub invariant-loop-x : goal.invariant-loop-x
 invariant-loop-x l =
-    max l.longest (longest_label (words_of l.words) (labels_of (words_of l.words) (drop l.x-index l.nodes))) ≡ longest_label (words_of l.words) (labels_of (words_of l.words) l.nodes)
+    max l.longest (longest_label (words_of l.words) (labels_of (words_of l.words) (drop l.x-index l.nodes))) ≡ longest_label (words_of l.words)
+    (labels_of (words_of l.words) l.nodes)

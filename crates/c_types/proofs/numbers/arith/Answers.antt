@@ -19,28 +19,33 @@ pub returns-in-Add-clause-value : goal.returns-in-Add-clause-value
 unfolding arith_result
 returns-in-Add-clause-value c =
     at_mark c.args.kind c.args.a c.args.b c.args.op Add c.in-Add.is c.number_or.result
-    (c.number_or.ensures.value ∙ ap (number_or Overflow c.args.kind) (sum_value c.args.kind c.args.a c.args.b c.ranges.a c.ranges.b c.requires.left (c.requires.right (ap is_shift c.in-Add.is))))
+    (c.number_or.ensures.value ∙ ap (number_or Overflow c.args.kind)
+    (sum_value c.args.kind c.args.a c.args.b c.ranges.a c.ranges.b c.requires.left (c.requires.right (ap is_shift c.in-Add.is))))
 
 pub returns-in-Sub-clause-value : goal.returns-in-Sub-clause-value
 unfolding arith_result
 returns-in-Sub-clause-value c =
     at_mark c.args.kind c.args.a c.args.b c.args.op Sub c.in-Sub.is c.number_or-in-Sub.result
-    (c.number_or-in-Sub.ensures.value ∙ ap (number_or Overflow c.args.kind) (difference_value c.args.kind c.args.a c.args.b c.ranges.a c.ranges.b c.requires.left (c.requires.right (ap is_shift c.in-Sub.is))))
+    (c.number_or-in-Sub.ensures.value ∙ ap (number_or Overflow c.args.kind)
+    (difference_value c.args.kind c.args.a c.args.b c.ranges.a c.ranges.b c.requires.left (c.requires.right (ap is_shift c.in-Sub.is))))
 
 pub returns-in-And-clause-value : goal.returns-in-And-clause-value
 unfolding arith_result
 returns-in-And-clause-value c =
     at_mark c.args.kind c.args.a c.args.b c.args.op And c.in-And.is _
-    (ap Ok (to_z-of_z w128 c.convert.result (record { sfits = c.convert.type_inv }) ∙ c.convert.ensures.value ∙ and_value c.args.kind c.args.a c.args.b c.ranges.a c.ranges.b))
+    (ap Ok (to_z-of_z w128 c.convert.result (record { sfits = c.convert.type_inv }) ∙ c.convert.ensures.value ∙
+    and_value c.args.kind c.args.a c.args.b c.ranges.a c.ranges.b))
 
 pub returns-in-Or-clause-value : goal.returns-in-Or-clause-value
 unfolding arith_result
 returns-in-Or-clause-value c =
     at_mark c.args.kind c.args.a c.args.b c.args.op Or c.in-Or.is _
-    (ap Ok (to_z-of_z w128 c.convert-in-Or.result (record { sfits = c.convert-in-Or.type_inv }) ∙ c.convert-in-Or.ensures.value ∙ or_value c.args.kind c.args.a c.args.b c.ranges.a c.ranges.b))
+    (ap Ok (to_z-of_z w128 c.convert-in-Or.result (record { sfits = c.convert-in-Or.type_inv }) ∙ c.convert-in-Or.ensures.value ∙
+    or_value c.args.kind c.args.a c.args.b c.ranges.a c.ranges.b))
 
 pub returns-in-Xor-clause-value : goal.returns-in-Xor-clause-value
 unfolding arith_result
 returns-in-Xor-clause-value c =
     at_mark c.args.kind c.args.a c.args.b c.args.op Xor c.in-Xor.is _
-    (ap Ok (to_z-of_z w128 c.convert-in-Xor.result (record { sfits = c.convert-in-Xor.type_inv }) ∙ c.convert-in-Xor.ensures.value ∙ xor_value c.args.kind c.args.a c.args.b c.ranges.a c.ranges.b))
+    (ap Ok (to_z-of_z w128 c.convert-in-Xor.result (record { sfits = c.convert-in-Xor.type_inv }) ∙ c.convert-in-Xor.ensures.value ∙
+    xor_value c.args.kind c.args.a c.args.b c.ranges.a c.ranges.b))

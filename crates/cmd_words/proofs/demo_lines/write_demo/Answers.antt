@@ -7,4 +7,5 @@ use Rattle.cmd_words.proofs.demo_lines.write_demo.Goals as goal
 pub returns : goal.returns
 returns g c =
     let text = c.format-6.ensures.text ∙ ap signed_decimal (to_z-of_z w128 c.args.shown.value (search rules)) in
-    rw (c.format.ensures.text, c.format-2.ensures.text, c.format-3.ensures.text, c.format-4.ensures.text, c.format-5.ensures.text, text) at c.write_pieces.ensures
+    rw (c.format.ensures.text, c.format-2.ensures.text, c.format-3.ensures.text, c.format-4.ensures.text, c.format-5.ensures.text, text) at
+    c.write_pieces.ensures

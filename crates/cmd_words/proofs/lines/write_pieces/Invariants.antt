@@ -6,4 +6,5 @@ use Rattle.cmd_words.proofs.lines.write_pieces.Given as goal
 -- the pieces so far were written
 abbrev pub invariant-loop-piece : goal.invariant-loop-piece
 invariant-loop-piece g l =
-    Wrote (g.E.Sink.written l.fn.err) (g.E.Sink.written l.err) (g.E.Sink.faults l.fn.err) (g.E.Sink.faults l.err) (flat_map (λ piece. piece.now) (take l.piece-index l.pieces))
+    Wrote (g.E.Sink.written l.fn.err) (g.E.Sink.written l.err) (g.E.Sink.faults l.fn.err) (g.E.Sink.faults l.err)
+    (flat_map (λ piece. piece.now) (take l.piece-index l.pieces))

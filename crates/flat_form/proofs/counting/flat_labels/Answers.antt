@@ -13,6 +13,7 @@ returns-in-Some c =
     let labels = c.as_slice-3.ensures.value in
     let made = c.in_ok-made.ensures ∙ ap (λ z. summed (labels_in (is_flagged z)) (is_flagged z) false body) flags in
     let stay = c.in_ok-stay.ensures ∙ (λ i. labels_named (is_flagged (flags-2 i)) (labels i)) in
-    let all = labels_flagged body (is_flagged c.in_ok-named.named) c.in_ok-labels.labels c.in_ok-made.made c.in_ok-stay.stay c.in_ok-named.ensures c.in_ok-labels.ensures made stay in
+    let all = labels_flagged body (is_flagged c.in_ok-named.named) c.in_ok-labels.labels c.in_ok-made.made c.in_ok-stay.stay c.in_ok-named.ensures
+    c.in_ok-labels.ensures made stay in
     let sum = c.in-Some.ensures in
     omega (arith, all, sum)

@@ -11,14 +11,16 @@ use Rattle.flat_form.proofs.flat_bodies_labels.+marking.Goals as goal
 
 pub add_items-loop-i-preserved : goal.add_items-loop-i-preserved
 add_items-loop-i-preserved t c =
-    collected marks marks_in (λ x xs. refl) c.args.items.now c.loop-i.i c.index-items-i.result c.loop-i-test.true c.index-items-i.is c.loop-i.out c.add_item.new.out _ c.loop-i.invariant c.in_ok-add_item.ensures
+    collected marks marks_in (λ x xs. refl) c.args.items.now c.loop-i.i c.index-items-i.result c.loop-i-test.true c.index-items-i.is c.loop-i.out
+    c.add_item.new.out _ c.loop-i.invariant c.in_ok-add_item.ensures
 
 pub add_items-returns : goal.add_items-returns
 add_items-returns t c = collected_all marks refl c.args.items.now c.loop-i.i c.loop-i-test.false c.loop-i.out _ c.loop-i.invariant
 
 pub add_sections-loop-i-preserved : goal.add_sections-loop-i-preserved
 add_sections-loop-i-preserved t c =
-    collected_in marks_among (λ (s : Section). marks (trees_of (list_of s))) (λ s d. refl) c.args.sections.now c.loop-i.i c.index-sections-i.result c.loop-i-test.true c.index-sections-i.is c.loop-i.out c.add_list.new.out _ c.loop-i.invariant
+    collected_in marks_among (λ (s : Section). marks (trees_of (list_of s))) (λ s d. refl) c.args.sections.now c.loop-i.i c.index-sections-i.result
+    c.loop-i-test.true c.index-sections-i.is c.loop-i.out c.add_list.new.out _ c.loop-i.invariant
     (c.in_ok-add_list.ensures ∙ ap (λ z. c.loop-i.out ++ marks (trees_of (list_of z))) (sym c.index-sections-i.is))
 
 pub add_sections-returns : goal.add_sections-returns
@@ -37,5 +39,6 @@ add_item-returns-in_ok-add_list-in-For t c = on_ok_weaker c.add_list-in-For-2.re
     let a = marks (trees_of c.in-For.first) in
     let b = marks (trees_of c.in-For.a) in
     h ∙ ap (λ z. z ++ b) c.in_ok-add_list-in-For.ensures ∙ append_assoc c.args.out.now a b
-    ∙ ap (λ z. c.args.out.now ++ z) (sym (ap (λ y. marks_in (tree_at y)) c.in-For.is ∙ ap marks_in (at-For c.in-For.first c.in-For.field-1 c.in-For.field-2 c.in-For.a))))
+    ∙ ap (λ z. c.args.out.now ++ z) (sym (ap (λ y. marks_in (tree_at y)) c.in-For.is ∙
+    ap marks_in (at-For c.in-For.first c.in-For.field-1 c.in-For.field-2 c.in-For.a))))
     c.add_list-in-For-2.ensures

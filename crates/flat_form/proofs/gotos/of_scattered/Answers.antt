@@ -7,7 +7,8 @@ use Rattle.flat_form.proofs.gotos.of_scattered.Goals as goal
 
 pub returns : goal.returns
 returns c =
-    let m = ap some_in (c.as_slice.ensures.value ∙ c.in_ok-numbers.ensures) ∙ tested_are c.args.kind (cases_among (switch_labels (sections_of c.args.sections.now))) in
+    let m = ap some_in (c.as_slice.ensures.value ∙ c.in_ok-numbers.ensures) ∙
+    tested_are c.args.kind (cases_among (switch_labels (sections_of c.args.sections.now))) in
     let a = c.in_ok-add_tests.ensures in
     let b = c.in_ok-add_ends.ensures in
     omega arith

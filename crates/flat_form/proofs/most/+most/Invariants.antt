@@ -15,5 +15,6 @@ abbrev pub invariant-add_sections-loop-i : goal.invariant-add_sections-loop-i
 invariant-add_sections-loop-i l =
     let left = sections_of (drop l.i l.sections) in
     let all = sections_of l.sections in
-    (l.most.gotos + (entries left + section_ends left + total_in most_gotos left) ≡ l.initial.most.gotos + (entries all + section_ends all + total_in most_gotos all))
+    (l.most.gotos + (entries left + section_ends left + total_in most_gotos left) ≡ l.initial.most.gotos + (entries all + section_ends all + total_in
+    most_gotos all))
     × (l.most.labels + (entries left + total_in most_labels left) ≡ l.initial.most.labels + (entries all + total_in most_labels all))

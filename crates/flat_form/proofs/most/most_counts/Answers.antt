@@ -21,4 +21,5 @@ returns-in_ok-add_list-clause-value c =
     let body = trees_of c.args.body.now in
     let gotos = c.in_ok-add_list.ensures.gotos in
     let labels = c.in_ok-add_list.ensures.labels in
-    (λ i. Some ((gotos ∙ plus_nothing (total most_gotos body)) i, (labels ∙ plus_nothing (total most_labels body)) i)) ∙ sym (ap (λ b. cond b (Some (total most_gotos body, total most_labels body)) None) (sym c.has_jumps.ensures ∙ c.if-has_jumps.true))
+    (λ i. Some ((gotos ∙ plus_nothing (total most_gotos body)) i, (labels ∙ plus_nothing (total most_labels body)) i)) ∙
+    sym (ap (λ b. cond b (Some (total most_gotos body, total most_labels body)) None) (sym c.has_jumps.ensures ∙ c.if-has_jumps.true))

@@ -14,7 +14,8 @@ loop-i-preserved c = λ m.
     let i = c.loop-i.i in
     let x = get_or cs i 0 in
     c.in_ok-enter.ensures m ∙ ap (λ o. with_place o x i m) (c.loop-i.invariant m)
-    ∙ sym (ap (λ z. place_if z m) (take_more cs i 0 c.loop-i-test.true) ∙ place_push (take i cs) x m ∙ ap (λ n. with_place (place_if (take i cs) m) x n m) (length-take-le i cs (omega arith)))
+    ∙ sym (ap (λ z. place_if z m) (take_more cs i 0 c.loop-i-test.true) ∙ place_push (take i cs) x m ∙
+    ap (λ n. with_place (place_if (take i cs) m) x n m) (length-take-le i cs (omega arith)))
 
 pub returns : goal.returns
 returns c = λ m.

@@ -8,10 +8,12 @@ pub renumber_items-returns-clause-renumbered : goal.renumber_items-returns-claus
 renumber_items-returns-clause-renumbered t c =
     let d = c.loop-i.invariant.1 in
     let end = c.loop-i-test.false in
-    items_done (relabelled_item (number_at c.args.places.now)) (relabelled (number_at c.args.places.now)) refl (λ x a. refl) c.args.items.now c.loop-i.items d.0 (λ k x l. d.1 k x (omega (arith, l, end, d.0)))
+    items_done (relabelled_item (number_at c.args.places.now)) (relabelled (number_at c.args.places.now)) refl (λ x a. refl) c.args.items.now
+    c.loop-i.items d.0 (λ k x l. d.1 k x (omega (arith, l, end, d.0)))
 
 pub renumber_sections-returns-clause-renumbered : goal.renumber_sections-returns-clause-renumbered
 renumber_sections-returns-clause-renumbered t c =
     let d = c.loop-i.invariant.1 in
     let end = c.loop-i-test.false in
-    sections_done (relabelled_among (number_at c.args.places.now)) refl (λ x d. refl) c.args.sections.now c.loop-i.sections d.0 (λ k x l. d.1 k x (omega (arith, l, end, d.0)))
+    sections_done (relabelled_among (number_at c.args.places.now)) refl (λ x d. refl) c.args.sections.now c.loop-i.sections d.0
+    (λ k x l. d.1 k x (omega (arith, l, end, d.0)))

@@ -5,4 +5,5 @@ use Rattle.flat_items.specs.Plans.{case_names}
 use Rattle.flat_items.proofs.cases.add_case_marks.Given as goal
 
 abbrev pub invariant-loop-i : goal.invariant-loop-i
-invariant-loop-i l = join (trees_of l.out) (case_marks (case_names l.plan l.cases) (expression_trees (drop l.i l.given)) l.default) ≡ join (trees_of l.initial.out) (case_marks (case_names l.plan l.cases) (expression_trees l.given) l.default)
+invariant-loop-i l = join (trees_of l.out) (case_marks (case_names l.plan l.cases) (expression_trees (drop l.i l.given)) l.default) ≡ join
+    (trees_of l.initial.out) (case_marks (case_names l.plan l.cases) (expression_trees l.given) l.default)

@@ -23,6 +23,9 @@ returns c =
     let tests = number_tests k v label c.args.cases.now.numbers in
     let goto = one (Plain.Goto (otherwise_label (plan_of c.args.plan.now) (here_of c.args.here) (sections_of c.args.sections.now))) in
     let first = ap (λ e. join out (one (Plain.Evaluate (assign_number k v e)))) (ap expression_tree c.in_ok-source.ensures ∙ c.selector_source.ensures) in
-    on_ok_weaker c.add_otherwise.result (λ h. h ∙ ap (λ z. join z goto) (c.in_ok-add_tests.ensures ∙ ap (λ ns. join (trees_of c.add.new.out) (number_tests k v label ns)) c.as_slice.ensures.value) ∙ joined (trees_of c.add.new.out) tests goto
-    ∙ one_more out (trees_of c.add.new.out) (Plain.Evaluate (assign_number k v (selector_source (selector_tree c.args.selector.now)))) (join tests goto) (c.in_ok-add.ensures ∙ ap (λ z. join out (one z)) c.in_ok-first.ensures ∙ first))
+    on_ok_weaker c.add_otherwise.result (λ h. h ∙ ap (λ z. join z goto)
+    (c.in_ok-add_tests.ensures ∙ ap (λ ns. join (trees_of c.add.new.out) (number_tests k v label ns)) c.as_slice.ensures.value) ∙
+    joined (trees_of c.add.new.out) tests goto
+    ∙ one_more out (trees_of c.add.new.out) (Plain.Evaluate (assign_number k v (selector_source (selector_tree c.args.selector.now))))
+    (join tests goto) (c.in_ok-add.ensures ∙ ap (λ z. join out (one z)) c.in_ok-first.ensures ∙ first))
     c.add_otherwise.ensures

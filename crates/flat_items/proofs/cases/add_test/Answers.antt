@@ -6,4 +6,5 @@ use Rattle.flat_items.specs.Plans.{number_label}
 use Rattle.flat_items.specs.Pieces.{number_test}
 
 pub returns-in-None : goal.returns-in-None
-returns-in-None c = sym (ap (λ z. join (trees_of c.args.out.now) (number_test c.args.cases.now.kind c.args.variable (number_label c.args.plan.now c.args.cases.now) z)) c.in-None.is ∙ join-nil (trees_of c.args.out.now))
+returns-in-None c = sym (ap (λ z. join (trees_of c.args.out.now)
+    (number_test c.args.cases.now.kind c.args.variable (number_label c.args.plan.now c.args.cases.now) z)) c.in-None.is ∙ join-nil (trees_of c.args.out.now))

@@ -13,5 +13,7 @@ pub returns : goal.returns
 returns c =
     let t = option_map expression_tree c.args.test.now in
     let u = option_map expression_tree c.args.third.now in
-    on_ok_weaker c.add.result (λ h. h ∙ ap (λ z. join (trees_of c.args.out.now) (one z)) (ap tree_at c.in_ok-made.ensures ∙ at-For c.new.result c.args.test.now c.args.third.now c.args.a ∙ ap (λ z. Plain.For z t u (trees_of c.args.a)) (ap trees_of c.new.ensures ∙ trees-none)))
+    on_ok_weaker c.add.result (λ h. h ∙ ap (λ z. join (trees_of c.args.out.now) (one z))
+    (ap tree_at c.in_ok-made.ensures ∙ at-For c.new.result c.args.test.now c.args.third.now c.args.a ∙
+    ap (λ z. Plain.For z t u (trees_of c.args.a)) (ap trees_of c.new.ensures ∙ trees-none)))
     c.add.ensures

@@ -5,4 +5,5 @@ use Rattle.flat_looser_laws.specs.Pieces.{assigned_cells}
 use Rattle.flat_items.proofs.pieces.add_cleared.Given as goal
 
 abbrev pub invariant-loop-i : goal.invariant-loop-i
-invariant-loop-i l = join (trees_of l.out) (assigned_cells l.kind l.slot l.i [] (l.cells - l.i)) ≡ join (trees_of l.initial.out) (assigned_cells l.kind l.slot l.from [] (l.cells - l.from))
+invariant-loop-i l = join (trees_of l.out) (assigned_cells l.kind l.slot l.i [] (l.cells - l.i)) ≡ join (trees_of l.initial.out)
+    (assigned_cells l.kind l.slot l.from [] (l.cells - l.from))

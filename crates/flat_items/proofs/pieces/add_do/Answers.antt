@@ -14,5 +14,7 @@ use Rattle.flat_items.specs.Plans.{aim_of}
 pub returns : goal.returns
 returns c =
     let x = Plain.Do (join (trees_of c.args.a) (mark_of (aim_of c.args.scope.continues))) (test_tree c.args.test.now) in
-    on_ok_weaker c.add_mark.result (λ h. h ∙ one_more (trees_of c.args.out.now) _ x (mark_of (aim_of c.args.scope.breaks)) (c.in_ok-add.ensures ∙ ap (λ z. join (trees_of c.args.out.now) (one z)) (ap tree_at c.in_ok-make_do.ensures ∙ at-Do c.in_ok-body.body c.args.test.now ∙ ap (λ z. Plain.Do z (test_tree c.args.test.now)) c.in_ok-body.ensures)))
+    on_ok_weaker c.add_mark.result (λ h. h ∙ one_more (trees_of c.args.out.now) _ x (mark_of (aim_of c.args.scope.breaks))
+    (c.in_ok-add.ensures ∙ ap (λ z. join (trees_of c.args.out.now) (one z))
+    (ap tree_at c.in_ok-make_do.ensures ∙ at-Do c.in_ok-body.body c.args.test.now ∙ ap (λ z. Plain.Do z (test_tree c.args.test.now)) c.in_ok-body.ensures)))
     c.add_mark.ensures

@@ -14,6 +14,7 @@ returns c =
     let t = option_map expression_tree c.args.test.now in
     let u = option_map expression_tree c.args.third.now in
     let x = for_loop c.args.jumpy t u (join (trees_of c.args.a) (mark_of (aim_of c.args.scope.continues))) in
-    on_ok_weaker c.add_mark.result (λ h. h ∙ one_more (trees_of c.args.out.now) _ x (mark_of (aim_of c.args.scope.breaks)) (c.in_ok-add_loop.ensures ∙ ap (λ z. join (trees_of c.args.out.now) (one (for_loop c.args.jumpy t u z))) c.in_ok-marked.ensures)
+    on_ok_weaker c.add_mark.result (λ h. h ∙ one_more (trees_of c.args.out.now) _ x (mark_of (aim_of c.args.scope.breaks))
+    (c.in_ok-add_loop.ensures ∙ ap (λ z. join (trees_of c.args.out.now) (one (for_loop c.args.jumpy t u z))) c.in_ok-marked.ensures)
     ∙ ap (join (trees_of c.args.out.now)) (with_loop c.args.jumpy t u (trees_of c.args.a) (aim_of c.args.scope.breaks) (aim_of c.args.scope.continues)))
     c.add_mark.ensures

@@ -14,5 +14,7 @@ use Rattle.flat_items.specs.Plans.{aim_of}
 pub returns : goal.returns
 returns c =
     let x = Plain.Switch (selector_tree c.args.selector.now) (sections_of c.args.sections) in
-    on_ok_weaker c.add_mark.result (λ h. h ∙ one_more (trees_of c.args.out.now) _ x (mark_of (aim_of c.args.breaks)) (c.in_ok-add.ensures ∙ ap (λ z. join (trees_of c.args.out.now) (one z)) (ap tree_at c.in_ok-make_switch.ensures ∙ at-Switch c.args.selector.now c.args.sections)))
+    on_ok_weaker c.add_mark.result (λ h. h ∙ one_more (trees_of c.args.out.now) _ x (mark_of (aim_of c.args.breaks))
+    (c.in_ok-add.ensures ∙ ap (λ z. join (trees_of c.args.out.now) (one z))
+    (ap tree_at c.in_ok-make_switch.ensures ∙ at-Switch c.args.selector.now c.args.sections)))
     c.add_mark.ensures

@@ -14,5 +14,8 @@ use Rattle.flat_items.specs.Plans.{aim_of}
 pub returns : goal.returns
 returns c =
     let x = Plain.While (test_tree c.args.test.now) (join (trees_of c.args.a) (mark_of (aim_of c.args.scope.continues))) in
-    on_ok_weaker c.add_mark.result (λ h. h ∙ one_more (trees_of c.args.out.now) _ x (mark_of (aim_of c.args.scope.breaks)) (c.in_ok-add.ensures ∙ ap (λ z. join (trees_of c.args.out.now) (one z)) (ap tree_at c.in_ok-make_while.ensures ∙ at-While c.args.test.now c.in_ok-body.body ∙ ap (Plain.While (test_tree c.args.test.now)) c.in_ok-body.ensures)))
+    on_ok_weaker c.add_mark.result (λ h. h ∙ one_more (trees_of c.args.out.now) _ x (mark_of (aim_of c.args.scope.breaks))
+    (c.in_ok-add.ensures ∙ ap (λ z. join (trees_of c.args.out.now) (one z))
+    (ap tree_at c.in_ok-make_while.ensures ∙ at-While c.args.test.now c.in_ok-body.body ∙
+    ap (Plain.While (test_tree c.args.test.now)) c.in_ok-body.ensures)))
     c.add_mark.ensures

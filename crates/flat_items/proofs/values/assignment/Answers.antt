@@ -6,4 +6,5 @@ use Rattle.flat_items.proofs.Spelling.{typed-Assign}
 use Rattle.flat_items.proofs.values.assignment.Goals as goal
 
 pub returns : goal.returns
-returns c = at-Evaluate _ ∙ ap Plain.Evaluate (typed-Assign c.args.kind c.args.slot c.in_ok-value.value (expression_tree c.args.e) (ap expression_tree c.in_ok-value.ensures))
+returns c = at-Evaluate _ ∙ ap Plain.Evaluate (typed-Assign c.args.kind c.args.slot c.in_ok-value.value (expression_tree c.args.e)
+    (ap expression_tree c.in_ok-value.ensures))

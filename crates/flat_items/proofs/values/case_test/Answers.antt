@@ -18,5 +18,8 @@ use Rattle.flat_items.proofs.values.case_test.Goals as goal
 pub returns : goal.returns
 returns c =
     let k = c.args.kind in
-    let test = typed-Binary Int Equal c.in_ok-read.read c.in_ok-number.number (Typed (Some k) (PE.Read (PE.Var (H.Slot c.args.variable)))) (constant k c.args.n) (ap expression_tree c.in_ok-read.ensures ∙ typed-Read k c.args.variable) (c.in_ok-number.ensures ∙ ap (constant k) (to_z-of_z w128 c.args.n c.ranges.n)) in
-    IfOk-weaker c.jump.result _ _ (λ it f. f ∙ ap (λ t. Plain.If t (one (Plain.Goto c.args.label)) Plain.Nil) (test-Source _ ∙ ap PT.Source test)) c.jump.ensures
+    let test = typed-Binary Int Equal c.in_ok-read.read c.in_ok-number.number (Typed (Some k) (PE.Read (PE.Var (H.Slot c.args.variable))))
+    (constant k c.args.n) (ap expression_tree c.in_ok-read.ensures ∙ typed-Read k c.args.variable)
+    (c.in_ok-number.ensures ∙ ap (constant k) (to_z-of_z w128 c.args.n c.ranges.n)) in
+    IfOk-weaker c.jump.result _ _ (λ it f. f ∙ ap (λ t. Plain.If t (one (Plain.Goto c.args.label)) Plain.Nil) (test-Source _ ∙ ap PT.Source test))
+    c.jump.ensures

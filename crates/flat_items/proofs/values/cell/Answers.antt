@@ -9,4 +9,5 @@ use Rattle.flat_items.proofs.Spelling.{typed-Cell}
 use Rattle.flat_items.proofs.values.cell.Goals as goal
 
 pub returns : goal.returns
-returns c = at-Evaluate _ ∙ ap Plain.Evaluate (typed-Cell c.args.kind c.args.slot c.in_ok-at.at c.args.value (number Int (pos c.args.at)) (expression_tree c.args.value) (c.in_ok-at.ensures ∙ ap (number Int) (omega (arith, ints))) refl)
+returns c = at-Evaluate _ ∙ ap Plain.Evaluate (typed-Cell c.args.kind c.args.slot c.in_ok-at.at c.args.value (number Int (pos c.args.at))
+    (expression_tree c.args.value) (c.in_ok-at.ensures ∙ ap (number Int) (omega (arith, ints))) refl)

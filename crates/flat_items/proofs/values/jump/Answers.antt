@@ -12,5 +12,6 @@ pub returns-in-Ok : goal.returns-in-Ok
 returns-in-Ok c =
     let l = c.args.label in
     let t = test_tree c.args.test in
-    let gotos = ap trees_of (c.in-Ok.ensures.ok ∙ ap (λ z. z ++ I.Goto l ∷ []) c.new-gotos.ensures) ∙ trees-first (I.Goto l) [] ∙ ap (λ x. Then x (trees_of [])) (at-Goto l) ∙ ap (Then (Plain.Goto l)) trees-none in
+    let gotos = ap trees_of (c.in-Ok.ensures.ok ∙ ap (λ z. z ++ I.Goto l ∷ []) c.new-gotos.ensures) ∙ trees-first (I.Goto l) [] ∙
+    ap (λ x. Then x (trees_of [])) (at-Goto l) ∙ ap (Then (Plain.Goto l)) trees-none in
     at-If _ _ _ ∙ ap (λ a. Plain.If t a (trees_of c.new.result)) gotos ∙ ap (Plain.If t (one (Plain.Goto l))) (ap trees_of c.new.ensures ∙ trees-none)

@@ -9,4 +9,6 @@ use Rattle.flat_items.proofs.Spelling.{typed-Unary}
 use Rattle.flat_items.proofs.values.negated.Goals as goal
 
 pub returns : goal.returns
-returns c = IfOk-weaker c.new.result _ _ (λ it h. ap expression_tree h ∙ typed-Unary c.args.kind Minus c.in_ok-number.number (number c.args.kind c.args.value) (c.in_ok-number.ensures ∙ ap (number c.args.kind) (to_z-of_z w128 c.args.value c.ranges.value))) c.new.ensures
+returns c = IfOk-weaker c.new.result _ _ (λ it h. ap expression_tree h ∙
+    typed-Unary c.args.kind Minus c.in_ok-number.number (number c.args.kind c.args.value)
+    (c.in_ok-number.ensures ∙ ap (number c.args.kind) (to_z-of_z w128 c.args.value c.ranges.value))) c.new.ensures

@@ -8,4 +8,5 @@ use Rattle.flat_items.proofs.Spelling.{typed-Number}
 use Rattle.flat_items.proofs.values.number.Goals as goal
 
 pub returns : goal.returns
-returns c = IfOk-weaker c.new.result _ _ (λ it h. ap expression_tree h ∙ typed-Number c.args.kind _ ∙ ap (number c.args.kind) (to_z-of_z w128 c.args.value c.ranges.value)) c.new.ensures
+returns c = IfOk-weaker c.new.result _ _ (λ it h. ap expression_tree h ∙ typed-Number c.args.kind _ ∙
+    ap (number c.args.kind) (to_z-of_z w128 c.args.value c.ranges.value)) c.new.ensures

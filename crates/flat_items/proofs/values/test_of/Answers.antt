@@ -9,7 +9,8 @@ use Rattle.flat_items.proofs.Spelling.{typed-Number}
 use Rattle.flat_items.proofs.values.test_of.Goals as goal
 
 pub returns-in_ok-copy_expression-in-Some : goal.returns-in_ok-copy_expression-in-Some
-returns-in_ok-copy_expression-in-Some c = test-Source _ ∙ ap PT.Source (ap expression_tree (c.in_ok-copy_expression-in-Some.ensures ∙ c.get.ensures) ∙ ap (λ z. test_or_one (option_map expression_tree z)) (sym c.in-Some.is))
+returns-in_ok-copy_expression-in-Some c = test-Source _ ∙ ap PT.Source
+    (ap expression_tree (c.in_ok-copy_expression-in-Some.ensures ∙ c.get.ensures) ∙ ap (λ z. test_or_one (option_map expression_tree z)) (sym c.in-Some.is))
 
 pub returns-in-None : goal.returns-in-None
 returns-in-None c = test-Source _ ∙ ap PT.Source (typed-Number Int (pos 1) ∙ ap (λ z. test_or_one (option_map expression_tree z)) (sym c.in-None.is))

@@ -47,7 +47,8 @@ write_list-returns-clause-items t c =
     let d = aim_of c.args.scope.continues in
     let r = arrivals_of c.args.plan.now c.args.cases.now in
     let y = flat p h b d r (trees_of c.as_slice.result.now) in
-    c.in_ok-here.ensures.items ∙ ap (λ z. join (trees_of z) y) c.new-items.ensures ∙ ap (λ z. join z y) trees-none ∙ ap (λ z. flat p h b d r (trees_of z)) c.as_slice.ensures.value
+    c.in_ok-here.ensures.items ∙ ap (λ z. join (trees_of z) y) c.new-items.ensures ∙ ap (λ z. join z y) trees-none ∙
+    ap (λ z. flat p h b d r (trees_of z)) c.as_slice.ensures.value
 
 pub write_items-loop-i-preserved : goal.write_items-loop-i-preserved
 write_items-loop-i-preserved t c =
@@ -63,7 +64,8 @@ write_items-loop-i-preserved t c =
     let g = here_of c.loop-i.here in
     record {
       place = place_step xs i x c.loop-i-test.true c.index-items-i.is g _ _ c.in_ok-here.ensures.place c.loop-i.invariant.place;
-      items = walk_step p b d r xs i x c.loop-i-test.true c.index-items-i.is g _ (trees_of c.loop-i.out) (trees_of c.write_item.new.out) _ c.in_ok-here.ensures.place c.in_ok-here.ensures.items c.loop-i.invariant.items;
+      items = walk_step p b d r xs i x c.loop-i-test.true c.index-items-i.is g _ (trees_of c.loop-i.out) (trees_of c.write_item.new.out)
+          _ c.in_ok-here.ensures.place c.in_ok-here.ensures.items c.loop-i.invariant.items;
     }
 
 pub write_items-returns-clause-place : goal.write_items-returns-clause-place
@@ -104,7 +106,8 @@ write_while-returns-clause-items t c =
     let e = c.in_ok-scope.ensures.breaks ∙ ap (λ y. aim y (breaks a) (p.break_label k)) c.is_jumpy.ensures in
     let f = c.in_ok-scope.ensures.continues ∙ ap (λ y. aim y (continues a) (p.continue_label k)) c.is_jumpy.ensures in
     let g = entered_of h in
-    c.in_ok-add_while.ensures ∙ ap (λ x. join out (flat_loop (λ y. Plain.While t' y) x bs cs)) (c.in_ok-body.ensures.items ∙ ap (λ z. flat p z bs cs r a) entered)
+    c.in_ok-add_while.ensures ∙ ap (λ x. join out (flat_loop (λ y. Plain.While t' y) x bs cs))
+    (c.in_ok-body.ensures.items ∙ ap (λ z. flat p z bs cs r a) entered)
     ∙ ap (λ z. join out (flat_loop (λ y. Plain.While t' y) (flat p g z cs r a) z cs)) e
     ∙ ap (λ z. join out (flat_loop (λ y. Plain.While t' y) (flat p g (loop_breaks p k a) z r a) (loop_breaks p k a) z)) f
 
@@ -142,7 +145,8 @@ write_first-returns-clause-place t c =
     let h = here_of c.args.here in
     let a = trees_of c.args.first.now in
     let entered = same_here c.in_ok-start.ensures.construct c.in_ok-start.ensures.case c.in_ok-start.ensures.variable in
-    IfOk-weaker c.write_items.result _ _ (λ it e. e ∙ ap (λ z. past (trees_of z) (here_of c.in_ok-start.start)) c.as_slice.ensures.value ∙ ap (past a) entered) c.write_items.ensures.place
+    IfOk-weaker c.write_items.result _ _ (λ it e. e ∙ ap (λ z. past (trees_of z) (here_of c.in_ok-start.start)) c.as_slice.ensures.value ∙
+    ap (past a) entered) c.write_items.ensures.place
 
 pub write_first-returns-clause-items : goal.write_first-returns-clause-items
 write_first-returns-clause-items t c =
@@ -155,7 +159,9 @@ write_first-returns-clause-items t c =
     let entered = same_here c.in_ok-start.ensures.construct c.in_ok-start.ensures.case c.in_ok-start.ensures.variable in
     let r = arrivals_of c.args.plan.now c.no_cases-none.result in
     on_ok_weaker c.write_items.result (λ e. e ∙ ap (λ z. join out (flat p (here_of c.in_ok-start.start) b d r (trees_of z))) c.as_slice.ensures.value
-    ∙ ap (λ g. join out (flat p g b d r a)) entered ∙ ap (λ y. join out (flat p (entered_of h) b d (arrivals_if y (case_names c.args.plan.now c.no_cases-none.result)) a)) c.no_cases-none.ensures) c.write_items.ensures.items
+    ∙ ap (λ g. join out (flat p g b d r a)) entered ∙
+    ap (λ y. join out (flat p (entered_of h) b d (arrivals_if y (case_names c.args.plan.now c.no_cases-none.result)) a)) c.no_cases-none.ensures)
+    c.write_items.ensures.items
 
 pub write_for-returns-clause-place : goal.write_for-returns-clause-place
 write_for-returns-clause-place t c =
@@ -204,9 +210,11 @@ write_kept-returns-clause-items t c =
     let same = ap sections_of c.as_slice-parts.ensures.value in
     let f = c.in_ok-breaks.ensures ∙ ap (λ z. aim j (kept_breaks p.live z) (p.break_label k)) same in
     let jumpy = c.is_jumpy_switch-jumpy.ensures in
-    c.in_ok-add_switch.ensures ∙ ap (λ z. join out (Then (Plain.Switch s z) (mark_of bs))) (c.in_ok-made.ensures.sections ∙ ap (λ z. flat_sections p (here_of c.in_ok-start.start) j bs d z) same ∙ ap (λ g. flat_sections p g j bs d e) entered)
+    c.in_ok-add_switch.ensures ∙ ap (λ z. join out (Then (Plain.Switch s z) (mark_of bs)))
+    (c.in_ok-made.ensures.sections ∙ ap (λ z. flat_sections p (here_of c.in_ok-start.start) j bs d z) same ∙ ap (λ g. flat_sections p g j bs d e) entered)
     ∙ ap (λ z. join out (Then (Plain.Switch s (flat_sections p (entered_of h) j z d e)) (mark_of z))) f
-    ∙ ap (λ y. join out (Then (Plain.Switch s (flat_sections p (entered_of h) y (aim y (kept_breaks p.live e) (p.break_label k)) d e)) (mark_of (aim y (kept_breaks p.live e) (p.break_label k))))) jumpy
+    ∙ ap (λ y. join out (Then (Plain.Switch s (flat_sections p (entered_of h) y (aim y (kept_breaks p.live e) (p.break_label k)) d e))
+    (mark_of (aim y (kept_breaks p.live e) (p.break_label k))))) jumpy
 
 pub write_sections-loop-i-init : goal.write_sections-loop-i-init
 write_sections-loop-i-init t c =
@@ -230,7 +238,8 @@ write_sections-loop-i-preserved t c =
     let g = here_of c.loop-i.here in
     record {
       place = place_step_in xs i x c.loop-i-test.true c.index-sections-i.is g _ _ c.in_ok-here.ensures.place c.loop-i.invariant.place;
-      sections = sections_step p c.args.jumpy b d xs i x c.loop-i-test.true c.index-sections-i.is g _ (sections_of c.loop-i.out) (sections_of c.write_section.new.out) _ c.in_ok-here.ensures.place c.in_ok-here.ensures.sections c.loop-i.invariant.sections;
+      sections = sections_step p c.args.jumpy b d xs i x c.loop-i-test.true c.index-sections-i.is g _ (sections_of c.loop-i.out)
+          (sections_of c.write_section.new.out) _ c.in_ok-here.ensures.place c.in_ok-here.ensures.sections c.loop-i.invariant.sections;
     }
 
 pub write_sections-returns-clause-place : goal.write_sections-returns-clause-place
@@ -243,7 +252,8 @@ write_sections-returns-clause-sections t c =
     let h = here_of c.args.here in
     let b = aim_of c.args.scope.breaks in
     let d = aim_of c.args.scope.continues in
-    sections_end p c.args.jumpy b d c.args.sections.now c.loop-i.i c.loop-i-test.false (here_of c.loop-i.here) (sections_of c.loop-i.out) _ c.loop-i.invariant.sections
+    sections_end p c.args.jumpy b d c.args.sections.now c.loop-i.i c.loop-i-test.false (here_of c.loop-i.here) (sections_of c.loop-i.out)
+    _ c.loop-i.invariant.sections
 
 pub write_section-returns-clause-place : goal.write_section-returns-clause-place
 write_section-returns-clause-place t c =
@@ -260,7 +270,8 @@ write_section-returns-clause-sections t c =
     let whole = flat p h b d NoArrival a in
     let before = sections_of c.args.out.now in
     let e = c.ends_by-ending.ensures ∙ ap (λ z. ending (is_flagged z) a) c.as_slice.ensures.value in
-    let made = c.in_ok-made.ensures.items ∙ ap (λ y. flat p h b d (arrivals_if y (case_names c.args.plan.now c.no_cases-none.result)) a) c.no_cases-none.ensures in
+    let made = c.in_ok-made.ensures.items ∙ ap (λ y. flat p h b d (arrivals_if y (case_names c.args.plan.now c.no_cases-none.result)) a)
+    c.no_cases-none.ensures in
     let list = c.without_break-list.ensures ∙ ap (λ z. if_breaks (ending_as c.ends_by-ending.result) (but_last z) z) made
     ∙ ap (λ z. if_breaks z (but_last whole) whole) e ∙ cut_is p h b d a (ending p.live a) refl in
     c.in_ok-add_section.ensures ∙ ap (λ z. behind before (with_parts c.args.section.now z c.ends_then-ends.result)) list
@@ -273,9 +284,12 @@ write_scattered-returns-clause-place t c =
     let e = sections_of c.args.sections.now in
     let s = selector_tree c.args.selector.now in
     let v = ap sections_of c.as_slice-parts.ensures.value in
-    let count = c.len-count.ensures.value ∙ ap length (c.in_ok-cases.ensures.numbers ∙ ap (λ z. map (case_number (switch_kind s)) (cases_among (switch_labels z))) v) in
-    let entered = inside_scattered s e h c.len-count.result (here_of c.in_ok-start.start) c.requires count c.in_ok-start.ensures.construct c.in_ok-start.ensures.case c.in_ok-start.ensures.variable in
-    IfOk-weaker c.write_spread.result _ _ (λ it f. f ∙ ap (λ z. past_among z (here_of c.in_ok-start.start)) v ∙ ap (past_among e) entered ∙ past_Switch s e h) c.write_spread.ensures.place
+    let count = c.len-count.ensures.value ∙ ap length
+    (c.in_ok-cases.ensures.numbers ∙ ap (λ z. map (case_number (switch_kind s)) (cases_among (switch_labels z))) v) in
+    let entered = inside_scattered s e h c.len-count.result (here_of c.in_ok-start.start) c.requires count c.in_ok-start.ensures.construct
+    c.in_ok-start.ensures.case c.in_ok-start.ensures.variable in
+    IfOk-weaker c.write_spread.result _ _ (λ it f. f ∙ ap (λ z. past_among z (here_of c.in_ok-start.start)) v ∙ ap (past_among e) entered ∙
+    past_Switch s e h) c.write_spread.ensures.place
 
 pub write_scattered-returns-clause-items : goal.write_scattered-returns-clause-items
 write_scattered-returns-clause-items t c =
@@ -290,10 +304,14 @@ write_scattered-returns-clause-items t c =
     let numbers = c.in_ok-cases.ensures.numbers ∙ ap (λ z. map (case_number (switch_kind s)) (cases_among (switch_labels z))) v in
     let same = cases_are cs s e h c.in_ok-cases.ensures.bound c.in_ok-cases.ensures.kind c.in_ok-cases.ensures.first c.in_ok-cases.ensures.construct numbers in
     let count = c.len-count.ensures.value ∙ ap length numbers in
-    let entered = inside_scattered s e h c.len-count.result (here_of c.in_ok-start.start) c.requires count c.in_ok-start.ensures.construct c.in_ok-start.ensures.case c.in_ok-start.ensures.variable in
-    on_ok_weaker c.write_spread.result (λ f. scattered_is c.args.plan.now cs s e h (here_of c.in_ok-start.start) (aim_of c.in_ok-breaks.breaks) d out (trees_of c.add_choice.new.out) _ same
-    (c.in_ok-add_choice.ensures ∙ ap (λ z. join out (Then (Plain.Evaluate (assign_number cs.kind c.args.here.variable (selector_source s))) (join (number_tests cs.kind c.args.here.variable (number_label c.args.plan.now cs) cs.numbers) (one (Plain.Goto (otherwise_label p h z)))))) v)
-    (f ∙ ap (λ z. join (trees_of c.add_choice.new.out) (spread p (here_of c.in_ok-start.start) (aim_of c.in_ok-breaks.breaks) d (case_names c.args.plan.now cs) z)) v)
+    let entered = inside_scattered s e h c.len-count.result (here_of c.in_ok-start.start) c.requires count c.in_ok-start.ensures.construct
+    c.in_ok-start.ensures.case c.in_ok-start.ensures.variable in
+    on_ok_weaker c.write_spread.result (λ f. scattered_is c.args.plan.now cs s e h (here_of c.in_ok-start.start) (aim_of c.in_ok-breaks.breaks) d out
+    (trees_of c.add_choice.new.out) _ same
+    (c.in_ok-add_choice.ensures ∙ ap (λ z. join out (Then (Plain.Evaluate (assign_number cs.kind c.args.here.variable (selector_source s)))
+    (join (number_tests cs.kind c.args.here.variable (number_label c.args.plan.now cs) cs.numbers) (one (Plain.Goto (otherwise_label p h z)))))) v)
+    (f ∙ ap (λ z. join (trees_of c.add_choice.new.out) (spread p (here_of c.in_ok-start.start) (aim_of c.in_ok-breaks.breaks) d
+    (case_names c.args.plan.now cs) z)) v)
     entered (c.in_ok-breaks.ensures ∙ ap (scatter_aim p h) v)) c.write_spread.ensures.items
 
 pub write_spread-loop-i-preserved : goal.write_spread-loop-i-preserved
@@ -309,7 +327,8 @@ write_spread-loop-i-preserved t c =
     let g = here_of c.loop-i.here in
     record {
       place = place_step_in xs i x c.loop-i-test.true c.index-sections-i.is g _ _ c.in_ok-here.ensures.place c.loop-i.invariant.place;
-      items = spread_step p b d (case_names c.args.plan.now c.args.cases.now) xs i x c.loop-i-test.true c.index-sections-i.is g _ (trees_of c.loop-i.out) (trees_of c.write_part.new.out) _ c.in_ok-here.ensures.place c.in_ok-here.ensures.items c.loop-i.invariant.items;
+      items = spread_step p b d (case_names c.args.plan.now c.args.cases.now) xs i x c.loop-i-test.true c.index-sections-i.is g
+          _ (trees_of c.loop-i.out) (trees_of c.write_part.new.out) _ c.in_ok-here.ensures.place c.in_ok-here.ensures.items c.loop-i.invariant.items;
     }
 
 pub write_spread-returns-clause-place : goal.write_spread-returns-clause-place
@@ -323,7 +342,8 @@ write_spread-returns-clause-items t c =
     let out = trees_of c.args.out.now in
     let b = aim_of c.args.scope.breaks in
     let d = aim_of c.args.scope.continues in
-    c.in_ok-add_mark.ensures ∙ spread_end p b d (case_names c.args.plan.now c.args.cases.now) c.args.sections.now c.loop-i.i c.loop-i-test.false (here_of c.loop-i.here) (trees_of c.loop-i.out) _ c.loop-i.invariant.items
+    c.in_ok-add_mark.ensures ∙ spread_end p b d (case_names c.args.plan.now c.args.cases.now) c.args.sections.now c.loop-i.i c.loop-i-test.false
+    (here_of c.loop-i.here) (trees_of c.loop-i.out) _ c.loop-i.invariant.items
 
 pub write_part-returns-clause-place : goal.write_part-returns-clause-place
 write_part-returns-clause-place t c =
@@ -344,7 +364,8 @@ write_part-returns-clause-items t c =
     let end = end_goto o.ends b in
     let y = flat p h b d (arrivals_if true names) (trees_of o.list) in
     let first = c.in_ok-add_case_marks.ensures ∙ ap (λ z. join out (case_marks names (expression_trees z) o.default)) c.as_slice-given.ensures.value in
-    let second = c.in_ok-here.ensures.items ∙ ap (λ z. join (trees_of c.add_case_marks.new.out) (flat p h b d (arrivals_of c.args.plan.now c.args.cases.now) (trees_of z))) c.as_slice-list.ensures.value
+    let second = c.in_ok-here.ensures.items ∙ ap (λ z. join (trees_of c.add_case_marks.new.out)
+    (flat p h b d (arrivals_of c.args.plan.now c.args.cases.now) (trees_of z))) c.as_slice-list.ensures.value
     ∙ ap (λ z. join (trees_of c.add_case_marks.new.out) (flat p h b d (arrivals_if z names) (trees_of o.list))) c.requires in
     c.in_ok-add_end.ensures ∙ ap (λ z. join z end) (second ∙ ap (λ z. join z y) first) ∙ joined (join out m) y end ∙ joined out m (join y end)
 
@@ -357,7 +378,8 @@ write_switch-returns-then-is_scattered-clause-items t c =
     let e = sections_of c.args.sections.now in
     let d = aim_of c.args.continues in
     let q = ap (λ z. is_scattered (sections_of z)) (sym c.as_slice.ensures.value) ∙ sym c.is_scattered.ensures ∙ c.if-is_scattered.true in
-    on_ok_weaker c.write_scattered.result (λ f. f ∙ sym (ap (λ y. join out (cond y (scattered_form p h d s e) (kept_form p h d s e))) q)) c.write_scattered.ensures.items
+    on_ok_weaker c.write_scattered.result (λ f. f ∙ sym (ap (λ y. join out (cond y (scattered_form p h d s e) (kept_form p h d s e))) q))
+    c.write_scattered.ensures.items
 
 pub write_switch-returns-else-is_scattered-clause-items : goal.write_switch-returns-else-is_scattered-clause-items
 write_switch-returns-else-is_scattered-clause-items t c =
@@ -431,14 +453,17 @@ write_item-returns-in-Switch-clause-items t c =
     let d = aim_of c.args.scope.continues in
     let r = arrivals_of c.args.plan.now c.args.cases.now in
     let e = ap tree_at c.in-Switch.is ∙ at-Switch c.in-Switch.selector c.in-Switch.sections in
-    on_ok_weaker c.write_switch.result (λ f. f ∙ ap (join out) (switch_item p h b d r (selector_tree c.in-Switch.selector) (sections_of c.in-Switch.sections)) ∙ sym (ap (λ y. join out (flat_item p h b d r y)) e)) c.write_switch.ensures.items
+    on_ok_weaker c.write_switch.result (λ f. f ∙ ap (join out)
+    (switch_item p h b d r (selector_tree c.in-Switch.selector) (sections_of c.in-Switch.sections)) ∙
+    sym (ap (λ y. join out (flat_item p h b d r y)) e)) c.write_switch.ensures.items
 
 pub write_item-returns-in-Block-clause-place : goal.write_item-returns-in-Block-clause-place
 write_item-returns-in-Block-clause-place t c =
     let p = plan_of c.args.plan.now in
     let h = here_of c.args.here in
     let e = ap tree_at c.in-Block.is ∙ at-Block c.in-Block.a in
-    IfOk-weaker c.write_items.result _ _ (λ it f. f ∙ ap (λ z. past (trees_of z) h) c.as_slice.ensures.value ∙ past_Block (trees_of c.in-Block.a) h ∙ sym (ap (λ y. past_item y h) e)) c.write_items.ensures.place
+    IfOk-weaker c.write_items.result _ _ (λ it f. f ∙ ap (λ z. past (trees_of z) h) c.as_slice.ensures.value ∙ past_Block (trees_of c.in-Block.a) h ∙
+    sym (ap (λ y. past_item y h) e)) c.write_items.ensures.place
 
 pub write_item-returns-in-Block-clause-items : goal.write_item-returns-in-Block-clause-items
 write_item-returns-in-Block-clause-items t c =
@@ -449,7 +474,8 @@ write_item-returns-in-Block-clause-items t c =
     let d = aim_of c.args.scope.continues in
     let r = arrivals_of c.args.plan.now c.args.cases.now in
     let e = ap tree_at c.in-Block.is ∙ at-Block c.in-Block.a in
-    on_ok_weaker c.write_items.result (λ f. f ∙ ap (λ z. join out (flat p h b d r (trees_of z))) c.as_slice.ensures.value ∙ sym (ap (λ y. join out (flat_item p h b d r y)) e)) c.write_items.ensures.items
+    on_ok_weaker c.write_items.result (λ f. f ∙ ap (λ z. join out (flat p h b d r (trees_of z))) c.as_slice.ensures.value ∙
+    sym (ap (λ y. join out (flat_item p h b d r y)) e)) c.write_items.ensures.items
 
 pub write_item-returns-in-Local-clause-place : goal.write_item-returns-in-Local-clause-place
 write_item-returns-in-Local-clause-place t c =
@@ -467,7 +493,8 @@ write_item-returns-in-Local-clause-items t c =
     let d = aim_of c.args.scope.continues in
     let r = arrivals_of c.args.plan.now c.args.cases.now in
     let e = ap tree_at c.in-Local.is ∙ at-Local c.in-Local.slot c.in-Local.given in
-    on_ok_weaker c.write_local.result (λ f. f ∙ ap (join out) (local_is p h b d r c.in-Local.slot (option_map expression_trees c.in-Local.given)) ∙ sym (ap (λ y. join out (flat_item p h b d r y)) e)) c.write_local.ensures.items
+    on_ok_weaker c.write_local.result (λ f. f ∙ ap (join out) (local_is p h b d r c.in-Local.slot (option_map expression_trees c.in-Local.given)) ∙
+    sym (ap (λ y. join out (flat_item p h b d r y)) e)) c.write_local.ensures.items
 
 pub write_item-returns-in-Break-clause-place : goal.write_item-returns-in-Break-clause-place
 write_item-returns-in-Break-clause-place t c =
@@ -492,7 +519,8 @@ write_item-returns-in-Continue-clause-place t c =
     let p = plan_of c.args.plan.now in
     let h = here_of c.args.here in
     let e = ap tree_at c.in-Continue.is ∙ at-Continue in
-    IfOk-weaker c.write_exit-in-Continue.result _ _ (λ it f. ap here_of f ∙ sym (still h) ∙ sym (ap (λ y. past_item y h) e)) c.write_exit-in-Continue.ensures.place
+    IfOk-weaker c.write_exit-in-Continue.result _ _ (λ it f. ap here_of f ∙ sym (still h) ∙ sym (ap (λ y. past_item y h) e))
+    c.write_exit-in-Continue.ensures.place
 
 pub write_item-returns-in-Continue-clause-items : goal.write_item-returns-in-Continue-clause-items
 write_item-returns-in-Continue-clause-items t c =
@@ -568,7 +596,8 @@ write_item-returns-in_default t c =
     let d = aim_of c.args.scope.continues in
     let r = arrivals_of c.args.plan.now c.args.cases.now in
     let same =
-    same_item p h b d r c.args.item.now c.in_default.not-If c.in_default.not-While c.in_default.not-Do c.in_default.not-For c.in_default.not-Switch c.in_default.not-Block
+    same_item p h b d r c.args.item.now c.in_default.not-If c.in_default.not-While c.in_default.not-Do c.in_default.not-For c.in_default.not-Switch
+    c.in_default.not-Block
     c.in_default.not-Local c.in_default.not-Break c.in_default.not-Continue c.in_default.not-Goto c.in_default.not-Mark c.in_default.not-Arrival in
     record {
       place = IfOk-weaker c.write_same.result _ _ (λ it f. ap here_of f ∙ sym same.still) c.write_same.ensures.place;
@@ -584,7 +613,8 @@ write_item-returns-in_ok-after-in-For-clause-place t c =
     let f = trees_of c.in-For.first in
     let t' = option_map expression_tree c.in-For.test in
     let u = option_map expression_tree c.in-For.third in
-    IfOk-weaker c.write_for.result _ _ (λ it q. q ∙ ap (past a) c.in_ok-after-in-For.ensures.place ∙ past_For f t' u a h ∙ sym (ap (λ y. past_item y h) e)) c.write_for.ensures.place
+    IfOk-weaker c.write_for.result _ _ (λ it q. q ∙ ap (past a) c.in_ok-after-in-For.ensures.place ∙ past_For f t' u a h ∙
+    sym (ap (λ y. past_item y h) e)) c.write_for.ensures.place
 
 pub write_item-returns-in_ok-after-in-For-clause-items : goal.write_item-returns-in_ok-after-in-For-clause-items
 write_item-returns-in_ok-after-in-For-clause-items t c =
@@ -602,8 +632,10 @@ write_item-returns-in_ok-after-in-For-clause-items t c =
     let k = c.args.here.construct in
     let g = here_of c.in_ok-after-in-For.after in
     let y = flat p (entered_of h) b d NoArrival f in
-    on_ok_weaker c.write_for.result (λ q. q ∙ ap (λ z. join z (for_form p k g r t' u a)) c.in_ok-after-in-For.ensures.items ∙ joined out y (for_form p k g r t' u a)
-    ∙ ap (λ w. join out (join y (for_form p k w r t' u a))) c.in_ok-after-in-For.ensures.place ∙ sym (ap (λ y. join out (flat_item p h b d r y)) e)) c.write_for.ensures.items
+    on_ok_weaker c.write_for.result (λ q. q ∙ ap (λ z. join z (for_form p k g r t' u a)) c.in_ok-after-in-For.ensures.items ∙
+    joined out y (for_form p k g r t' u a)
+    ∙ ap (λ w. join out (join y (for_form p k w r t' u a))) c.in_ok-after-in-For.ensures.place ∙ sym (ap (λ y. join out (flat_item p h b d r y)) e))
+    c.write_for.ensures.items
 
 pub write_item-returns-in_ok-second-in-If-clause-place : goal.write_item-returns-in_ok-second-in-If-clause-place
 write_item-returns-in_ok-second-in-If-clause-place t c =
@@ -613,7 +645,8 @@ write_item-returns-in_ok-second-in-If-clause-place t c =
     let t' = test_tree c.in-If.test in
     let a = trees_of c.in-If.a in
     let f = trees_of c.in-If.b in
-    IfOk-weaker c.join_if.result _ _ (λ it q. ap here_of q ∙ c.in_ok-second-in-If.ensures.place ∙ ap (past f) c.in_ok-first-in-If.ensures.place ∙ past_If t' a f h ∙ sym (ap (λ y. past_item y h) e)) c.join_if.ensures.place
+    IfOk-weaker c.join_if.result _ _ (λ it q. ap here_of q ∙ c.in_ok-second-in-If.ensures.place ∙ ap (past f) c.in_ok-first-in-If.ensures.place ∙
+    past_If t' a f h ∙ sym (ap (λ y. past_item y h) e)) c.join_if.ensures.place
 
 pub write_item-returns-in_ok-second-in-If-clause-items : goal.write_item-returns-in_ok-second-in-If-clause-items
 write_item-returns-in_ok-second-in-If-clause-items t c =
@@ -627,6 +660,8 @@ write_item-returns-in_ok-second-in-If-clause-items t c =
     let t' = test_tree c.in-If.test in
     let a = trees_of c.in-If.a in
     let f = trees_of c.in-If.b in
-    on_ok_weaker c.join_if.result (λ q. q ∙ ap (λ z. join out (one (Plain.If t' z (trees_of c.in_ok-second-in-If.second.items)))) c.in_ok-first-in-If.ensures.items
-    ∙ ap (λ z. join out (one (Plain.If t' (flat p h b d r a) z))) (c.in_ok-second-in-If.ensures.items ∙ ap (λ g. flat p g b d r f) c.in_ok-first-in-If.ensures.place)
+    on_ok_weaker c.join_if.result (λ q. q ∙ ap (λ z. join out (one (Plain.If t' z (trees_of c.in_ok-second-in-If.second.items))))
+    c.in_ok-first-in-If.ensures.items
+    ∙ ap (λ z. join out (one (Plain.If t' (flat p h b d r a) z)))
+    (c.in_ok-second-in-If.ensures.items ∙ ap (λ g. flat p g b d r f) c.in_ok-first-in-If.ensures.place)
     ∙ sym (ap (λ y. join out (flat_item p h b d r y)) e)) c.join_if.ensures.items

@@ -12,4 +12,6 @@ pub returns : goal.returns
 returns c =
     let o = out-Section c.args.section.now in
     let es = c.in_ok-cases.ensures ∙ c.as_slice.ensures.value in
-    on_ok_weaker c.push.result (λ e. ap sections_of e ∙ sections-push c.args.out.now _ ∙ ap (behind (sections_of c.args.out.now)) (section_made c.in_ok-cases.cases o.default c.args.list c.args.ends NoSection ∙ ap (λ z. Plain.Section (expression_trees z) o.default (trees_of c.args.list) c.args.ends NoSection) es)) c.push.ensures.ok
+    on_ok_weaker c.push.result (λ e. ap sections_of e ∙ sections-push c.args.out.now _ ∙
+    ap (behind (sections_of c.args.out.now)) (section_made c.in_ok-cases.cases o.default c.args.list c.args.ends NoSection ∙
+    ap (λ z. Plain.Section (expression_trees z) o.default (trees_of c.args.list) c.args.ends NoSection) es)) c.push.ensures.ok

@@ -6,4 +6,5 @@ use Rattle.flat_items.specs.Plans.{plan_of}
 use Rattle.flat_items.specs.Forms.{local_form}
 
 pub returns-in-None-clause-items : goal.returns-in-None-clause-items
-returns-in-None-clause-items c = sym (ap (λ z. join (trees_of c.args.out.now) (local_form (plan_of c.args.plan.now) c.args.slot (option_map expression_trees z))) c.in-None.is ∙ join-nil (trees_of c.args.out.now))
+returns-in-None-clause-items c = sym (ap (λ z. join (trees_of c.args.out.now)
+    (local_form (plan_of c.args.plan.now) c.args.slot (option_map expression_trees z))) c.in-None.is ∙ join-nil (trees_of c.args.out.now))

@@ -5,7 +5,8 @@ use Rattle.flat_names.specs.Gathered.{given_of}
 use Rattle.flat_names.proofs.giving.name_cases.Goals as goal
 
 pub loop-i-init : goal.loop-i-init
-loop-i-init c = let e : c.args.count - 0 ≡ c.args.count = omega arith in record { file = refl; value = ap (λ m. name_cases c.args.k 1 m (given_of c.args.used.now c.args.given.now)) e }
+loop-i-init c = let e : c.args.count - 0 ≡ c.args.count = omega arith in
+    record { file = refl; value = ap (λ m. name_cases c.args.k 1 m (given_of c.args.used.now c.args.given.now)) e }
 
 pub loop-i-preserved : goal.loop-i-preserved
 loop-i-preserved c =
@@ -14,7 +15,8 @@ loop-i-preserved c =
     let g = given_of c.loop-i.used c.loop-i.given in
     record {
       file = c.name_case.ensures.file ∙ c.loop-i.invariant.file;
-      value = ap (name_cases k (i + 1 + 1) (c.args.count - (i + 1))) c.in_ok-name_case.ensures.value ∙ sym (cases_step k i c.args.count g c.loop-i-test.true) ∙ c.loop-i.invariant.value;
+      value = ap (name_cases k (i + 1 + 1) (c.args.count - (i + 1))) c.in_ok-name_case.ensures.value ∙
+          sym (cases_step k i c.args.count g c.loop-i-test.true) ∙ c.loop-i.invariant.value;
     }
 
 pub returns-clause-value : goal.returns-clause-value

@@ -24,4 +24,5 @@ loop-i-preserved c =
     }
 
 pub returns-clause-value : goal.returns-clause-value
-returns-clause-value c = sym (labels_end c.args.labels.now c.args.made.now (all_used c.loop-i.used) c.args.codes.now c.loop-i.i c.loop-i.out c.loop-i-test.false) ∙ c.loop-i.invariant.value
+returns-clause-value c = sym (labels_end c.args.labels.now c.args.made.now (all_used c.loop-i.used) c.args.codes.now c.loop-i.i c.loop-i.out
+    c.loop-i-test.false) ∙ c.loop-i.invariant.value

@@ -10,5 +10,6 @@ invariant-loop-i l = record {
   taken_file : l.taken.file ≡ l.initial.taken.file;
   numbers : AreUsedBelow (all_used l.used) l.numbers;
   used_file : l.used.file ≡ l.initial.used.file;
-  value : before_named l.named (named_slots (l.params - l.i) (all_used l.taken) (all_used l.used) (drop l.i l.slots)) ≡ named_slots l.params (all_used l.initial.taken) (all_used l.initial.used) l.slots;
+  value : before_named l.named (named_slots (l.params - l.i) (all_used l.taken) (all_used l.used) (drop l.i l.slots)) ≡ named_slots l.params
+      (all_used l.initial.taken) (all_used l.initial.used) l.slots;
 }

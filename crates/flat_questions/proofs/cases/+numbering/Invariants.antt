@@ -5,4 +5,5 @@ use Rattle.flat_laws.specs.Parts.{arrivals, cases_among}
 use Rattle.flat_questions.proofs.cases.+numbering.Given as goal
 
 abbrev pub invariant-add_items-loop-i : goal.invariant-add_items-loop-i
-invariant-add_items-loop-i l = l.out ++ map (case_number l.kind) (cases_among (arrivals (trees_of (drop l.i l.items)))) ≡ l.initial.out ++ map (case_number l.kind) (cases_among (arrivals (trees_of l.items)))
+invariant-add_items-loop-i l = l.out ++ map (case_number l.kind) (cases_among (arrivals (trees_of (drop l.i l.items)))) ≡ l.initial.out ++
+    map (case_number l.kind) (cases_among (arrivals (trees_of l.items)))

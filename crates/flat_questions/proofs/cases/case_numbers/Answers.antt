@@ -18,7 +18,9 @@ loop-i-preserved c =
     let ms = map (case_number k) (cases_among (arrivals (trees_of o.list))) in
     collected_in (λ (d : Sections). map (case_number k) (cases_among (switch_labels d))) (numbers_in k) (numbers_more k)
     c.args.sections.now c.loop-i.i s c.loop-i-test.true c.index-sections-i.is c.loop-i.out c.add_list.new.out _ c.loop-i.invariant
-    (c.in_ok-add_list.ensures ∙ ap (λ z. z ++ ms) (c.in_ok-add_cases.ensures ∙ ap (λ z. c.loop-i.out ++ map (case_number k) (expression_trees z)) c.as_slice.ensures.value) ∙ append_assoc c.loop-i.out ns ms)
+    (c.in_ok-add_list.ensures ∙ ap (λ z. z ++ ms) (c.in_ok-add_cases.ensures ∙
+    ap (λ z. c.loop-i.out ++ map (case_number k) (expression_trees z)) c.as_slice.ensures.value) ∙ append_assoc c.loop-i.out ns ms)
 
 pub returns : goal.returns
-returns c = collected_all_in (λ (d : Sections). map (case_number c.args.kind) (cases_among (switch_labels d))) refl c.args.sections.now c.loop-i.i c.loop-i-test.false c.loop-i.out _ c.loop-i.invariant
+returns c = collected_all_in (λ (d : Sections). map (case_number c.args.kind) (cases_among (switch_labels d))) refl c.args.sections.now c.loop-i.i
+    c.loop-i-test.false c.loop-i.out _ c.loop-i.invariant

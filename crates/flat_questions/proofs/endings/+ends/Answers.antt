@@ -27,7 +27,8 @@ items_end_by-loop-k-preserved t c =
     let xs = c.args.items.now in
     let k = c.loop-k.k in
     let n = length xs in
-    goes_before live xs (n - 1 - k) (n - k) (n - (k + 1)) c.index-items-at.result (omega arith) (omega arith) (omega arith) c.index-items-at.is c.loop-k.invariant
+    goes_before live xs (n - 1 - k) (n - k) (n - (k + 1)) c.index-items-at.result (omega arith) (omega arith) (omega arith) c.index-items-at.is
+    c.loop-k.invariant
     (sym (ap is_gone c.item_ends_by-ending.ensures) ∙ sym c.is_gone.ensures ∙ c.if-not-is_gone.false)
 
 pub items_end_by-returns : goal.items_end_by-returns
@@ -44,4 +45,5 @@ pub last_ends_by-returns-else-count-eq0 : goal.last_ends_by-returns-else-count-e
 last_ends_by-returns-else-count-eq0 t c =
     let live = is_flagged c.args.named.now in
     let cs = c.args.sections.now in
-    c.ends_by.ensures ∙ ap (λ z. ending live (trees_of (list_of z))) (sym c.index-sections-at.is) ∙ sym (last_at live cs (length cs - 1) c.index-sections-at.result (omega arith) c.index-sections-at.is)
+    c.ends_by.ensures ∙ ap (λ z. ending live (trees_of (list_of z))) (sym c.index-sections-at.is) ∙
+    sym (last_at live cs (length cs - 1) c.index-sections-at.result (omega arith) c.index-sections-at.is)

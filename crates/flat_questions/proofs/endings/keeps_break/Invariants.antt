@@ -5,4 +5,5 @@ use Rattle.flat_questions.specs.Reading.{is_flagged}
 use Rattle.flat_questions.proofs.endings.keeps_break.Given as goal
 
 abbrev pub invariant-loop-i : goal.invariant-loop-i
-invariant-loop-i l = (λ (d : Sections). is_some_number (kept_breaks (is_flagged l.named) d)) (sections_of l.sections) ≡ (λ (d : Sections). is_some_number (kept_breaks (is_flagged l.named) d)) (sections_of (drop l.i l.sections))
+invariant-loop-i l = (λ (d : Sections). is_some_number (kept_breaks (is_flagged l.named) d))
+    (sections_of l.sections) ≡ (λ (d : Sections). is_some_number (kept_breaks (is_flagged l.named) d)) (sections_of (drop l.i l.sections))

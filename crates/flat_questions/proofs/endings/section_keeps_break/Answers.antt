@@ -11,4 +11,5 @@ returns-in-Breaks c =
     let live = is_flagged c.args.named.now in
     let a = trees_of c.args.list.now in
     let h = sym c.ends_by.ensures ∙ ap ending_as c.in-Breaks.is in
-    two_or_one c.count_breaks.result (breaks a) (breaks (trimmed live a)) c.count_breaks.ensures (one_break_more live a h) ∙ sym (ap (λ e. is_some_number (breaks (section_list live a e))) h)
+    two_or_one c.count_breaks.result (breaks a) (breaks (trimmed live a)) c.count_breaks.ensures (one_break_more live a h) ∙
+    sym (ap (λ e. is_some_number (breaks (section_list live a e))) h)

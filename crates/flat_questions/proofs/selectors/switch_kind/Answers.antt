@@ -7,4 +7,5 @@ use Rattle.flat_questions.proofs.selectors.switch_kind.Goals as goal
 
 pub returns : goal.returns
 returns c =
-    c.promote.ensures ∙ ap promoted c.kind_or_int.ensures ∙ ap (λ k. promoted (operand_kind k)) (sym (ap kind_of (expression-parts c.selector_source.result.now)) ∙ ap kind_of c.selector_source.ensures)
+    c.promote.ensures ∙ ap promoted c.kind_or_int.ensures ∙ ap (λ k. promoted (operand_kind k))
+    (sym (ap kind_of (expression-parts c.selector_source.result.now)) ∙ ap kind_of c.selector_source.ensures)

@@ -17,12 +17,14 @@ pub lift_items-done-requires : goal.lift_items-done-requires
 lift_items-done-requires c =
     let f = c.args.found in
     let items = c.into_vec-items.result in
-    let within = leap_within f.label c.args.leap f.place c.args.steps.now c.args.body.now items.items c.requires (c.replace_at-list.ensures.taken ∙ ap Some (sym c.into_vec-items.ensures.items)) in
+    let within = leap_within f.label c.args.leap f.place c.args.steps.now c.args.body.now items.items c.requires
+    (c.replace_at-list.ensures.taken ∙ ap Some (sym c.into_vec-items.ensures.items)) in
     record { order = c.requires.earlier; in_bounds = omega (arith, items.ok.0); bound = c.into_vec-items.ensures.bound }
 
 pub replace_at-empty-requires : goal.replace_at-empty-requires
 replace_at-empty-requires c =
-    let there = still_there c.args.body.now c.replace_at-list.new.list c.args.steps.now c.replace_at-list.result c.new.result c.replace_at-list.ensures.taken c.replace_at-list.ensures.put in
+    let there = still_there c.args.body.now c.replace_at-list.new.list c.args.steps.now c.replace_at-list.result c.new.result
+    c.replace_at-list.ensures.taken c.replace_at-list.ensures.put in
     rw there (search rules)
 
 pub returns-clause-ok : goal.returns-clause-ok
@@ -38,6 +40,7 @@ returns-clause-ok c =
 
 pub returns-clause-err : goal.returns-clause-err
 returns-clause-err c =
-    on_err_weaker _ (λ h. put_unchanged c.args.body.now c.replace_at-list.new.list c.replace_at-empty.new.list c.args.steps.now c.replace_at-list.result c.new.result c.from_vec.result
+    on_err_weaker _ (λ h. put_unchanged c.args.body.now c.replace_at-list.new.list c.replace_at-empty.new.list c.args.steps.now
+    c.replace_at-list.result c.new.result c.from_vec.result
     c.replace_at-list.ensures.taken c.replace_at-list.ensures.put c.replace_at-empty.ensures.put (c.from_vec.ensures ∙ h ∙ c.into_vec-items.ensures.items))
     c.lift_items-done.ensures.err

@@ -22,4 +22,5 @@ pub returns : goal.returns
 returns c =
     let f = number_at c.args.places.now in
     let o = trees_of c.loop-item.out in
-    renumbered_end f o _ (sym (ap (λ z. join o (renumbered f (trees_of z))) (emptied c.loop-item.item-iterator c.in-None.ensures.steps.0)) ∙ c.loop-item.invariant)
+    renumbered_end f o _ (sym (ap (λ z. join o (renumbered f (trees_of z))) (emptied c.loop-item.item-iterator c.in-None.ensures.steps.0)) ∙
+    c.loop-item.invariant)

@@ -6,4 +6,5 @@ use Rattle.goto_lowering.specs.Renumbered.{renumbered}
 use Rattle.goto_lowering.proofs.bodies.add_renumbered.Given as goal
 
 abbrev pub invariant-loop-item : goal.invariant-loop-item
-invariant-loop-item l = join (trees_of l.out) (renumbered (number_at l.places) (trees_of (into_iter_items l.item-iterator))) ≡ join (trees_of l.initial.out) (renumbered (number_at l.places) (trees_of l.fn.items))
+invariant-loop-item l = join (trees_of l.out) (renumbered (number_at l.places) (trees_of (into_iter_items l.item-iterator))) ≡ join
+    (trees_of l.initial.out) (renumbered (number_at l.places) (trees_of l.fn.items))

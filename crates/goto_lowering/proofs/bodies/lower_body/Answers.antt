@@ -22,7 +22,8 @@ returns-clause-codes c =
     let p = c.args.plan.now in
     let a = trees_of c.args.body in
     let at = λ (l : Layout) (v : ℕ). lowered l (first_here v) Stays Stays NoArrival a in
-    c.in_ok-codes.ensures ∙ ap marks (c.in_ok-made.ensures.items ∙ ap (λ l. at l c.len-slots.result) (layout_is p a c.requires) ∙ ap (at (coded constant p.slots a)) c.len-slots.ensures.value)
+    c.in_ok-codes.ensures ∙ ap marks (c.in_ok-made.ensures.items ∙ ap (λ l. at l c.len-slots.result) (layout_is p a c.requires) ∙
+    ap (at (coded constant p.slots a)) c.len-slots.ensures.value)
 
 pub returns-clause-items : goal.returns-clause-items
 returns-clause-items c =
@@ -42,4 +43,6 @@ returns-clause-items c =
     ∙ ap (λ z. join (trees_of c.declare.new.out) (renumbered z (trees_of c.in_ok-made.made.items))) same
     ∙ ap (λ z. join (trees_of c.declare.new.out) (renumbered (place_in ls) z)) list
     ∙ ap (join (trees_of c.declare.new.out)) (placed_is ls k (first_here n) a)
-    ∙ ap (λ z. join z (at (placed ls k) n)) (c.in_ok-declare.ensures ∙ ap (λ z. join z (declarations c.args.params c.declared_count.result)) (ap trees_of c.new-out.ensures ∙ trees-none) ∙ ap (declarations c.args.params) count)
+    ∙ ap (λ z. join z (at (placed ls k) n)) (c.in_ok-declare.ensures ∙
+    ap (λ z. join z (declarations c.args.params c.declared_count.result)) (ap trees_of c.new-out.ensures ∙ trees-none) ∙
+    ap (declarations c.args.params) count)

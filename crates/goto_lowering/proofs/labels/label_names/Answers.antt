@@ -6,4 +6,5 @@ use Rattle.goto_lowering.proofs.Steps.{labels_step, labels_end, next_less}
 use Rattle.goto_lowering.proofs.labels.label_names.Goals as goal
 
 pub returns-clause-value : goal.returns-clause-value
-returns-clause-value c = sym (labels_end c.args.labels.now (all_used c.loop-i.used) c.loop-i.next c.args.codes.now c.loop-i.i c.loop-i.out c.loop-i-test.false) ∙ c.loop-i.invariant.value
+returns-clause-value c = sym (labels_end c.args.labels.now (all_used c.loop-i.used) c.loop-i.next c.args.codes.now c.loop-i.i c.loop-i.out
+    c.loop-i-test.false) ∙ c.loop-i.invariant.value

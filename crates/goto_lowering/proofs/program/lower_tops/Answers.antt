@@ -19,4 +19,5 @@ loop-top-preserved c =
     }
 
 pub returns-clause-tops : goal.returns-clause-tops
-returns-clause-tops c = λ all file g. awaits_end all file c.args.tops c.loop-top.out.tops (subst (Awaits all file c.args.tops c.loop-top.out.tops) (emptied c.loop-top.top-iterator c.in-None.ensures.steps.0) (c.loop-top.invariant.tops all file g))
+returns-clause-tops c = λ all file g. awaits_end all file c.args.tops c.loop-top.out.tops
+    (subst (Awaits all file c.args.tops c.loop-top.out.tops) (emptied c.loop-top.top-iterator c.in-None.ensures.steps.0) (c.loop-top.invariant.tops all file g))

@@ -11,4 +11,5 @@ set-requires c = lone_long c.args.list c.in-Some.label (sym (c.lone_goto.ensures
 pub returns-in_ok-label-in-Some : goal.returns-in_ok-label-in-Some
 returns-in_ok-label-in-Some c =
     ap trees_of c.set.ensures
-    ∙ set_lone (number_at c.args.places.now) c.args.list c.in-Some.label c.in_ok-label-in-Some.label (sym (c.lone_goto.ensures ∙ ap (λ z. lone_goto (trees_of z)) c.as_slice.ensures.value) ∙ c.in-Some.is) c.in_ok-label-in-Some.ensures
+    ∙ set_lone (number_at c.args.places.now) c.args.list c.in-Some.label c.in_ok-label-in-Some.label
+    (sym (c.lone_goto.ensures ∙ ap (λ z. lone_goto (trees_of z)) c.as_slice.ensures.value) ∙ c.in-Some.is) c.in_ok-label-in-Some.ensures

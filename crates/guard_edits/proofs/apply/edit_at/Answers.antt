@@ -10,15 +10,18 @@ replace_at-list-requires c = rw c.as_slice-steps.ensures.value (list_there c.arg
 
 pub edit-done-requires-clause-within : goal.edit-done-requires-clause-within
 edit-done-requires-clause-within c =
-    within_list c.args.body.now c.replace_at-list.result c.args.choice.now c.requires.applies (ap (list_at c.args.body.now) (sym c.as_slice-steps.ensures.value) ∙ c.replace_at-list.ensures.taken)
+    within_list c.args.body.now c.replace_at-list.result c.args.choice.now c.requires.applies
+    (ap (list_at c.args.body.now) (sym c.as_slice-steps.ensures.value) ∙ c.replace_at-list.ensures.taken)
 
 pub replace_at-empty-requires : goal.replace_at-empty-requires
 replace_at-empty-requires c =
-    let there = still_there c.args.body.now c.replace_at-list.new.list c.as_slice-steps.result.now c.replace_at-list.result c.new.result c.replace_at-list.ensures.taken c.replace_at-list.ensures.put in
+    let there = still_there c.args.body.now c.replace_at-list.new.list c.as_slice-steps.result.now c.replace_at-list.result c.new.result
+    c.replace_at-list.ensures.taken c.replace_at-list.ensures.put in
     rw there (search rules)
 
 pub edit-done-requires-clause-may : goal.edit-done-requires-clause-may
-edit-done-requires-clause-may c = may_edit c.args.body.now c.replace_at-list.result c.args.choice.now c.requires.applies c.requires.not_guard (ap (list_at c.args.body.now) (sym c.as_slice-steps.ensures.value) ∙ c.replace_at-list.ensures.taken)
+edit-done-requires-clause-may c = may_edit c.args.body.now c.replace_at-list.result c.args.choice.now c.requires.applies c.requires.not_guard
+    (ap (list_at c.args.body.now) (sym c.as_slice-steps.ensures.value) ∙ c.replace_at-list.ensures.taken)
 
 pub returns-clause-ok : goal.returns-clause-ok
 returns-clause-ok c =

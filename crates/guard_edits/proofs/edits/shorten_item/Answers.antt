@@ -10,5 +10,6 @@ pub returns-in-None-clause-ok : goal.returns-in-None-clause-ok
 returns-in-None-clause-ok c =
     let x = c.index-as_slice-at.result in
     none_shortened c.args.list.now c.args.at x
-    (ap (λ z. slice_get z c.args.at) (sym c.as_slice.ensures.value) ∙ slice_get_read c.as_slice.result.now _ c.args.at x refl (rw c.as_slice.ensures.value c.requires) c.index-as_slice-at.is)
+    (ap (λ z. slice_get z c.args.at) (sym c.as_slice.ensures.value) ∙ slice_get_read c.as_slice.result.now _ c.args.at x refl
+    (rw c.as_slice.ensures.value c.requires) c.index-as_slice-at.is)
     (not_short x (sym c.in_ok-found.ensures ∙ c.in-None.is))

@@ -8,4 +8,5 @@ returns c =
     let p = c.if_parts-test.result in
     let q = c.if_parts-other.result in
     subst (λ z. IsJoined c.args.item.now c.args.next z) (sym c.replace-2.ensures.after)
-    (join_is c.args.item.now c.args.next p.0 q.0 p.1 p.2 q.1 q.2 c.both.result (sym c.replace.ensures.value ∙ c.if_parts-test.ensures) c.if_parts-other.ensures c.both.ensures)
+    (join_is c.args.item.now c.args.next p.0 q.0 p.1 p.2 q.1 q.2 c.both.result (sym c.replace.ensures.value ∙ c.if_parts-test.ensures)
+    c.if_parts-other.ensures c.both.ensures)

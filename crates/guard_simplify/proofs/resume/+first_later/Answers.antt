@@ -15,5 +15,7 @@ returns-in_ok-found-in-len1-up t c =
     let x = c.in-Some.item.now in
     let a = c.in-Some-child.inner.now in
     let xs = c.args.list.now in
-    IfOk-weaker c.first_found.result _ _ (λ r e. e ∙ ap (λ o. else_first (option_map (under_one s.item s.branch) o) (first (after bar xs x s))) c.in_ok-found-in-len1-up.ensures
-    ∙ stepped_from bar xs c.args.steps.now d c.args.place x a c.in-len1-up.len_at_least (sym c.in-Some.ensures.value) (sym c.in-Some-child.ensures)) c.first_found.ensures
+    IfOk-weaker c.first_found.result _ _ (λ r e. e ∙ ap (λ o. else_first (option_map (under_one s.item s.branch) o) (first (after bar xs x s)))
+    c.in_ok-found-in-len1-up.ensures
+    ∙ stepped_from bar xs c.args.steps.now d c.args.place x a c.in-len1-up.len_at_least (sym c.in-Some.ensures.value) (sym c.in-Some-child.ensures))
+    c.first_found.ensures

@@ -9,8 +9,10 @@ use Rattle.guard_vars.proofs.names.guard_names.Goals as goal
 pub returns-clause-value : goal.returns-clause-value
 returns-clause-value c =
     let f = c.args.function.now in
-    IfOk-weaker c.guard_names_beside.result (λ (it : List (List ℕ)). it ≡ guard_names_beside c.in_ok-used.used.file f) (λ (it : List (List ℕ)). it ≡ guard_names c.args.names.now f)
-    (λ it h. h ∙ ap (λ (u : List (List ℕ)). guard_names_beside u f) c.in_ok-used.ensures.file ∙ ap (λ (ns : List (List ℕ)). guard_names ns f) c.as_slice.ensures.value)
+    IfOk-weaker c.guard_names_beside.result (λ (it : List (List ℕ)). it ≡ guard_names_beside c.in_ok-used.used.file f)
+    (λ (it : List (List ℕ)). it ≡ guard_names c.args.names.now f)
+    (λ it h. h ∙ ap (λ (u : List (List ℕ)). guard_names_beside u f) c.in_ok-used.ensures.file ∙
+    ap (λ (ns : List (List ℕ)). guard_names ns f) c.as_slice.ensures.value)
     c.guard_names_beside.ensures.value
 
 pub returns-clause-new_names : goal.returns-clause-new_names

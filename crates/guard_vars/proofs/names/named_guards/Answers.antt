@@ -27,5 +27,6 @@ loop-i-preserved c =
           guards_step used more c.loop-i.out c.push.new.self _ c.args.labels.now c.loop-i.i c.index-labels-i.result c.in_ok-name.name
           c.loop-i-test.true c.index-labels-i.is c.in_ok-name.ensures.value added pushed c.loop-i.invariant.value;
       same = used_step _ used more c.loop-i.out c.push.new.self c.in_ok-name.name added pushed c.loop-i.invariant.same;
-      new_names = new_step _ used c.loop-i.out c.push.new.self c.in_ok-name.name c.in_ok-name.ensures.unused pushed c.loop-i.invariant.same c.loop-i.invariant.new_names;
+      new_names = new_step _ used c.loop-i.out c.push.new.self c.in_ok-name.name c.in_ok-name.ensures.unused pushed c.loop-i.invariant.same
+          c.loop-i.invariant.new_names;
     }

@@ -12,5 +12,6 @@ returns-clause-own c =
     c.in_ok-add_slots.ensures ∙ ap (λ (k : List (List ℕ)). with_names k (slots_names c.as_slice.result.now)) c.forget_own.ensures.own
     ∙ ap (λ (ss : List Slot). with_names [] (slots_names ss)) c.as_slice.ensures.value in
     on_ok_weaker c.add_names.result
-    (λ h. then_names [] c.add_slots.new.set c.add_names.new.set (slots_names f.slots) f.labels slots (h ∙ ap (with_names c.add_slots.new.set) c.as_slice-2.ensures.value))
+    (λ h. then_names [] c.add_slots.new.set c.add_names.new.set (slots_names f.slots) f.labels slots
+    (h ∙ ap (with_names c.add_slots.new.set) c.as_slice-2.ensures.value))
     c.add_names.ensures

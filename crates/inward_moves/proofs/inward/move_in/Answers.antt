@@ -20,7 +20,8 @@ returns-clause-ok c =
       moves = record {
         applies = c.in_ok-way.ensures;
         body = c.in_ok-move_in_in.ensures.ok ∙ ap (λ s. moved_in_at w.label w.number at.item w.place w.branch s old) c.as_slice-steps.ensures.value;
-        path = path_is old at w.label w.number w.place w.branch c.place_after.result c.as_slice-steps.result.now c.in_ok-to.to c.in_ok-way.ensures c.place_after.ensures c.as_slice-steps.ensures.value c.in_ok-to.ensures;
+        path = path_is old at w.label w.number w.place w.branch c.place_after.result c.as_slice-steps.result.now c.in_ok-to.to c.in_ok-way.ensures
+            c.place_after.ensures c.as_slice-steps.ensures.value c.in_ok-to.ensures;
       };
     }
 
@@ -34,7 +35,8 @@ returns-clause-well_made c =
     (moves_in_changed w.label w.number at.item w.place w.branch at.steps old new c.in_ok-to.to (record {
       applies = c.in_ok-way.ensures;
       body = c.in_ok-move_in_in.ensures.ok ∙ ap (λ s. moved_in_at w.label w.number at.item w.place w.branch s old) c.as_slice-steps.ensures.value;
-      path = path_is old at w.label w.number w.place w.branch c.place_after.result c.as_slice-steps.result.now c.in_ok-to.to c.in_ok-way.ensures c.place_after.ensures c.as_slice-steps.ensures.value c.in_ok-to.ensures;
+      path = path_is old at w.label w.number w.place w.branch c.place_after.result c.as_slice-steps.result.now c.in_ok-to.to c.in_ok-way.ensures
+          c.place_after.ensures c.as_slice-steps.ensures.value c.in_ok-to.ensures;
     }))
     c.requires.well_made
 
@@ -47,6 +49,7 @@ returns-clause-behaviour c =
     behaviour_laws.moves_in w.label w.number at.item w.place w.branch at.steps old new c.in_ok-to.to (record {
       applies = c.in_ok-way.ensures;
       body = c.in_ok-move_in_in.ensures.ok ∙ ap (λ s. moved_in_at w.label w.number at.item w.place w.branch s old) c.as_slice-steps.ensures.value;
-      path = path_is old at w.label w.number w.place w.branch c.place_after.result c.as_slice-steps.result.now c.in_ok-to.to c.in_ok-way.ensures c.place_after.ensures c.as_slice-steps.ensures.value c.in_ok-to.ensures;
+      path = path_is old at w.label w.number w.place w.branch c.place_after.result c.as_slice-steps.result.now c.in_ok-to.to c.in_ok-way.ensures
+          c.place_after.ensures c.as_slice-steps.ensures.value c.in_ok-to.ensures;
     })
     c.requires.well_made

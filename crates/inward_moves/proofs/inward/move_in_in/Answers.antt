@@ -14,7 +14,8 @@ move_in_items-done-requires-clause-list c =
 
 pub replace_at-empty-requires : goal.replace_at-empty-requires
 replace_at-empty-requires c =
-    let there = still_there c.args.body.now c.replace_at-list.new.list c.args.steps.now c.replace_at-list.result c.new.result c.replace_at-list.ensures.taken c.replace_at-list.ensures.put in
+    let there = still_there c.args.body.now c.replace_at-list.new.list c.args.steps.now c.replace_at-list.result c.new.result
+    c.replace_at-list.ensures.taken c.replace_at-list.ensures.put in
     rw there (search rules)
 
 pub returns-clause-ok : goal.returns-clause-ok
@@ -25,5 +26,6 @@ returns-clause-ok c =
     let e = put_changed body c.replace_at-list.new.list c.replace_at-empty.new.list steps c.replace_at-list.result c.new.result c.from_vec.result
     c.replace_at-list.ensures.taken c.replace_at-list.ensures.put c.replace_at-empty.ensures.put in
     on_ok_weaker _ (λ h. e ∙ ap (put_at body steps) (c.from_vec.ensures ∙ h
-    ∙ ap (moved_in w.label w.number c.args.leap w.place w.branch) (c.into_vec-items.ensures.items ∙ sym (ap (λ o. unwrap_or o []) c.replace_at-list.ensures.taken))))
+    ∙ ap (moved_in w.label w.number c.args.leap w.place w.branch)
+    (c.into_vec-items.ensures.items ∙ sym (ap (λ o. unwrap_or o []) c.replace_at-list.ensures.taken))))
     c.move_in_items-done.ensures.ok

@@ -13,7 +13,8 @@ enter_at-requires-clause-branch c =
     let x = c.index.result.now in
     let e = item_read old w.place x (HasBranch w.branch) c.requires.branch c.index.ensures in
     let spot = c.place_after-after.ensures ∙ spot-is w.label i w.place old c.requires.order (slice_get_within old w.place x e) in
-    let there = ap (λ a. slice_get a c.place_after-after.result) c.in_ok-guard_between.ensures.ok ∙ item_there w.label i w.place old x c.requires.order e c.place_after-after.result spot in
+    let there = ap (λ a. slice_get a c.place_after-after.result) c.in_ok-guard_between.ensures.ok ∙
+    item_there w.label i w.place old x c.requires.order e c.place_after-after.result spot in
     rw there (subst (Holds (HasBranch w.branch)) e c.requires.branch)
 
 pub enter_at-requires-clause-room : goal.enter_at-requires-clause-room
@@ -24,7 +25,8 @@ enter_at-requires-clause-room c =
     let x = c.index.result.now in
     let e = item_read old w.place x (HasBranch w.branch) c.requires.branch c.index.ensures in
     let spot = c.place_after-after.ensures ∙ spot-is w.label i w.place old c.requires.order (slice_get_within old w.place x e) in
-    let there = ap (λ a. slice_get a c.place_after-after.result) c.in_ok-guard_between.ensures.ok ∙ item_there w.label i w.place old x c.requires.order e c.place_after-after.result spot in
+    let there = ap (λ a. slice_get a c.place_after-after.result) c.in_ok-guard_between.ensures.ok ∙
+    item_there w.label i w.place old x c.requires.order e c.place_after-after.result spot in
     rw there c.in_ok-spare.ensures.room
 
 pub enter_at-requires-clause-bound : goal.enter_at-requires-clause-bound
@@ -35,7 +37,8 @@ enter_at-requires-clause-bound c =
     let x = c.index.result.now in
     let e = item_read old w.place x (HasBranch w.branch) c.requires.branch c.index.ensures in
     let spot = c.place_after-after.ensures ∙ spot-is w.label i w.place old c.requires.order (slice_get_within old w.place x e) in
-    let there = ap (λ a. slice_get a c.place_after-after.result) c.in_ok-guard_between.ensures.ok ∙ item_there w.label i w.place old x c.requires.order e c.place_after-after.result spot in
+    let there = ap (λ a. slice_get a c.place_after-after.result) c.in_ok-guard_between.ensures.ok ∙
+    item_there w.label i w.place old x c.requires.order e c.place_after-after.result spot in
     rw there c.in_ok-spare.ensures.bound
 
 pub returns-clause-ok : goal.returns-clause-ok
@@ -46,5 +49,6 @@ returns-clause-ok c =
     let x = c.index.result.now in
     let e = item_read old w.place x (HasBranch w.branch) c.requires.branch c.index.ensures in
     let spot = c.place_after-after.ensures ∙ spot-is w.label i w.place old c.requires.order (slice_get_within old w.place x e) in
-    moved_in-is w.label i w.place old x c.requires.order e w.number w.branch c.place_after-after.result c.guard_between.new.items.items c.enter_at.new.items.items
+    moved_in-is w.label i w.place old x c.requires.order e w.number w.branch c.place_after-after.result c.guard_between.new.items.items
+    c.enter_at.new.items.items
     spot c.in_ok-guard_between.ensures.ok c.enter_at.ensures.items

@@ -11,7 +11,8 @@ use Rattle.inward_moves.proofs.inward.way_at.Goals as goal
 pub unreachable-requires-in_default-target_after : goal.unreachable-requires-in_default-target_after
 unreachable-requires-in_default-target_after c =
     no_target c.args.body.now c.args.at.now c.requires c.in-Some.label c.as_slice-items.result.now c.in-Some.ensures
-    (ap Some c.as_slice-items.ensures.value ∙ c.in-Some-find_list.ensures ∙ ap (list_at c.args.body.now) c.as_slice.ensures.value) c.in_default-target_after.ensures.none
+    (ap Some c.as_slice-items.ensures.value ∙ c.in-Some-find_list.ensures ∙ ap (list_at c.args.body.now) c.as_slice.ensures.value)
+    c.in_default-target_after.ensures.none
 
 pub bounds-items-target : goal.bounds-items-target
 bounds-items-target c =
@@ -45,6 +46,7 @@ returns c =
     let same : to_z w128 (of_z w128 n) ≡ n = search rules in
     rw same
     (goes_in c.args.body.now c.args.at.now c.requires c.in-Some.label n items t.place t.branch x c.in-Some.ensures
-    (ap Some c.as_slice-items.ensures.value ∙ c.in-Some-find_list.ensures ∙ ap (list_at c.args.body.now) c.as_slice.ensures.value) c.in-Some-target_after.ensures.after
+    (ap Some c.as_slice-items.ensures.value ∙ c.in-Some-find_list.ensures ∙ ap (list_at c.args.body.now) c.as_slice.ensures.value)
+    c.in-Some-target_after.ensures.after
     c.in-Some-target_after.ensures.leads
     (item_read items t.place x (LeadsTo c.in-Some.label t.branch) c.in-Some-target_after.ensures.leads c.index-items-target.is) c.in_ok-number.ensures)

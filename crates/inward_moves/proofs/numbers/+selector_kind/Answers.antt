@@ -11,4 +11,5 @@ pub returns-in-None : goal.returns-in-None
 returns-in-None t c = let e = ap (λ s. selector_kind (selector_tree s)) c.in-Source.is ∙ kind-Source c.in-Source.e in rw e (search rules)
 
 pub returns-in-Pick : goal.returns-in-Pick
-returns-in-Pick t c = let e = ap (λ s. selector_kind (selector_tree s)) c.in-Pick.is ∙ kind-Pick c.in-Pick.field-0 c.in-Pick.field-1 c.in-Pick.rest in rw e (search rules)
+returns-in-Pick t c = let e = ap (λ s. selector_kind (selector_tree s)) c.in-Pick.is ∙ kind-Pick c.in-Pick.field-0 c.in-Pick.field-1 c.in-Pick.rest in
+    rw e (search rules)

@@ -11,7 +11,8 @@ loop-section-preserved c =
     let i = c.loop-section.section-index in
     let s = c.section-item.result in
     let rest = case_numbers k (sections_of (drop (i + 1) cs)) in
-    ap (λ a. a ++ rest) (c.in_ok-add_numbers.ensures ∙ ap (λ es. c.loop-section.numbers.items ++ map (case_number k) (expression_trees es)) c.as_slice.ensures.value)
+    ap (λ a. a ++ rest) (c.in_ok-add_numbers.ensures ∙ ap (λ es. c.loop-section.numbers.items ++ map (case_number k) (expression_trees es))
+    c.as_slice.ensures.value)
     ∙ append_assoc c.loop-section.numbers.items (map (case_number k) (expression_trees s.cases)) rest
     ∙ ap (λ a. c.loop-section.numbers.items ++ a) (sym (numbers-more k cs i s c.loop-section-test.true c.section-item.is))
     ∙ c.loop-section.invariant

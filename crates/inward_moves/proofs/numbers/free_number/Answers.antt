@@ -12,14 +12,16 @@ pub returns-then-not-contains : goal.returns-then-not-contains
 returns-then-not-contains c =
     let m = c.loop-m.m in
     let xs = c.in_ok-numbers.numbers.items in
-    free_is c.in_ok-taken.taken xs m _ (small m c.len-end.result c.len-end.type_inv c.loop-m-test.true) (rw c.as_slice.ensures.value at c.in_ok-taken.ensures) c.loop-m.invariant
+    free_is c.in_ok-taken.taken xs m _ (small m c.len-end.result c.len-end.type_inv c.loop-m-test.true)
+    (rw c.as_slice.ensures.value at c.in_ok-taken.ensures) c.loop-m.invariant
     c.args.kind _ c.in_ok-numbers.ensures (sym c.contains.ensures ∙ c.if-not-contains.true)
 
 pub loop-m-preserved : goal.loop-m-preserved
 loop-m-preserved c =
     let m = c.loop-m.m in
     let xs = c.in_ok-numbers.numbers.items in
-    taken_more c.in_ok-taken.taken xs m _ (small m c.len-end.result c.len-end.type_inv c.loop-m-test.true) (rw c.as_slice.ensures.value at c.in_ok-taken.ensures) c.loop-m.invariant
+    taken_more c.in_ok-taken.taken xs m _ (small m c.len-end.result c.len-end.type_inv c.loop-m-test.true)
+    (rw c.as_slice.ensures.value at c.in_ok-taken.ensures) c.loop-m.invariant
     (sym c.contains.ensures ∙ c.if-not-contains.false)
 
 pub unreachable-requires : goal.unreachable-requires
@@ -30,6 +32,7 @@ unreachable-requires c =
       | else-loop-m-test w ↦ not_all_taken m xs (let l = c.len-end.ensures in let h = w.loop-m-test in omega arith) c.loop-m.invariant
       | then-loop-m-test+else-not-contains+else-m-end w ↦
           not_all_taken (m + 1) xs (let l = c.len-end.ensures in let h = w.loop-m-test in omega arith)
-          (taken_more c.in_ok-taken.taken xs m _ (small m c.len-end.result c.len-end.type_inv c.loop-m.auto.m-end) (rw c.as_slice.ensures.value at c.in_ok-taken.ensures) c.loop-m.invariant
+          (taken_more c.in_ok-taken.taken xs m _ (small m c.len-end.result c.len-end.type_inv c.loop-m.auto.m-end)
+          (rw c.as_slice.ensures.value at c.in_ok-taken.ensures) c.loop-m.invariant
           (sym w.contains.ensures ∙ w.if-not-contains.false))
     ]

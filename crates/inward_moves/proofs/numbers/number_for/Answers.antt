@@ -9,7 +9,8 @@ pub switch_number-requires-clause-kind : goal.switch_number-requires-clause-kind
 switch_number-requires-clause-kind c = subst HasSelectorKind (ap tree_of c.in-Switch.is ∙ tree-Switch c.in-Switch.selector c.in-Switch.sections) c.requires.kind
 
 pub switch_number-requires-clause-cases : goal.switch_number-requires-clause-cases
-switch_number-requires-clause-cases c = rw c.as_slice.ensures.value (subst HasCases (ap tree_of c.in-Switch.is ∙ tree-Switch c.in-Switch.selector c.in-Switch.sections) c.requires.cases)
+switch_number-requires-clause-cases c = rw c.as_slice.ensures.value
+    (subst HasCases (ap tree_of c.in-Switch.is ∙ tree-Switch c.in-Switch.selector c.in-Switch.sections) c.requires.cases)
 
 pub returns-in-Switch : goal.returns-in-Switch
 returns-in-Switch c =

@@ -18,4 +18,5 @@ loop-number-preserved c = λ n.
     ∙ sym (list_any_more (same n) xs i None c.loop-number-test.true)
 
 pub returns : goal.returns
-returns c = λ n. set_is _ n c.args.numbers.now (c.loop-number.invariant n ∙ ap (list_any (same n)) (take_all c.loop-number.number-index c.args.numbers.now c.loop-number-test.false))
+returns c = λ n. set_is _ n c.args.numbers.now (c.loop-number.invariant n ∙
+    ap (list_any (same n)) (take_all c.loop-number.number-index c.args.numbers.now c.loop-number-test.false))

@@ -7,7 +7,8 @@ use Rattle.label_offsets.proofs.first.+find.Goals as goal
 pub first_of-returns-in-Some : goal.first_of-returns-in-Some
 first_of-returns-in-Some t c =
     sym (ap first (ap (λ x. leaps_of x c.args.at) c.in-If.is ∙ leaps-If c.in-If.field-0 c.in-If.a c.in-If.b c.args.at)
-    ∙ first_some (under c.args.at B.Then (leaps_from 0 c.in-If.a)) (under c.args.at B.Else (leaps_from 0 c.in-If.b)) c.in-Some.path (sym c.in_ok-path-in-If.ensures ∙ c.in-Some.is))
+    ∙ first_some (under c.args.at B.Then (leaps_from 0 c.in-If.a)) (under c.args.at B.Else (leaps_from 0 c.in-If.b)) c.in-Some.path
+    (sym c.in_ok-path-in-If.ensures ∙ c.in-Some.is))
 
 pub first_among-loop-i-init : goal.first_among-loop-i-init
 first_among-loop-i-init t c = ap first (leaps-from c.args.from c.args.items.now c.requires.none)

@@ -12,13 +12,15 @@ pub has_inside-returns-else-has_land : goal.has_inside-returns-else-has_land
 has_inside-returns-else-has_land t c =
     let l = c.args.label in
     found_later c.has_land-else-has_land.result (lands l (trees_of c.in-If.a)) (lands l (trees_of c.in-If.b)) (held l c.args.item.now)
-    (ap (held l) c.in-If.is ∙ held-If l c.in-If.field-0 c.in-If.a c.in-If.b) (none_found c.has_land.ensures c.if-has_land.false) c.has_land-else-has_land.ensures
+    (ap (held l) c.in-If.is ∙ held-If l c.in-If.field-0 c.in-If.a c.in-If.b) (none_found c.has_land.ensures c.if-has_land.false)
+    c.has_land-else-has_land.ensures
 
 pub has_inside-returns-else-has_land-2 : goal.has_inside-returns-else-has_land-2
 has_inside-returns-else-has_land-2 t c =
     let l = c.args.label in
     found_later c.has_land-else-has_land-2.result (lands l (trees_of c.in-For.first)) (lands l (trees_of c.in-For.a)) (held l c.args.item.now)
-    (ap (held l) c.in-For.is ∙ held-For l c.in-For.first c.in-For.field-1 c.in-For.field-2 c.in-For.a) (none_found c.has_land-in-For.ensures c.if-has_land-2.false)
+    (ap (held l) c.in-For.is ∙ held-For l c.in-For.first c.in-For.field-1 c.in-For.field-2 c.in-For.a)
+    (none_found c.has_land-in-For.ensures c.if-has_land-2.false)
     c.has_land-else-has_land-2.ensures
 
 pub items_have_land-returns-then-is_land : goal.items_have_land-returns-then-is_land
@@ -46,7 +48,8 @@ items_have_land-loop-item-preserved t c =
 
 pub items_have_land-returns : goal.items_have_land-returns
 items_have_land-returns t c =
-    found_nowhere (lands c.args.label (trees_of c.args.items.now)) (c.loop-item.invariant ∙ lands-all c.args.label c.args.items.now c.loop-item.item-index c.loop-item-test.false)
+    found_nowhere (lands c.args.label (trees_of c.args.items.now))
+    (c.loop-item.invariant ∙ lands-all c.args.label c.args.items.now c.loop-item.item-index c.loop-item-test.false)
 
 pub sections_have_land-returns-then-has_land : goal.sections_have_land-returns-then-has_land
 sections_have_land-returns-then-has_land t c =

@@ -8,4 +8,5 @@ abbrev pub invariant-items_have_land-loop-item : goal.invariant-items_have_land-
 invariant-items_have_land-loop-item l = lands l.label (trees_of l.items) ≡ lands l.label (trees_of (drop l.item-index l.items))
 
 abbrev pub invariant-sections_have_land-loop-section : goal.invariant-sections_have_land-loop-section
-invariant-sections_have_land-loop-section l = total_in (land_of l.label) (sections_of l.sections) ≡ total_in (land_of l.label) (sections_of (drop l.section-index l.sections))
+invariant-sections_have_land-loop-section l = total_in (land_of l.label) (sections_of l.sections) ≡ total_in (land_of l.label)
+    (sections_of (drop l.section-index l.sections))

@@ -16,7 +16,9 @@ pub count-returns-in-For : goal.count-returns-in-For
 count-returns-in-For t c = let e = ap count c.in-For.is ∙ count-For c.in-For.f c.in-For.field-1 c.in-For.field-2 c.in-For.a in omega (arith, e)
 
 pub count-returns-in-Switch : goal.count-returns-in-Switch
-count-returns-in-Switch t c = let e = ap count c.in-Switch.is ∙ count-Switch c.in-Switch.field-0 c.in-Switch.sections in let v = ap section_counts c.as_slice.ensures.value in omega (arith, e, v)
+count-returns-in-Switch t c = let e = ap count c.in-Switch.is ∙ count-Switch c.in-Switch.field-0 c.in-Switch.sections in let v =
+    ap section_counts
+    c.as_slice.ensures.value in omega (arith, e, v)
 
 pub section_counts-loop-section-preserved : goal.section_counts-loop-section-preserved
 section_counts-loop-section-preserved t c =

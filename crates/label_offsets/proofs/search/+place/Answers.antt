@@ -11,11 +11,13 @@ use Rattle.label_offsets.proofs.search.+place.Goals as goal
 
 pub place_at-returns-then-is_land-clause-found : goal.place_at-returns-then-is_land-clause-found
 place_at-returns-then-is_land-clause-found t c =
-    place_here c.args.label c.args.items.now c.args.at c.index-items-at.result c.new.result c.if-at-items.false c.index-items-at.is (sym c.is_land.ensures ∙ c.if-is_land.true) c.new.ensures
+    place_here c.args.label c.args.items.now c.args.at c.index-items-at.result c.new.result c.if-at-items.false c.index-items-at.is
+    (sym c.is_land.ensures ∙ c.if-is_land.true) c.new.ensures
 
 pub place_at-returns-clause-none : goal.place_at-returns-clause-none
 place_at-returns-clause-none t c =
-    IfOk-weaker c.place_inside.result _ _ (λ r h. none_inside_at c.args.label c.args.items.now c.args.at c.index-items-at.result r c.if-at-items.false c.index-items-at.is (sym c.is_land.ensures ∙ c.if-is_land.false) h) c.place_inside.ensures.none
+    IfOk-weaker c.place_inside.result _ _ (λ r h. none_inside_at c.args.label c.args.items.now c.args.at c.index-items-at.result r c.if-at-items.false
+    c.index-items-at.is (sym c.is_land.ensures ∙ c.if-is_land.false) h) c.place_inside.ensures.none
 
 pub place_among-returns-clause-none : goal.place_among-returns-clause-none
 place_among-returns-clause-none t c = λ p. c.loop-i.invariant p ∙ lands-all c.args.label c.args.items.now c.loop-i.i c.loop-i-test.false
@@ -27,7 +29,8 @@ place_in_sections-loop-k-preserved t c = λ p.
     let q = c.loop-k.invariant p in
     let m = everywhere_more_in IsPlainFor c.args.sections.now c.loop-k.k s c.loop-k-test.true c.index-sections-k.is q.0 in
     let more = section_lands-more l c.args.sections.now c.loop-k.k s c.loop-k-test.true c.index-sections-k.is in
-    let nothing = ap (λ z. lands l (trees_of (list_of z))) c.index-sections-k.is ∙ (rw c.in_default.is at c.in_ok-path.ensures.none) (subst (λ z. Everywhere IsPlainFor (trees_of (list_of z))) c.index-sections-k.is m.0) in
+    let nothing = ap (λ z. lands l (trees_of (list_of z))) c.index-sections-k.is ∙
+    (rw c.in_default.is at c.in_ok-path.ensures.none) (subst (λ z. Everywhere IsPlainFor (trees_of (list_of z))) c.index-sections-k.is m.0) in
     (m.1, omega (arith, q.1))
 
 pub place_in_sections-returns-clause-none : goal.place_in_sections-returns-clause-none

@@ -10,4 +10,5 @@ invariant-place_among-loop-i l = Everywhere IsPlainFor (trees_of l.items) → la
 
 abbrev pub invariant-place_in_sections-loop-k : goal.invariant-place_in_sections-loop-k
 invariant-place_in_sections-loop-k l =
-    EverywhereIn IsPlainFor (sections_of l.sections) → EverywhereIn IsPlainFor (sections_of (drop l.k l.sections)) × (total_in (land_of l.label) (sections_of l.sections) ≡ total_in (land_of l.label) (sections_of (drop l.k l.sections)))
+    EverywhereIn IsPlainFor (sections_of l.sections) → EverywhereIn IsPlainFor (sections_of (drop l.k l.sections)) ×
+    (total_in (land_of l.label) (sections_of l.sections) ≡ total_in (land_of l.label) (sections_of (drop l.k l.sections)))

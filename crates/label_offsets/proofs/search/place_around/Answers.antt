@@ -10,8 +10,10 @@ loop-far-preserved c = (
   c.loop-far.invariant.0,
   λ p.
       let before = (rw c.in_default-2.is at c.in_ok-path-2.ensures.none) p in
-      around_more c.args.label c.min-middle.result c.loop-far.far c.args.items.now (c.loop-far.invariant.1 p) ((rw c.in_default.is at c.in_ok-path.ensures.none) p) (rw c.saturating_sub.ensures at before),
+      around_more c.args.label c.min-middle.result c.loop-far.far c.args.items.now (c.loop-far.invariant.1 p)
+      ((rw c.in_default.is at c.in_ok-path.ensures.none) p) (rw c.saturating_sub.ensures at before),
 )
 
 pub returns-clause-none : goal.returns-clause-none
-returns-clause-none c = λ p. around_all c.args.label c.min-middle.result c.loop-far.far c.args.items.now c.loop-far.invariant.0 c.loop-far-test.false (c.loop-far.invariant.1 p)
+returns-clause-none c = λ p. around_all c.args.label c.min-middle.result c.loop-far.far c.args.items.now c.loop-far.invariant.0 c.loop-far-test.false
+    (c.loop-far.invariant.1 p)

@@ -8,4 +8,5 @@ use Rattle.label_offsets.proofs.search.place_around.Given as goal
 abbrev pub invariant-loop-far : goal.invariant-loop-far
 invariant-loop-far l =
     (l.middle ≤ length l.items)
-    × (Everywhere IsPlainFor (trees_of l.items) → lands l.label (trees_of l.items) ≡ lands l.label (trees_of (take (l.middle - l.far) l.items)) + lands l.label (trees_of (drop (l.middle + l.far) l.items)))
+    × (Everywhere IsPlainFor (trees_of l.items) → lands l.label (trees_of l.items) ≡ lands l.label
+    (trees_of (take (l.middle - l.far) l.items)) + lands l.label (trees_of (drop (l.middle + l.far) l.items)))

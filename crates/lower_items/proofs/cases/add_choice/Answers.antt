@@ -28,10 +28,12 @@ returns-clause-items c =
     let goto = one (Plain.Goto (otherwise_of d h.construct)) in
     let ts = number_tests k v (label_of k d h) (numbers_of k d) in
     let are = c.in_ok-chosen.ensures.cases in
-    let first = c.in_ok-add.ensures ∙ ap (λ z. join out (one z)) (c.in_ok-assignment.ensures ∙ ap (λ z. Plain.Evaluate (assign_number k v z)) c.into_source.ensures) in
+    let first = c.in_ok-add.ensures ∙ ap (λ z. join out (one z))
+    (c.in_ok-assignment.ensures ∙ ap (λ z. Plain.Evaluate (assign_number k v z)) c.into_source.ensures) in
     let tests = c.in_ok-add_tests.ensures ∙ ap (λ ns. join o (number_tests cs.kind v (number_label cs) ns)) c.as_slice.ensures.value
     ∙ ap (λ f. join o (number_tests cs.kind v f cs.numbers)) (fun_ext are.labels) ∙ ap (λ j. join o (number_tests j v (label_of k d h) cs.numbers)) are.kind
     ∙ ap (λ ns. join o (number_tests k v (label_of k d h) ns)) are.numbers in
     c.in_ok-add_goto.ensures ∙ ap (λ w. join (trees_of c.add_tests.new.out) (one (Plain.Goto w))) c.in_ok-chosen.ensures.otherwise
     ∙ ap (λ z. join z goto) tests ∙ joined o ts goto ∙ one_more out o x (join ts goto) first
-    ∙ ap (λ (j : IntKind). join out (Then (Plain.Evaluate (assign_number j v src)) (join (number_tests j v (label_of j d h) (numbers_of j d)) goto))) c.switch_kind-kind.ensures
+    ∙ ap (λ (j : IntKind). join out (Then (Plain.Evaluate (assign_number j v src)) (join (number_tests j v (label_of j d h) (numbers_of j d)) goto)))
+    c.switch_kind-kind.ensures

@@ -19,4 +19,5 @@ loop-i-preserved c =
 pub returns : goal.returns
 returns c =
     let label = number_label c.args.cases.now in
-    sym (join-nil (trees_of c.loop-i.out)) ∙ ap (join (trees_of c.loop-i.out)) (sym (numbers_end c.args.cases.now.kind c.args.variable label c.args.numbers.now c.loop-i.i c.loop-i-test.false)) ∙ c.loop-i.invariant
+    sym (join-nil (trees_of c.loop-i.out)) ∙ ap (join (trees_of c.loop-i.out))
+    (sym (numbers_end c.args.cases.now.kind c.args.variable label c.args.numbers.now c.loop-i.i c.loop-i-test.false)) ∙ c.loop-i.invariant

@@ -5,4 +5,5 @@ use Rattle.lower_items.specs.Plans.{number_label}
 use Rattle.lower_items.proofs.cases.add_tests.Given as goal
 
 abbrev pub invariant-loop-i : goal.invariant-loop-i
-invariant-loop-i l = join (trees_of l.out) (number_tests l.cases.kind l.variable (number_label l.cases) (drop l.i l.numbers)) ≡ join (trees_of l.initial.out) (number_tests l.cases.kind l.variable (number_label l.cases) l.numbers)
+invariant-loop-i l = join (trees_of l.out) (number_tests l.cases.kind l.variable (number_label l.cases) (drop l.i l.numbers)) ≡ join
+    (trees_of l.initial.out) (number_tests l.cases.kind l.variable (number_label l.cases) l.numbers)

@@ -9,4 +9,5 @@ returns-in-Source t c = sym (ap selector_source (ap selector_tree c.in-Source.is
 
 pub returns-in-Pick : goal.returns-in-Pick
 returns-in-Pick t c =
-    c.into_source.ensures ∙ ap (λ z. selector_source (selector_tree z)) c.into_inner.ensures ∙ sym (ap selector_source (ap selector_tree c.in-Pick.is ∙ selector-Pick _ _ c.in-Pick.rest))
+    c.into_source.ensures ∙ ap (λ z. selector_source (selector_tree z)) c.into_inner.ensures ∙
+    sym (ap selector_source (ap selector_tree c.in-Pick.is ∙ selector-Pick _ _ c.in-Pick.rest))

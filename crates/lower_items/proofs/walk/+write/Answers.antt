@@ -65,7 +65,8 @@ write_list-returns-clause-items t c =
     let r = arrivals_of c.args.cases.now in
     let k = here_of c.loop-item.here in
     let o = written c.loop-item.out in
-    walk_end p b d r k o _ (sym (ap (λ z. join o (lowered p k b d r (trees_of z))) (emptied c.loop-item.item-iterator c.in-None.ensures.steps.0)) ∙ c.loop-item.invariant.items)
+    walk_end p b d r k o _ (sym (ap (λ z. join o (lowered p k b d r (trees_of z))) (emptied c.loop-item.item-iterator c.in-None.ensures.steps.0)) ∙
+    c.loop-item.invariant.items)
 
 pub write_then-returns-clause-place : goal.write_then-returns-clause-place
 write_then-returns-clause-place t c =
@@ -78,7 +79,8 @@ write_then-returns-clause-items t c =
     let d = aim_of c.args.scope.continues in
     let r = arrivals_of c.args.cases.now in
     let n = c.args.opened.labels in
-    then_joined (written c.args.out.now) (lowered p (here_of c.args.opened.start) b d r (trees_of c.args.a)) (Plain.Goto n.behind) (Plain.Mark n.list) (Plain.Mark n.behind) _ _ _
+    then_joined (written c.args.out.now) (lowered p (here_of c.args.opened.start) b d r (trees_of c.args.a)) (Plain.Goto n.behind) (Plain.Mark n.list)
+    (Plain.Mark n.behind) _ _ _
     c.in_ok-start_then.ensures c.in_ok-after.ensures.items (behind (pieces_of c.write_list.new.out.pieces) _ _ _ c.in_ok-add_label.ensures)
 
 pub write_loop-returns-clause-place : goal.write_loop-returns-clause-place
@@ -92,8 +94,10 @@ write_loop-returns-clause-items t c =
     let r = arrivals_of c.args.cases.now in
     let out = c.args.out.now in
     let f = frame_of c.args.made in
-    parts_joined (written out) f.opening (lowered p h f.breaks f.continues r (trees_of c.args.a)) (join (mark_of f.next) (join f.closing (mark_of f.breaks))) _ _ _
-    (behind (pieces_of out.pieces) _ _ _ c.in_ok-add_all.ensures) c.in_ok-after.ensures.items (behind (pieces_of c.write_list.new.out.pieces) _ _ _ c.in_ok-close_loop.ensures)
+    parts_joined (written out) f.opening (lowered p h f.breaks f.continues r (trees_of c.args.a))
+    (join (mark_of f.next) (join f.closing (mark_of f.breaks))) _ _ _
+    (behind (pieces_of out.pieces) _ _ _ c.in_ok-add_all.ensures) c.in_ok-after.ensures.items
+    (behind (pieces_of c.write_list.new.out.pieces) _ _ _ c.in_ok-close_loop.ensures)
 
 pub write_while-returns-clause-place : goal.write_while-returns-clause-place
 write_while-returns-clause-place t c =
@@ -115,7 +119,8 @@ write_while-returns-clause-items t c =
     let t' = test_tree c.args.test in
     let w = frame_of c.in_ok-made.made in
     on_ok_weaker c.write_loop.result (λ f. f ∙ ap (λ k. join out (framed w (lowered p k w.breaks w.continues r a))) c.in_ok-made.ensures.start
-    ∙ ap (λ (x : Frame). join out (framed x (lowered p (entered_at h 0 0) x.breaks x.continues r a))) c.in_ok-made.ensures.frame ∙ ap (join out) (while_is q h Stays Stays r t' a)) c.write_loop.ensures.items
+    ∙ ap (λ (x : Frame). join out (framed x (lowered p (entered_at h 0 0) x.breaks x.continues r a))) c.in_ok-made.ensures.frame ∙
+    ap (join out) (while_is q h Stays Stays r t' a)) c.write_loop.ensures.items
 
 pub write_do-returns-clause-place : goal.write_do-returns-clause-place
 write_do-returns-clause-place t c =
@@ -137,7 +142,8 @@ write_do-returns-clause-items t c =
     let t' = test_tree c.args.test in
     let w = frame_of c.in_ok-made.made in
     on_ok_weaker c.write_loop.result (λ f. f ∙ ap (λ k. join out (framed w (lowered p k w.breaks w.continues r a))) c.in_ok-made.ensures.start
-    ∙ ap (λ (x : Frame). join out (framed x (lowered p (entered_at h 0 0) x.breaks x.continues r a))) c.in_ok-made.ensures.frame ∙ ap (join out) (do_is q h Stays Stays r t' a)) c.write_loop.ensures.items
+    ∙ ap (λ (x : Frame). join out (framed x (lowered p (entered_at h 0 0) x.breaks x.continues r a))) c.in_ok-made.ensures.frame ∙
+    ap (join out) (do_is q h Stays Stays r t' a)) c.write_loop.ensures.items
 
 pub write_switch-returns-clause-place : goal.write_switch-returns-clause-place
 write_switch-returns-clause-place t c =
@@ -167,7 +173,8 @@ write_switch-returns-clause-items t c =
     let ps = pieces_of c.args.out.now.pieces in
     let o = join ps (trees_of c.add_choice.new.out) in
     let b = c.in_ok-chosen.ensures.breaks ∙ ap (λ z. breaks_of z h.construct) v in
-    on_ok_weaker c.write_sections.result (λ f. switch_is q h Stays d NoArrival s e cs out o _ cases (behind ps _ _ _ (c.in_ok-chosen.ensures.items ∙ ap (λ z. join (trees_of c.args.out.now.last) (choice_form s z h)) v))
+    on_ok_weaker c.write_sections.result (λ f. switch_is q h Stays d NoArrival s e cs out o _ cases
+    (behind ps _ _ _ (c.in_ok-chosen.ensures.items ∙ ap (λ z. join (trees_of c.args.out.now.last) (choice_form s z h)) v))
     (f ∙ ap (λ k. join o (lowered_among p k (aim_of c.in_ok-chosen.chosen.breaks) d (case_names cs) e)) start
     ∙ ap (λ z. join o (lowered_among p (inside (Plain.Switch s e) h) z d (case_names cs) e)) b)) c.write_sections.ensures.items
 
@@ -196,7 +203,8 @@ write_sections-returns-clause-place t c =
     let p = layout_of q in
     let h = here_of c.args.here in
     let k = here_of c.loop-section.here in
-    place_end_in k _ (sym (ap (λ z. past_among (sections_of z) k) (emptied c.loop-section.section-iterator c.in-None.ensures.steps.0)) ∙ c.loop-section.invariant.place)
+    place_end_in k _ (sym (ap (λ z. past_among (sections_of z) k) (emptied c.loop-section.section-iterator c.in-None.ensures.steps.0)) ∙
+    c.loop-section.invariant.place)
 
 pub write_sections-returns-clause-items : goal.write_sections-returns-clause-items
 write_sections-returns-clause-items t c =
@@ -208,7 +216,9 @@ write_sections-returns-clause-items t c =
     let k = here_of c.loop-section.here in
     let ns = case_names c.args.cases.now in
     let o = written c.loop-section.out in
-    behind (pieces_of c.loop-section.out.pieces) _ _ _ c.in_ok-add_mark.ensures ∙ parts_end p b d ns k o _ (sym (ap (λ z. join o (lowered_among p k b d ns (sections_of z))) (emptied c.loop-section.section-iterator c.in-None.ensures.steps.0)) ∙ c.loop-section.invariant.items)
+    behind (pieces_of c.loop-section.out.pieces) _ _ _ c.in_ok-add_mark.ensures ∙
+    parts_end p b d ns k o _ (sym (ap (λ z. join o (lowered_among p k b d ns (sections_of z)))
+    (emptied c.loop-section.section-iterator c.in-None.ensures.steps.0)) ∙ c.loop-section.invariant.items)
 
 pub write_section-returns-clause-place : goal.write_section-returns-clause-place
 write_section-returns-clause-place t c =
@@ -224,7 +234,8 @@ write_section-returns-clause-items t c =
     let ns = case_names c.args.cases.now in
     let x = out-Section c.args.section in
     parts_joined (written out) (case_marks ns (expression_trees x.cases) x.default) (lowered p h b d (Arrives ns) (trees_of x.list)) (end_goto x.ends b) _ _ _
-    (behind (pieces_of out.pieces) _ _ _ (c.in_ok-add_case_marks.ensures ∙ ap (λ z. join (trees_of out.last) (case_marks ns (expression_trees z) x.default)) c.as_slice.ensures.value))
+    (behind (pieces_of out.pieces) _ _ _ (c.in_ok-add_case_marks.ensures ∙
+    ap (λ z. join (trees_of out.last) (case_marks ns (expression_trees z) x.default)) c.as_slice.ensures.value))
     (bound_is p h b d ns (trees_of x.list) _ _ _ c.requires c.in_ok-after.ensures.items)
     (behind (pieces_of c.write_list.new.out.pieces) _ _ _ c.in_ok-add_end.ensures)
 
@@ -294,7 +305,8 @@ write_item-returns-in-Block-clause-place t c =
     let p = layout_of q in
     let h = here_of c.args.here in
     let e = ap tree_at c.in-Block.is ∙ at-Block c.in-Block.a in
-    IfOk-weaker c.write_list-in-Block.result _ _ (λ it f. f ∙ past_Block (trees_of c.in-Block.a) h ∙ sym (ap (λ y. past_item y h) e)) c.write_list-in-Block.ensures.place
+    IfOk-weaker c.write_list-in-Block.result _ _ (λ it f. f ∙ past_Block (trees_of c.in-Block.a) h ∙ sym (ap (λ y. past_item y h) e))
+    c.write_list-in-Block.ensures.place
 
 pub write_item-returns-in-Block-clause-items : goal.write_item-returns-in-Block-clause-items
 write_item-returns-in-Block-clause-items t c =
@@ -318,7 +330,8 @@ write_item-returns-in-Some-clause-place t c =
     let e = trees_of c.in-If.b in
     let t' = test_tree c.in-If.test in
     let jump = sym (c.jump_of.ensures ∙ ap (λ z. jump_of (is_flagged z) a e) c.as_slice.ensures.value) in
-    IfOk-weaker c.write_jump.result _ _ (λ it f. f ∙ past_jump p.plan.live t' a e c.in-Some.label h (jump ∙ c.in-Some.is) ∙ sym (ap (λ y. past_item y h) is)) c.write_jump.ensures.place
+    IfOk-weaker c.write_jump.result _ _ (λ it f. f ∙ past_jump p.plan.live t' a e c.in-Some.label h (jump ∙ c.in-Some.is) ∙
+    sym (ap (λ y. past_item y h) is)) c.write_jump.ensures.place
 
 pub write_item-returns-in-Some-clause-items : goal.write_item-returns-in-Some-clause-items
 write_item-returns-in-Some-clause-items t c =
@@ -334,7 +347,9 @@ write_item-returns-in-Some-clause-items t c =
     let e = trees_of c.in-If.b in
     let t' = test_tree c.in-If.test in
     let jump = sym (c.jump_of.ensures ∙ ap (λ z. jump_of (is_flagged z) a e) c.as_slice.ensures.value) in
-    on_ok_weaker c.write_jump.result (λ f. behind (pieces_of c.args.out.now.pieces) _ _ _ f ∙ ap (join out) (jump_is q h b d r t' a e c.in-Some.label (jump ∙ c.in-Some.is)) ∙ sym (ap (λ y. join out (lowered_item p h b d r y)) is)) c.write_jump.ensures.items
+    on_ok_weaker c.write_jump.result (λ f. behind (pieces_of c.args.out.now.pieces) _ _ _ f ∙
+    ap (join out) (jump_is q h b d r t' a e c.in-Some.label (jump ∙ c.in-Some.is)) ∙ sym (ap (λ y. join out (lowered_item p h b d r y)) is))
+    c.write_jump.ensures.items
 
 pub write_item-returns-then-is_empty-clause-place : goal.write_item-returns-then-is_empty-clause-place
 write_item-returns-then-is_empty-clause-place t c =
@@ -345,7 +360,8 @@ write_item-returns-then-is_empty-clause-place t c =
     let t' = test_tree c.in-If.test in
     let none = ap trees_of (c.is_empty.ensures.0 c.if-is_empty.true) ∙ trees-none in
     let k = past a (entered_at h 0 0) in
-    IfOk-weaker c.write_then.result _ _ (λ it f. f ∙ ap (past a) c.in_ok-opened-in-None.ensures.start ∙ sym (still k) ∙ sym (ap (λ z. past z k) none) ∙ past_If t' a e h ∙ sym (ap (λ y. past_item y h) is)) c.write_then.ensures.place
+    IfOk-weaker c.write_then.result _ _ (λ it f. f ∙ ap (past a) c.in_ok-opened-in-None.ensures.start ∙ sym (still k) ∙
+    sym (ap (λ z. past z k) none) ∙ past_If t' a e h ∙ sym (ap (λ y. past_item y h) is)) c.write_then.ensures.place
 
 pub write_item-returns-then-is_empty-clause-items : goal.write_item-returns-then-is_empty-clause-items
 write_item-returns-then-is_empty-clause-items t c =
@@ -367,7 +383,8 @@ write_item-returns-then-is_empty-clause-items t c =
     let s = here_of c.in_ok-opened-in-None.opened.start in
     let none = ap trees_of (c.is_empty.ensures.0 c.if-is_empty.true) ∙ trees-none in
     on_ok_weaker c.write_then.result (λ f. if_is q h b d r t' a e out o _ s _ (jump ∙ c.in-None.is) (behind ps _ _ _ opened.items) opened.start opened.labels
-    (f ∙ sym (ap (λ z. join o (both_lists p c.in_ok-opened-in-None.opened.labels s b d r a z)) none)) ∙ sym (ap (λ y. join out (lowered_item p h b d r y)) is)) c.write_then.ensures.items
+    (f ∙ sym (ap (λ z. join o (both_lists p c.in_ok-opened-in-None.opened.labels s b d r a z)) none)) ∙
+    sym (ap (λ y. join out (lowered_item p h b d r y)) is)) c.write_then.ensures.items
 
 pub write_item-returns-in_ok-add_then-in-None-clause-place : goal.write_item-returns-in_ok-add_then-in-None-clause-place
 write_item-returns-in_ok-add_then-in-None-clause-place t c =
@@ -376,7 +393,8 @@ write_item-returns-in_ok-add_then-in-None-clause-place t c =
     let a = trees_of c.in-If.a in
     let e = trees_of c.in-If.b in
     let t' = test_tree c.in-If.test in
-    c.in_ok-after-in-None.ensures.place ∙ ap (past e) (c.in_ok-behind-in-None.ensures.place ∙ ap (past a) c.in_ok-opened-in-None.ensures.start) ∙ past_If t' a e h ∙ sym (ap (λ y. past_item y h) is)
+    c.in_ok-after-in-None.ensures.place ∙ ap (past e) (c.in_ok-behind-in-None.ensures.place ∙ ap (past a) c.in_ok-opened-in-None.ensures.start) ∙
+    past_If t' a e h ∙ sym (ap (λ y. past_item y h) is)
 
 pub write_item-returns-in_ok-add_then-in-None-clause-items : goal.write_item-returns-in_ok-add_then-in-None-clause-items
 write_item-returns-in_ok-add_then-in-None-clause-items t c =
@@ -398,7 +416,8 @@ write_item-returns-in_ok-add_then-in-None-clause-items t c =
     let s = here_of c.in_ok-opened-in-None.opened.start in
     if_is q h b d r t' a e out o _ s _ (jump ∙ c.in-None.is) (behind ps _ _ _ opened.items) opened.start opened.labels
     (both_joined p c.in_ok-opened-in-None.opened.labels s _ b d r a e _ _ o _ _
-    c.in_ok-behind-in-None.ensures.place c.nothing-then.ensures c.in_ok-behind-in-None.ensures.items c.in_ok-after-in-None.ensures.items c.in_ok-add_then-in-None.ensures)
+    c.in_ok-behind-in-None.ensures.place c.nothing-then.ensures c.in_ok-behind-in-None.ensures.items c.in_ok-after-in-None.ensures.items
+    c.in_ok-add_then-in-None.ensures)
     ∙ sym (ap (λ y. join out (lowered_item p h b d r y)) is)
 
 pub write_item-returns-in_ok-start-in-For-clause-place : goal.write_item-returns-in_ok-start-in-For-clause-place
@@ -429,7 +448,8 @@ write_item-returns-in_ok-start-in-For-clause-items t c =
     let s = here_of c.in_ok-made-in-For.made.start in
     let none = c.no_cases-none.result in
     let first = c.in_ok-start-in-For.ensures.items ∙ ap (λ z. join out (lowered p s b d (arrivals_if z (case_names none)) fs)) c.no_cases-none.ensures in
-    on_ok_weaker c.write_loop.result (λ f. for_item q h b d r fs t' u a out (written c.write_list-in-For.new.out) _ s _ (frame_of c.in_ok-made-in-For.made) c.in_ok-made-in-For.ensures.start c.in_ok-start-in-For.ensures.place c.in_ok-made-in-For.ensures.frame first f
+    on_ok_weaker c.write_loop.result (λ f. for_item q h b d r fs t' u a out (written c.write_list-in-For.new.out) _ s
+    _ (frame_of c.in_ok-made-in-For.made) c.in_ok-made-in-For.ensures.start c.in_ok-start-in-For.ensures.place c.in_ok-made-in-For.ensures.frame first f
     ∙ sym (ap (λ y. join out (lowered_item p h b d r y)) is)) c.write_loop.ensures.items
 
 pub write_item-returns-in_default : goal.write_item-returns-in_default
@@ -440,7 +460,8 @@ write_item-returns-in_default t c =
     let b = aim_of c.args.scope.breaks in
     let d = aim_of c.args.scope.continues in
     let r = arrivals_of c.args.cases.now in
-    let it = simple_item p h b d r c.args.item c.in_default.not-If c.in_default.not-While c.in_default.not-Do c.in_default.not-For c.in_default.not-Switch c.in_default.not-Block in
+    let it = simple_item p h b d r c.args.item c.in_default.not-If c.in_default.not-While c.in_default.not-Do c.in_default.not-For
+    c.in_default.not-Switch c.in_default.not-Block in
     record {
       place = IfOk-weaker c.write_simple.result _ _ (λ _ f. ap here_of f ∙ it.still) c.write_simple.ensures.place;
       items = on_ok_weaker c.write_simple.result (λ f. behind (pieces_of c.args.out.now.pieces) _ _ _ f ∙ ap (join out) it.stays) c.write_simple.ensures.items;

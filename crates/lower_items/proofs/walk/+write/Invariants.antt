@@ -11,11 +11,16 @@ use Rattle.lower_items.proofs.walk.+write.Given as goal
 abbrev pub invariant-write_list-loop-item : goal.invariant-write_list-loop-item
 invariant-write_list-loop-item l = record {
   place : past (trees_of (into_iter_items l.item-iterator)) (here_of l.here) ≡ past (trees_of l.fn.list) (here_of l.initial.here);
-  items : join (written l.out) (lowered (layout_of l.plan) (here_of l.here) (aim_of l.scope.breaks) (aim_of l.scope.continues) (arrivals_of l.cases) (trees_of (into_iter_items l.item-iterator))) ≡ join (written l.initial.out) (lowered (layout_of l.plan) (here_of l.initial.here) (aim_of l.scope.breaks) (aim_of l.scope.continues) (arrivals_of l.cases) (trees_of l.fn.list));
+  items : join (written l.out) (lowered (layout_of l.plan) (here_of l.here) (aim_of l.scope.breaks) (aim_of l.scope.continues) (arrivals_of l.cases)
+      (trees_of (into_iter_items l.item-iterator))) ≡ join (written l.initial.out)
+      (lowered (layout_of l.plan) (here_of l.initial.here) (aim_of l.scope.breaks) (aim_of l.scope.continues) (arrivals_of l.cases) (trees_of l.fn.list));
 }
 
 abbrev pub invariant-write_sections-loop-section : goal.invariant-write_sections-loop-section
 invariant-write_sections-loop-section l = record {
   place : past_among (sections_of (into_iter_items l.section-iterator)) (here_of l.here) ≡ past_among (sections_of l.fn.sections) (here_of l.initial.here);
-  items : join (written l.out) (lowered_among (layout_of l.plan) (here_of l.here) (aim_of l.scope.breaks) (aim_of l.scope.continues) (case_names l.cases) (sections_of (into_iter_items l.section-iterator))) ≡ join (written l.initial.out) (lowered_among (layout_of l.plan) (here_of l.initial.here) (aim_of l.scope.breaks) (aim_of l.scope.continues) (case_names l.cases) (sections_of l.fn.sections));
+  items : join (written l.out) (lowered_among (layout_of l.plan) (here_of l.here) (aim_of l.scope.breaks) (aim_of l.scope.continues)
+      (case_names l.cases) (sections_of (into_iter_items l.section-iterator))) ≡ join (written l.initial.out)
+      (lowered_among (layout_of l.plan) (here_of l.initial.here) (aim_of l.scope.breaks) (aim_of l.scope.continues) (case_names l.cases)
+      (sections_of l.fn.sections));
 }

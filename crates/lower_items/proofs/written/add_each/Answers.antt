@@ -9,7 +9,8 @@ use Rattle.lower_items.proofs.written.add_each.Goals as goal
 pub loop-piece-preserved : goal.loop-piece-preserved
 loop-piece-preserved c =
     let o = trees_of c.loop-piece.out in
-    each_step c.in-Some.piece (into_iter_items c.next.new.self) o (trees_of c.add_all.new.out) _ c.in_ok-add_all.ensures (sym (ap (λ z. join o (pieces_of z)) c.in-Some.ensures.steps.0) ∙ c.loop-piece.invariant)
+    each_step c.in-Some.piece (into_iter_items c.next.new.self) o (trees_of c.add_all.new.out) _ c.in_ok-add_all.ensures
+    (sym (ap (λ z. join o (pieces_of z)) c.in-Some.ensures.steps.0) ∙ c.loop-piece.invariant)
 
 pub returns : goal.returns
 returns c =

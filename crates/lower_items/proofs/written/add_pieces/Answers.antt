@@ -9,7 +9,8 @@ use Rattle.lower_items.proofs.written.add_pieces.Goals as goal
 pub loop-piece-preserved : goal.loop-piece-preserved
 loop-piece-preserved c =
     let o = pieces_of c.loop-piece.out in
-    pieces_step c.in-Some.piece (into_iter_items c.next.new.self) c.loop-piece.out c.push.new.self _ c.in_ok-push.ensures.ok (sym (ap (λ z. join o (pieces_of z)) c.in-Some.ensures.steps.0) ∙ c.loop-piece.invariant)
+    pieces_step c.in-Some.piece (into_iter_items c.next.new.self) c.loop-piece.out c.push.new.self _ c.in_ok-push.ensures.ok
+    (sym (ap (λ z. join o (pieces_of z)) c.in-Some.ensures.steps.0) ∙ c.loop-piece.invariant)
 
 pub returns : goal.returns
 returns c =

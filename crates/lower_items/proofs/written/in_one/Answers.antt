@@ -11,4 +11,5 @@ pub returns : goal.returns
 returns c =
     let ps = pieces_of c.args.all.pieces in
     let l = trees_of c.args.all.last in
-    c.in_ok-add_all.ensures ∙ ap (λ z. join z l) (c.in_ok-add_each.ensures ∙ ap (λ z. join (trees_of z) ps) c.in_ok-out.ensures ∙ ap (λ z. join z ps) trees-none)
+    c.in_ok-add_all.ensures ∙ ap (λ z. join z l) (c.in_ok-add_each.ensures ∙ ap (λ z. join (trees_of z) ps) c.in_ok-out.ensures ∙
+    ap (λ z. join z ps) trees-none)

@@ -19,7 +19,8 @@ pub loop-moves-preserved : goal.loop-moves-preserved
 loop-moves-preserved c = (
   one_leap_more c.args.body.now c.loop-moves.body c.eliminate.new.body c.in-Some.at c.loop-moves.moves c.eliminate.new.moves c.loop-moves.invariant.0
       (sym c.in_ok-at.ensures ∙ c.in-Some.is) c.in_ok-front.ensures.eliminated c.in_ok-front.ensures.well_made,
-  ap (leaps_from 0) c.in_ok-front.ensures.front.1 ∙ none_in_front c.loop-moves.body c.in-Some.at c.in_ok-front.front (sym c.in_ok-at.ensures ∙ c.in-Some.is) c.in_ok-front.ensures.front.0,
+  ap (leaps_from 0) c.in_ok-front.ensures.front.1 ∙ none_in_front c.loop-moves.body c.in-Some.at c.in_ok-front.front
+      (sym c.in_ok-at.ensures ∙ c.in-Some.is) c.in_ok-front.ensures.front.0,
 )
 
 pub returns-clause-derives : goal.returns-clause-derives

@@ -12,7 +12,8 @@ returns-then-goes_on-clause-next c =
     let p = c.args.last.now in
     let body = c.args.body.now in
     IfOk-weaker c.choice_from.result _ _ (λ r e. e ∙ ap (λ (z : List ℕ). first_from (λ l. has l z) body p.path.steps p.path.item) c.as_slice.ensures.value
-    ∙ ap (λ (f : ℕ → Bool). first_from f body p.path.steps p.path.item) (fun_ext c.requires.marks) ∙ goes_on_from p c.requires.old body c.requires.next (c.goes_on.ensures c.if-goes_on.true)) c.choice_from.ensures
+    ∙ ap (λ (f : ℕ → Bool). first_from f body p.path.steps p.path.item) (fun_ext c.requires.marks) ∙
+    goes_on_from p c.requires.old body c.requires.next (c.goes_on.ensures c.if-goes_on.true)) c.choice_from.ensures
 
 pub returns-then-goes_on-clause-marks : goal.returns-then-goes_on-clause-marks
 returns-then-goes_on-clause-marks c =

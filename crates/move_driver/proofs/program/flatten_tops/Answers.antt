@@ -19,4 +19,5 @@ loop-i-preserved c =
     }
 
 pub returns : goal.returns
-returns c names file a = all_flat names file c.loop-i.i c.args.tops.now c.loop-i.tops (omega (arith, c.loop-i-test.false, c.len.ensures.value)) (c.loop-i.invariant.flat names file a)
+returns c names file a = all_flat names file c.loop-i.i c.args.tops.now c.loop-i.tops (omega (arith, c.loop-i-test.false, c.len.ensures.value))
+    (c.loop-i.invariant.flat names file a)

@@ -9,12 +9,15 @@ use Rattle.move_driver.proofs.Settled.{notes_kept, only, settled}
 use Rattle.move_driver.proofs.program.rewrite.Goals as goal
 
 pub move_program-requires : goal.move_program-requires
-move_program-requires c = movable c.args.program (names c.args.program) (file_names c.args.program) c.flatten_program.new.program.tops c.requires c.in_ok-names.ensures.flat
+move_program-requires c = movable c.args.program (names c.args.program) (file_names c.args.program) c.flatten_program.new.program.tops c.requires
+    c.in_ok-names.ensures.flat
 
 pub returns-clause-value : goal.returns-clause-value
 returns-clause-value c =
-    restructured c.args.program c.flatten_program.new.program.tops c.move_program.new.program c.in_ok-plain.plain c.in_ok-moves.moves c.count-counts.result c.requires c.in_ok-names.ensures.held c.in_ok-names.ensures.flat c.in_ok-moves.ensures
-    (c.in_ok-plain.ensures.value ∙ ap (λ n. plain n c.move_program.new.program) c.in_ok-names.ensures.names) (c.count-counts.ensures c.move_program.new.program c.in_ok-before.ensures)
+    restructured c.args.program c.flatten_program.new.program.tops c.move_program.new.program c.in_ok-plain.plain c.in_ok-moves.moves
+    c.count-counts.result c.requires c.in_ok-names.ensures.held c.in_ok-names.ensures.flat c.in_ok-moves.ensures
+    (c.in_ok-plain.ensures.value ∙ ap (λ n. plain n c.move_program.new.program) c.in_ok-names.ensures.names)
+    (c.count-counts.ensures c.move_program.new.program c.in_ok-before.ensures)
 
 pub returns-clause-plain : goal.returns-clause-plain
 returns-clause-plain c = (reads_back c.args.program c.in_ok-plain.plain c.in_ok-moves.moves c.count-counts.result c.requires (returns-clause-value c)).plain
@@ -26,7 +29,8 @@ pub returns-clause-behaves : goal.returns-clause-behaves
 returns-clause-behaves c = (reads_back c.args.program c.in_ok-plain.plain c.in_ok-moves.moves c.count-counts.result c.requires (returns-clause-value c)).runs
 
 pub returns-clause-resolved : goal.returns-clause-resolved
-returns-clause-resolved c = (reads_back c.args.program c.in_ok-plain.plain c.in_ok-moves.moves c.count-counts.result c.requires (returns-clause-value c)).resolved
+returns-clause-resolved c = (reads_back c.args.program c.in_ok-plain.plain c.in_ok-moves.moves c.count-counts.result c.requires
+    (returns-clause-value c)).resolved
 
 pub returns-clause-reads_back : goal.returns-clause-reads_back
 returns-clause-reads_back c =

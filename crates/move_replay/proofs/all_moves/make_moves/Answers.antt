@@ -21,5 +21,10 @@ pub loop-i-preserved : goal.loop-i-preserved
 loop-i-preserved c =
     let m = c.index-moves-i.result in
     let moved = c.in_ok-make_move.ensures.yes c.if-not-branch.false in
-    let r = one_more c.args.tops.now c.loop-i.tops c.make_move.new.tops c.args.moves.now c.loop-i.i m (got c.args.moves.now c.loop-i.i m c.loop-i-test.true c.index-moves-i.is) (c.loop-i.invariant.0, c.loop-i.invariant.1) moved in
-    (r.0, r.1, finds_moved c.in_ok-places.places m c.loop-i.tops c.make_move.new.tops moved c.loop-i.invariant.2, c.in_ok-make_move.ensures.leapless c.if-not-branch.false)
+    let r = one_more c.args.tops.now c.loop-i.tops c.make_move.new.tops c.args.moves.now c.loop-i.i m
+    (got c.args.moves.now c.loop-i.i m c.loop-i-test.true c.index-moves-i.is) (c.loop-i.invariant.0, c.loop-i.invariant.1) moved in (
+      r.0,
+      r.1,
+      finds_moved c.in_ok-places.places m c.loop-i.tops c.make_move.new.tops moved c.loop-i.invariant.2,
+      c.in_ok-make_move.ensures.leapless c.if-not-branch.false,
+    )

@@ -8,4 +8,5 @@ move_leap-done-requires c = same_body c.args.function.now c.in-Some.body (sym c.
 
 pub returns-clause-no : goal.returns-clause-no
 returns-clause-no c =
-    IfOk-weaker c.move_leap-done.result _ _ (λ b h e g k. no_move c.args.step.now c.args.function.now c.in-Some.body (sym c.replace.ensures.value ∙ c.in-Some.is) c.requires.leap (h e) g k) c.move_leap-done.ensures.no
+    IfOk-weaker c.move_leap-done.result _ _ (λ b h e g k. no_move c.args.step.now c.args.function.now c.in-Some.body
+    (sym c.replace.ensures.value ∙ c.in-Some.is) c.requires.leap (h e) g k) c.move_leap-done.ensures.no

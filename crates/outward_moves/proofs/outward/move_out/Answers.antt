@@ -8,7 +8,8 @@ use Rattle.outward_moves.proofs.outward.move_out.Goals as goal
 
 pub move_out_in-requires : goal.move_out_in-requires
 move_out_in-requires c =
-    found_applies c.args.body.now c.args.at.now c.requires c.in-Some.label c.without_last.result.0.now c.without_last.result.1 c.in-Some.ensures (sym c.as_slice.ensures.value ∙ c.without_last.ensures)
+    found_applies c.args.body.now c.args.at.now c.requires c.in-Some.label c.without_last.result.0.now c.without_last.result.1 c.in-Some.ensures
+    (sym c.as_slice.ensures.value ∙ c.without_last.ensures)
 
 pub returns-clause-ok : goal.returns-clause-ok
 returns-clause-ok c =

@@ -13,7 +13,8 @@ move_out_items-done-requires-clause-in_bounds c =
 
 pub replace_at-empty-requires : goal.replace_at-empty-requires
 replace_at-empty-requires c =
-    let there = still_there c.args.body.now c.replace_at-list.new.list c.args.outer.now c.replace_at-list.result c.new.result c.replace_at-list.ensures.taken c.replace_at-list.ensures.put in
+    let there = still_there c.args.body.now c.replace_at-list.new.list c.args.outer.now c.replace_at-list.result c.new.result
+    c.replace_at-list.ensures.taken c.replace_at-list.ensures.put in
     rw there (search rules)
 
 pub returns-clause-ok : goal.returns-clause-ok
@@ -24,11 +25,13 @@ returns-clause-ok c =
     let e = put_changed body c.replace_at-list.new.list c.replace_at-empty.new.list outer c.replace_at-list.result c.new.result c.from_vec.result
     c.replace_at-list.ensures.taken c.replace_at-list.ensures.put c.replace_at-empty.ensures.put in
     on_ok_weaker _ (λ h. e ∙ ap (put_at body outer) (c.from_vec.ensures ∙ h
-    ∙ ap (moved_out c.args.label last.item last.branch c.args.leap) (c.into_vec-items.ensures.items ∙ sym (ap (λ o. unwrap_or o []) c.replace_at-list.ensures.taken))))
+    ∙ ap (moved_out c.args.label last.item last.branch c.args.leap)
+    (c.into_vec-items.ensures.items ∙ sym (ap (λ o. unwrap_or o []) c.replace_at-list.ensures.taken))))
     c.move_out_items-done.ensures.ok
 
 pub returns-clause-err : goal.returns-clause-err
 returns-clause-err c =
-    on_err_weaker _ (λ h. put_unchanged c.args.body.now c.replace_at-list.new.list c.replace_at-empty.new.list c.args.outer.now c.replace_at-list.result c.new.result c.from_vec.result
+    on_err_weaker _ (λ h. put_unchanged c.args.body.now c.replace_at-list.new.list c.replace_at-empty.new.list c.args.outer.now
+    c.replace_at-list.result c.new.result c.from_vec.result
     c.replace_at-list.ensures.taken c.replace_at-list.ensures.put c.replace_at-empty.ensures.put (c.from_vec.ensures ∙ h ∙ c.into_vec-items.ensures.items))
     c.move_out_items-done.ensures.err

@@ -12,7 +12,8 @@ unreachable-requires c =
 
 pub returns-then-ends : goal.returns-then-ends
 returns-then-ends c =
-    later_ends c.args.label c.loop-k.sections c.loop-k.k c.at_mut-section.result.now c.wrap_section.new.section c.at_mut-section.ensures.value c.wrap_section.ensures c.if-ends.true
+    later_ends c.args.label c.loop-k.sections c.loop-k.k c.at_mut-section.result.now c.wrap_section.new.section c.at_mut-section.ensures.value
+    c.wrap_section.ensures c.if-ends.true
     ∙ c.loop-k.invariant.0
 
 pub loop-k-preserved : goal.loop-k-preserved

@@ -5,5 +5,6 @@ use Rattle.outward_moves.proofs.sections.guard_later.Given as goal
 
 abbrev pub invariant-loop-k : goal.invariant-loop-k
 invariant-loop-k l =
-    (take l.k l.sections ++ later_guarded l.label (drop l.k l.sections) ≡ take l.from l.initial.sections ++ later_guarded l.label (drop l.from l.initial.sections))
+    (take l.k l.sections ++ later_guarded l.label (drop l.k l.sections) ≡ take l.from l.initial.sections ++
+    later_guarded l.label (drop l.from l.initial.sections))
     × (length l.sections ≡ l.n) × (fallen (drop l.k l.sections) ≤ vec_len l.rooms)

@@ -8,8 +8,10 @@ names_marked-requires c = omega (arith, length-marks_of c.args.body.now c.len.re
 
 pub returns-clause-labels : goal.returns-clause-labels
 returns-clause-labels c =
-    c.in_ok-labels.ensures ∙ ap (places_marked 0) (c.in_ok-marks.ensures ∙ ap (marks_of c.args.body.now) c.len.ensures.value) ∙ places_are_left c.args.body.now c.args.names
+    c.in_ok-labels.ensures ∙ ap (places_marked 0) (c.in_ok-marks.ensures ∙ ap (marks_of c.args.body.now) c.len.ensures.value) ∙
+    places_are_left c.args.body.now c.args.names
 
 pub returns-clause-names : goal.returns-clause-names
 returns-clause-names c =
-    c.in_ok-names.ensures ∙ ap (names_marked c.args.names) (c.in_ok-marks.ensures ∙ ap (marks_of c.args.body.now) c.len.ensures.value) ∙ names_are_left c.args.body.now c.args.names
+    c.in_ok-names.ensures ∙ ap (names_marked c.args.names) (c.in_ok-marks.ensures ∙ ap (marks_of c.args.body.now) c.len.ensures.value) ∙
+    names_are_left c.args.body.now c.args.names

@@ -6,12 +6,14 @@ use Rattle.plain_form.proofs.sections.add_section.Goals as goal
 pub returns-in_ok-with_entries-in-Some : goal.returns-in_ok-with_entries-in-Some
 returns-in_ok-with_entries-in-Some c =
     on_ok_weaker c.push.result
-    (λ h. added_to c.args.out.now c.push.new.self c.pop.new.self c.in-Some.last c.args.section _ c.in-Some.ensures (sym c.gives.ensures ∙ c.if-gives.true) c.in_ok-with_entries-in-Some.ensures h)
+    (λ h. added_to c.args.out.now c.push.new.self c.pop.new.self c.in-Some.last c.args.section _ c.in-Some.ensures
+    (sym c.gives.ensures ∙ c.if-gives.true) c.in_ok-with_entries-in-Some.ensures h)
     c.push.ensures.ok
 
 pub returns-in_ok-push-in-Some : goal.returns-in_ok-push-in-Some
 returns-in_ok-push-in-Some c =
     on_ok_weaker c.push-else-gives-2.result
-    (λ h. added_behind c.args.out.now c.push-else-gives-2.new.self c.pop.new.self c.push-else-gives.new.self c.in-Some.last c.args.section c.in-Some.ensures (sym c.gives.ensures ∙ c.if-gives.false)
+    (λ h. added_behind c.args.out.now c.push-else-gives-2.new.self c.pop.new.self c.push-else-gives.new.self c.in-Some.last c.args.section
+    c.in-Some.ensures (sym c.gives.ensures ∙ c.if-gives.false)
     c.in_ok-push-in-Some.ensures.ok h)
     c.push-else-gives-2.ensures.ok

@@ -13,18 +13,22 @@ more s d = omega arith
 
 pub are_short_items-returns-then-not-is_short_item : goal.are_short_items-returns-then-not-is_short_item
 are_short_items-returns-then-not-is_short_item t c =
-    item_stopped most_counted most_counted_of refl (λ x a. refl) most c.args.items.now c.loop-i.i c.index-items-i.result c.loop-i-test.true c.index-items-i.is (λ f. true≢false (sym (c.is_short_item.ensures.1 f) ∙ c.if-not-is_short_item.true)) c.loop-i.invariant
+    item_stopped most_counted most_counted_of refl (λ x a. refl) most c.args.items.now c.loop-i.i c.index-items-i.result c.loop-i-test.true
+    c.index-items-i.is (λ f. true≢false (sym (c.is_short_item.ensures.1 f) ∙ c.if-not-is_short_item.true)) c.loop-i.invariant
 
 pub are_short_items-loop-i-preserved : goal.are_short_items-loop-i-preserved
 are_short_items-loop-i-preserved t c =
-    item_passed most_counted most_counted_of refl (λ x a. refl) most c.args.items.now c.loop-i.i c.index-items-i.result c.loop-i-test.true c.index-items-i.is (c.is_short_item.ensures.0 c.if-not-is_short_item.false) c.loop-i.invariant
+    item_passed most_counted most_counted_of refl (λ x a. refl) most c.args.items.now c.loop-i.i c.index-items-i.result c.loop-i-test.true
+    c.index-items-i.is (c.is_short_item.ensures.0 c.if-not-is_short_item.false) c.loop-i.invariant
 
 pub are_short_items-returns : goal.are_short_items-returns
-are_short_items-returns t c = items_ended most_counted most_counted_of refl (λ x a. refl) most c.args.items.now c.loop-i.i (omega (arith, c.loop-i-test.false)) c.loop-i.invariant
+are_short_items-returns t c = items_ended most_counted most_counted_of refl (λ x a. refl) most c.args.items.now c.loop-i.i
+    (omega (arith, c.loop-i-test.false)) c.loop-i.invariant
 
 pub are_short_sections-returns-then-not-is_short_section : goal.are_short_sections-returns-then-not-is_short_section
 are_short_sections-returns-then-not-is_short_section t c =
-    section_stopped most_counted_in section_most refl more most c.args.sections.now c.loop-i.i c.index-sections-i.result c.loop-i-test.true c.index-sections-i.is
+    section_stopped most_counted_in section_most refl more most c.args.sections.now c.loop-i.i c.index-sections-i.result c.loop-i-test.true
+    c.index-sections-i.is
     (λ f. true≢false (sym (c.is_short_section.ensures.1 f) ∙ c.if-not-is_short_section.true)) c.loop-i.invariant
 
 pub are_short_sections-loop-i-preserved : goal.are_short_sections-loop-i-preserved
@@ -33,4 +37,5 @@ are_short_sections-loop-i-preserved t c =
     (c.is_short_section.ensures.0 c.if-not-is_short_section.false) c.loop-i.invariant
 
 pub are_short_sections-returns : goal.are_short_sections-returns
-are_short_sections-returns t c = sections_ended most_counted_in section_most refl more most c.args.sections.now c.loop-i.i (omega (arith, c.loop-i-test.false)) c.loop-i.invariant
+are_short_sections-returns t c = sections_ended most_counted_in section_most refl more most c.args.sections.now c.loop-i.i
+    (omega (arith, c.loop-i-test.false)) c.loop-i.invariant

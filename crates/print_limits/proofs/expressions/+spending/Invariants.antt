@@ -5,4 +5,5 @@ use Rattle.print_limits.proofs.expressions.+spending.Given as goal
 
 -- the arguments so far are spent
 abbrev pub invariant-spend_arguments-loop-i : goal.invariant-spend_arguments-loop-i
-invariant-spend_arguments-loop-i l = l.left + all_counted (arguments (map expression_tree l.items)) ≡ l.room + all_counted (arguments (map expression_tree (drop l.i l.items)))
+invariant-spend_arguments-loop-i l = l.left + all_counted (arguments (map expression_tree l.items)) ≡ l.room + all_counted
+    (arguments (map expression_tree (drop l.i l.items)))

@@ -18,25 +18,33 @@ pub returns-in_err-value-clause-stops : goal.returns-in_err-value-clause-stops
 returns-in_err-value-clause-stops c =
     let p = err_from_is_err_and c.from_residual-in_err-value.result c.from_residual-in_err-value.ensures.1 in
     rw (p.1, p.2) (source_stops c.args.n c.args.source.now.program c.in_ok-result.result (output c.in_ok-written.written)
-    (both c.args.n c.args.text.now c.as_slice.result.now c.args.source.now.program c.in_ok-result.result (output c.in_ok-written.written) c.requires.text c.as_slice.ensures.value
-    c.requires.reads c.requires.resolved c.requires.runnable c.in_ok-written.ensures.restructured c.in_ok-written.ensures.only c.in_ok-result.ensures) c.in_err-value.field-0.0 c.in_err-value.ensures.stop)
+    (both c.args.n c.args.text.now c.as_slice.result.now c.args.source.now.program c.in_ok-result.result (output c.in_ok-written.written)
+    c.requires.text c.as_slice.ensures.value
+    c.requires.reads c.requires.resolved c.requires.runnable c.in_ok-written.ensures.restructured c.in_ok-written.ensures.only c.in_ok-result.ensures)
+    c.in_err-value.field-0.0 c.in_err-value.ensures.stop)
 
 pub run_alone-requires-2-clause-steps : goal.run_alone-requires-2-clause-steps
 run_alone-requires-2-clause-steps c = steps_are
 
 pub run_alone-requires-2-clause-enters : goal.run_alone-requires-2-clause-enters
 run_alone-requires-2-clause-enters c = result_enters c.args.n c.args.source.now.program c.in_ok-result.result (output c.in_ok-written.written)
-    (both c.args.n c.args.text.now c.as_slice.result.now c.args.source.now.program c.in_ok-result.result (output c.in_ok-written.written) c.requires.text c.as_slice.ensures.value
+    (both c.args.n c.args.text.now c.as_slice.result.now c.args.source.now.program c.in_ok-result.result (output c.in_ok-written.written)
+    c.requires.text c.as_slice.ensures.value
     c.requires.reads c.requires.resolved c.requires.runnable c.in_ok-written.ensures.restructured c.in_ok-written.ensures.only c.in_ok-result.ensures)
 
 pub returns-in_err-run_alone-clause-stops : goal.returns-in_err-run_alone-clause-stops
 returns-in_err-run_alone-clause-stops c =
     let p = err_from_is_err_and c.from_residual-in_err-run_alone.result c.from_residual-in_err-run_alone.ensures.1 in
     rw (p.1, p.2) (result_stops c.args.n c.args.source.now.program c.in_ok-result.result (output c.in_ok-written.written)
-    (both c.args.n c.args.text.now c.as_slice.result.now c.args.source.now.program c.in_ok-result.result (output c.in_ok-written.written) c.requires.text c.as_slice.ensures.value
-    c.requires.reads c.requires.resolved c.requires.runnable c.in_ok-written.ensures.restructured c.in_ok-written.ensures.only c.in_ok-result.ensures) c.in_ok-value.field-0 c.in_ok-value.ensures.end c.in_err-run_alone.field-0.0 c.in_err-run_alone.ensures.stop)
+    (both c.args.n c.args.text.now c.as_slice.result.now c.args.source.now.program c.in_ok-result.result (output c.in_ok-written.written)
+    c.requires.text c.as_slice.ensures.value
+    c.requires.reads c.requires.resolved c.requires.runnable c.in_ok-written.ensures.restructured c.in_ok-written.ensures.only c.in_ok-result.ensures)
+    c.in_ok-value.field-0 c.in_ok-value.ensures.end c.in_err-run_alone.field-0.0 c.in_err-run_alone.ensures.stop)
 
 pub returns-clause-shown : goal.returns-clause-shown
 returns-clause-shown c = both_end c.args.n c.args.source.now.program c.in_ok-result.result (output c.in_ok-written.written)
-    (both c.args.n c.args.text.now c.as_slice.result.now c.args.source.now.program c.in_ok-result.result (output c.in_ok-written.written) c.requires.text c.as_slice.ensures.value
-    c.requires.reads c.requires.resolved c.requires.runnable c.in_ok-written.ensures.restructured c.in_ok-written.ensures.only c.in_ok-result.ensures) c.in_ok-value.field-0 c.in_ok-value.ensures.end c.in_ok-run_alone.field-0 _ (to_z-of_z w128 c.in_ok-value.field-0.value (search rules)) c.in_ok-run_alone.ensures.end
+    (both c.args.n c.args.text.now c.as_slice.result.now c.args.source.now.program c.in_ok-result.result (output c.in_ok-written.written)
+    c.requires.text c.as_slice.ensures.value
+    c.requires.reads c.requires.resolved c.requires.runnable c.in_ok-written.ensures.restructured c.in_ok-written.ensures.only c.in_ok-result.ensures)
+    c.in_ok-value.field-0 c.in_ok-value.ensures.end c.in_ok-run_alone.field-0 _ (to_z-of_z w128 c.in_ok-value.field-0.value (search rules))
+    c.in_ok-run_alone.ensures.end

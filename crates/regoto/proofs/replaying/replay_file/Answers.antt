@@ -13,7 +13,8 @@ returns-in-Ok-clause-replays g c = inl record {
 pub returns-in-Ok-clause-completes : goal.returns-in-Ok-clause-completes
 returns-in-Ok-clause-completes g c =
     read_completes g.R.Replayer.reads g.R.Replayer.refuses g.R.Replayer.accepts g.met.R.Replayer.one g.met.R.Replayer.apart
-    c.args.from.now c.args.report.now _ (g.H.Shelf.reads c.args.shelf.now) (g.H.Shelf.reads c.program_read.new.shelf) (g.H.Shelf.reads c.replay_in.new.shelf) _ _ c.in-Ok.program c.replay_in.result c.in-Ok.ensures.grows c.in-Ok.ensures.read
+    c.args.from.now c.args.report.now _ (g.H.Shelf.reads c.args.shelf.now) (g.H.Shelf.reads c.program_read.new.shelf)
+    (g.H.Shelf.reads c.replay_in.new.shelf) _ _ c.in-Ok.program c.replay_in.result c.in-Ok.ensures.grows c.in-Ok.ensures.read
     (rw (c.in-Ok.ensures.kept, c.in-Ok.ensures.writes) at c.replay_in.ensures.completes)
 
 pub returns-in-Err-clause-completes : goal.returns-in-Err-clause-completes

@@ -11,5 +11,6 @@ returns-in-Ok-clause-replays g c = inl record {
 
 pub returns-in-Err-clause-completes : goal.returns-in-Err-clause-completes
 returns-in-Err-clause-completes g c =
-    report_completes (g.R.Replayer.accepts c.args.program) (g.R.Replayer.rejects c.args.program) (λ t r. g.met.R.Replayer.report_apart c.args.program t r c.requires)
+    report_completes (g.R.Replayer.accepts c.args.program) (g.R.Replayer.rejects c.args.program)
+    (λ t r. g.met.R.Replayer.report_apart c.args.program t r c.requires)
     _ c.args.report.now _ _ _ _ _ c.in-Err.status c.in-Err.ensures.unreplayed

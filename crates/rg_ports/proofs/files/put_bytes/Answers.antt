@@ -7,7 +7,8 @@ use Rattle.rg_ports.proofs.files.put_bytes.Goals as goal
 
 pub returns-in-Some-clause-ok : goal.returns-in-Some-clause-ok
 returns-in-Some-clause-ok c =
-    let at : FirstAt c.args.files.now c.args.name.now c.in-Some.place = subst (λ (files : List File). FirstAt files c.args.name.now c.in-Some.place) c.as_slice.ensures.value c.in-Some.ensures in
+    let at : FirstAt c.args.files.now c.args.name.now c.in-Some.place =
+    subst (λ (files : List File). FirstAt files c.args.name.now c.in-Some.place) c.as_slice.ensures.value c.in-Some.ensures in
     let file : c.at_mut-file.result.now ≡ (c.args.name.now, at.bytes) = cc (at.there, c.at_mut-file.ensures.value) in
     let named : c.at_mut-file.result.now.0 ≡ c.args.name.now = ap (λ (e : File). e.0) file in
     ap (λ (e : File). from_entries {R = name_cmp} (set c.args.files.now c.in-Some.place e)) (cc (named, c.in_ok-copy.ensures))

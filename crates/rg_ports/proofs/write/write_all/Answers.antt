@@ -6,7 +6,8 @@ use Rattle.rg_ports.proofs.write.write_all.Goals as goal
 
 pub loop-at-preserved : goal.loop-at-preserved
 loop-at-preserved g c =
-    let piece : take (length c.args.bytes.now - c.loop-at.at) (drop c.loop-at.at c.args.bytes.now) ≡ drop c.loop-at.at c.args.bytes.now = take_rest c.args.bytes.now c.loop-at.at in
+    let piece : take (length c.args.bytes.now - c.loop-at.at) (drop c.loop-at.at c.args.bytes.now) ≡ drop c.loop-at.at c.args.bytes.now =
+    take_rest c.args.bytes.now c.loop-at.at in
     record {
       within = omega (arith, c.in_ok-at.ensures.within, ap length piece, length-drop c.loop-at.at c.args.bytes.now);
       written = c.in_ok-at.ensures.ok

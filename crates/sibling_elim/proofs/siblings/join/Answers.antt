@@ -13,7 +13,8 @@ returns-clause-well_made c =
     let new = c.join_in.new.body in
     let p = c.pair_at-pair.result in
     on_ok_weaker _ (λ h. well_moved (trees_of old) (trees_of new)
-    (joins_changed p.label c.args.at.now.item p.land c.args.at.now.steps old new (record { applies = c.pair_at-pair.ensures.applies; body = h ∙ ap (λ s. joined_at p.label c.args.at.now.item p.land s old) c.as_slice.ensures.value })))
+    (joins_changed p.label c.args.at.now.item p.land c.args.at.now.steps old new
+    (record { applies = c.pair_at-pair.ensures.applies; body = h ∙ ap (λ s. joined_at p.label c.args.at.now.item p.land s old) c.as_slice.ensures.value })))
     c.join_in.ensures.ok
 
 pub returns-clause-behaviour : goal.returns-clause-behaviour

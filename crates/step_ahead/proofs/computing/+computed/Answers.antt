@@ -14,17 +14,21 @@ use Rattle.step_ahead.proofs.computing.+computed.Goals as goal
 pub returns-in-Number-clause-ok : goal.returns-in-Number-clause-ok
 returns-in-Number-clause-ok t c =
     IfSome_then c.constant.result c.constant.ensures.ok
-    (λ r i. is_constant c.args.store.now c.args.e.now (N.Number c.in-Number.number) (Number c.in-Number.number) c.in-Number.number r c.in-Number.is (node-Number c.in-Number.number) (λ k v w. refl) i)
+    (λ r i. is_constant c.args.store.now c.args.e.now (N.Number c.in-Number.number) (Number c.in-Number.number) c.in-Number.number r c.in-Number.is
+    (node-Number c.in-Number.number) (λ k v w. refl) i)
 
 pub returns-in-Character-clause-ok : goal.returns-in-Character-clause-ok
 returns-in-Character-clause-ok t c =
     IfSome_then c.character.result c.character.ensures.ok
-    (λ r i. is_constant c.args.store.now c.args.e.now (N.Character c.in-Character.byte) (Character c.in-Character.byte) (converted Char (pos c.in-Character.byte)) r c.in-Character.is (node-Character c.in-Character.byte) (λ k v w. refl) i)
+    (λ r i. is_constant c.args.store.now c.args.e.now (N.Character c.in-Character.byte) (Character c.in-Character.byte)
+    (converted Char (pos c.in-Character.byte)) r c.in-Character.is (node-Character c.in-Character.byte) (λ k v w. refl) i)
 
 pub returns-in-EnumName-clause-ok : goal.returns-in-EnumName-clause-ok
 returns-in-EnumName-clause-ok t c =
     IfSome_then c.constant-in-EnumName.result c.constant-in-EnumName.ensures.ok
-    (λ r i. is_constant c.args.store.now c.args.e.now (N.EnumName c.in-EnumName.field-0 c.in-EnumName.number) (EnumName c.in-EnumName.field-0 c.in-EnumName.number) c.in-EnumName.number r c.in-EnumName.is (node-EnumName c.in-EnumName.field-0 c.in-EnumName.number) (λ k v w. refl) i)
+    (λ r i. is_constant c.args.store.now c.args.e.now (N.EnumName c.in-EnumName.field-0 c.in-EnumName.number)
+    (EnumName c.in-EnumName.field-0 c.in-EnumName.number) c.in-EnumName.number r c.in-EnumName.is
+    (node-EnumName c.in-EnumName.field-0 c.in-EnumName.number) (λ k v w. refl) i)
 
 pub returns-in-Var-clause-ok : goal.returns-in-Var-clause-ok
 returns-in-Var-clause-ok t c =
@@ -44,20 +48,23 @@ pub returns-in-Some-computed-clause-ok : goal.returns-in-Some-computed-clause-ok
 returns-in-Some-computed-clause-ok t c =
     let s = c.args.store.now in
     IfSome_then c.unary.result c.unary.ensures.ok
-    (λ r i. is_unary s c.args.e.now c.get-a.result.now c.in-Unary.op c.in-Some-computed.x r (c.in-Unary.is ∙ ap (N.Unary c.in-Unary.op) (sym c.get-a.ensures)) c.in-Some-computed.ensures.ok i)
+    (λ r i. is_unary s c.args.e.now c.get-a.result.now c.in-Unary.op c.in-Some-computed.x r
+    (c.in-Unary.is ∙ ap (N.Unary c.in-Unary.op) (sym c.get-a.ensures)) c.in-Some-computed.ensures.ok i)
 
 pub returns-in-Some-computed-2-clause-ok : goal.returns-in-Some-computed-2-clause-ok
 returns-in-Some-computed-2-clause-ok t c =
     let s = c.args.store.now in
     let x = subst (λ y. IsComputed s (expression_tree y) c.in-Some-computed-2.x) c.get-in-Cast.ensures c.in-Some-computed-2.ensures.ok in
-    IfSome_then c.cast.result c.cast.ensures.ok (λ r i. is_cast s c.args.e.now c.in-Cast.a (out-Expression c.args.e.now).kind c.in-Some-computed-2.x r refl c.in-Cast.is x i)
+    IfSome_then c.cast.result c.cast.ensures.ok (λ r i. is_cast s c.args.e.now c.in-Cast.a (out-Expression c.args.e.now).kind c.in-Some-computed-2.x r
+    refl c.in-Cast.is x i)
 
 pub returns-then-decides-clause-ok : goal.returns-then-decides-clause-ok
 returns-then-decides-clause-ok t c =
     let s = c.args.store.now in
     let x = subst (λ y. IsComputed s (expression_tree y) c.in-Some-computed-3.x) c.get-a-in-Binary.ensures c.in-Some-computed-3.ensures.ok in
     IfSome_then c.decided.result c.decided.ensures.ok
-    (λ r i. is_decided s c.args.e.now c.in-Binary.a c.in-Binary.b c.in-Binary.op c.in-Some-computed-3.x r c.in-Binary.is x (sym c.decides.ensures ∙ c.if-decides.true) i)
+    (λ r i. is_decided s c.args.e.now c.in-Binary.a c.in-Binary.b c.in-Binary.op c.in-Some-computed-3.x r c.in-Binary.is x
+    (sym c.decides.ensures ∙ c.if-decides.true) i)
 
 pub returns-in-Some-computed-4-clause-ok : goal.returns-in-Some-computed-4-clause-ok
 returns-in-Some-computed-4-clause-ok t c =
@@ -65,5 +72,6 @@ returns-in-Some-computed-4-clause-ok t c =
     let a = c.get-a-in-Binary.result.now in
     let is = c.in-Binary.is ∙ ap (λ x. N.Binary op x c.in-Binary.b) (sym c.get-a-in-Binary.ensures) ∙ ap (N.Binary op a) (sym c.get-b.ensures) in
     IfSome_then c.of_both.result c.of_both.ensures.ok
-    (λ r i. is_of_both c.args.store.now c.args.e.now a c.get-b.result.now op c.in-Some-computed-3.x c.in-Some-computed-4.y r is c.in-Some-computed-3.ensures.ok c.in-Some-computed-4.ensures.ok
+    (λ r i. is_of_both c.args.store.now c.args.e.now a c.get-b.result.now op c.in-Some-computed-3.x c.in-Some-computed-4.y r is
+    c.in-Some-computed-3.ensures.ok c.in-Some-computed-4.ensures.ok
     (sym c.decides.ensures ∙ c.if-decides.false) i)

@@ -17,7 +17,8 @@ use Rattle.step_ahead.proofs.AheadLemmas.{stays, reaches_as, if_reaches, while_r
 use Rattle.step_ahead.proofs.going.advance.Goals as goal
 
 pub returns-in_default-clause-ok : goal.returns-in_default-clause-ok
-returns-in_default-clause-ok c = goes_on c.args.store.now c.args.store.now 0 c.args.tasks.now c.args.tasks.now c.args.values.now (stays c.args.store.now (tasks_of c.args.tasks.now))
+returns-in_default-clause-ok c = goes_on c.args.store.now c.args.store.now 0 c.args.tasks.now c.args.tasks.now c.args.values.now
+    (stays c.args.store.now (tasks_of c.args.tasks.now))
 
 pub returns-in-Items-len1-up-clause-ok : goal.returns-in-Items-len1-up-clause-ok
 returns-in-Items-len1-up-clause-ok c =
@@ -26,7 +27,8 @@ returns-in-Items-len1-up-clause-ok c =
     let split = first_and_rest list c.item-item.result (omega (arith, c.in-Items-len1-up.len_at_least)) c.item-item.is in
     let e = ap (λ w. work_of w k) c.in-Items-len1-up.is ∙ ap (λ xs. items (trees_of xs) k) split ∙ ap (λ a. items a k) (trees-more c.item-item.result _) in
     IfOk-weaker c.statement.result _ _
-    (λ n w. goes_on c.args.store.now c.statement.new.store n c.args.tasks.now c.statement.new.tasks c.args.values.now (w c.in-Some.work.now (below c.args.tasks.now) (on_top c.in-Some.work.now c.args.tasks.now c.in-Some.ensures) e))
+    (λ n w. goes_on c.args.store.now c.statement.new.store n c.args.tasks.now c.statement.new.tasks c.args.values.now
+    (w c.in-Some.work.now (below c.args.tasks.now) (on_top c.in-Some.work.now c.args.tasks.now c.in-Some.ensures) e))
     c.statement.ensures.ok
 
 pub returns-in-Loop-clause-ok : goal.returns-in-Loop-clause-ok
@@ -34,7 +36,8 @@ returns-in-Loop-clause-ok c =
     let k = tasks_of (below c.args.tasks.now) in
     let e = ap (λ w. work_of w k) c.in-One.is ∙ ap (λ t. task_of t ∷ k) c.in-Of.is ∙ ap (λ s. task_of (My.Of s c.in-Of.item) ∷ k) c.in-Loop.is in
     IfOk-weaker c.loop_end.result _ _
-    (λ n w. goes_on c.args.store.now c.loop_end.new.store n c.args.tasks.now c.loop_end.new.tasks c.args.values.now (w c.in-Some.work.now (below c.args.tasks.now) (on_top c.in-Some.work.now c.args.tasks.now c.in-Some.ensures) e))
+    (λ n w. goes_on c.args.store.now c.loop_end.new.store n c.args.tasks.now c.loop_end.new.tasks c.args.values.now
+    (w c.in-Some.work.now (below c.args.tasks.now) (on_top c.in-Some.work.now c.args.tasks.now c.in-Some.ensures) e))
     c.loop_end.ensures.ok
 
 pub returns-in-Head-clause-ok : goal.returns-in-Head-clause-ok
@@ -42,26 +45,42 @@ returns-in-Head-clause-ok c =
     let k = tasks_of (below c.args.tasks.now) in
     let e = ap (λ w. work_of w k) c.in-One.is ∙ ap (λ t. task_of t ∷ k) c.in-Of.is ∙ ap (λ s. task_of (My.Of s c.in-Of.item) ∷ k) c.in-Head.is in
     IfOk-weaker c.head.result _ _
-    (λ n w. goes_on c.args.store.now c.args.store.now n c.args.tasks.now c.head.new.tasks c.args.values.now (w c.in-Some.work.now (below c.args.tasks.now) (on_top c.in-Some.work.now c.args.tasks.now c.in-Some.ensures) e))
+    (λ n w. goes_on c.args.store.now c.args.store.now n c.args.tasks.now c.head.new.tasks c.args.values.now
+    (w c.in-Some.work.now (below c.args.tasks.now) (on_top c.in-Some.work.now c.args.tasks.now c.in-Some.ensures) e))
     c.head.ensures.ok
 
 pub returns-in-Compute-clause-ok : goal.returns-in-Compute-clause-ok
 returns-in-Compute-clause-ok c =
     let k = tasks_of (below c.args.tasks.now) in
     let e = ap (λ w. work_of w k) c.in-One.is ∙ ap (λ t. task_of t ∷ k) c.in-With.is ∙ ap (λ r. task_of (My.With r c.in-With.e) ∷ k) c.in-Compute.is in
-    IfOk-weaker c.leave.result _ _ (λ n w. w c.in-Some.work.now (below c.args.tasks.now) (on_top c.in-Some.work.now c.args.tasks.now c.in-Some.ensures) e) c.leave.ensures.ok
+    IfOk-weaker c.leave.result _ _ (λ n w. w c.in-Some.work.now (below c.args.tasks.now)
+    (on_top c.in-Some.work.now c.args.tasks.now c.in-Some.ensures) e) c.leave.ensures.ok
 
 pub returns-in_default-stage : goal.returns-in_default-stage
-returns-in_default-stage c = record { names = refl; most = omega arith; ok = goes_on c.args.store.now c.args.store.now 0 c.args.tasks.now c.args.tasks.now c.args.values.now (stays c.args.store.now (tasks_of c.args.tasks.now)) }
+returns-in_default-stage c = record {
+  names = refl;
+  most = omega arith;
+  ok = goes_on c.args.store.now c.args.store.now 0 c.args.tasks.now c.args.tasks.now c.args.values.now (stays c.args.store.now (tasks_of c.args.tasks.now));
+}
 
 pub returns-in_default-role : goal.returns-in_default-role
-returns-in_default-role c = record { names = refl; most = omega arith; ok = goes_on c.args.store.now c.args.store.now 0 c.args.tasks.now c.args.tasks.now c.args.values.now (stays c.args.store.now (tasks_of c.args.tasks.now)) }
+returns-in_default-role c = record {
+  names = refl;
+  most = omega arith;
+  ok = goes_on c.args.store.now c.args.store.now 0 c.args.tasks.now c.args.tasks.now c.args.values.now (stays c.args.store.now (tasks_of c.args.tasks.now));
+}
 
 pub returns-in_default-task : goal.returns-in_default-task
-returns-in_default-task c = record { names = refl; most = omega arith; ok = goes_on c.args.store.now c.args.store.now 0 c.args.tasks.now c.args.tasks.now c.args.values.now (stays c.args.store.now (tasks_of c.args.tasks.now)) }
+returns-in_default-task c = record {
+  names = refl;
+  most = omega arith;
+  ok = goes_on c.args.store.now c.args.store.now 0 c.args.tasks.now c.args.tasks.now c.args.values.now (stays c.args.store.now (tasks_of c.args.tasks.now));
+}
 
 pub returns-in_default-work-clause-ok : goal.returns-in_default-work-clause-ok
-returns-in_default-work-clause-ok c = goes_on c.args.store.now c.args.store.now 0 c.args.tasks.now c.args.tasks.now c.args.values.now (stays c.args.store.now (tasks_of c.args.tasks.now))
+returns-in_default-work-clause-ok c = goes_on c.args.store.now c.args.store.now 0 c.args.tasks.now c.args.tasks.now c.args.values.now
+    (stays c.args.store.now (tasks_of c.args.tasks.now))
 
 pub returns-in_default-work-2-clause-ok : goal.returns-in_default-work-2-clause-ok
-returns-in_default-work-2-clause-ok c = goes_on c.args.store.now c.args.store.now 0 c.args.tasks.now c.args.tasks.now c.args.values.now (stays c.args.store.now (tasks_of c.args.tasks.now))
+returns-in_default-work-2-clause-ok c = goes_on c.args.store.now c.args.store.now 0 c.args.tasks.now c.args.tasks.now c.args.values.now
+    (stays c.args.store.now (tasks_of c.args.tasks.now))

@@ -19,6 +19,8 @@ returns-clause-ok c i x below q e =
     let k = tasks_of below in
     let r = c.in-Some.asked in
     let mid = ap tasks_of (c.take_off.ensures x below q) in
-    reaches_as s s r.steps (tasks_of c.args.tasks.now) _ (cond r.holds (items a (Loops (WhileLoop (Source t) a) ∷ k)) k) (tasks_of c.add_body.new.tasks) (ap tasks_of q ∙ e ∙ ap (λ y. loop_of y ∷ k) i)
-    (c.in_ok-add_body.ensures.ok ∙ ap (λ m. cond r.holds (items a (loop_of (tree_of c.args.item.now) ∷ m)) m) mid ∙ ap (λ y. cond r.holds (items a (loop_of y ∷ k)) k) i)
+    reaches_as s s r.steps (tasks_of c.args.tasks.now) _ (cond r.holds (items a (Loops (WhileLoop (Source t) a) ∷ k)) k)
+    (tasks_of c.add_body.new.tasks) (ap tasks_of q ∙ e ∙ ap (λ y. loop_of y ∷ k) i)
+    (c.in_ok-add_body.ensures.ok ∙ ap (λ m. cond r.holds (items a (loop_of (tree_of c.args.item.now) ∷ m)) m) mid ∙
+    ap (λ y. cond r.holds (items a (loop_of y ∷ k)) k) i)
     (again_reaches s t a k c.args.most r c.in-Some.ensures)

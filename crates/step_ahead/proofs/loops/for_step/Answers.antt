@@ -13,13 +13,16 @@ returns-then-most-eq0-clause-ok c f a t i x below q e = stays c.args.store.now (
 
 pub returns-in-None-clause-ok : goal.returns-in-None-clause-ok
 returns-in-None-clause-ok c f a t i x below q e =
-    subst (λ y. Reaches c.args.store.now y 0 (tasks_of c.args.tasks.now) (tasks_of c.args.tasks.now)) (sym c.in-None.ensures.done) (stays c.args.store.now (tasks_of c.args.tasks.now))
+    subst (λ y. Reaches c.args.store.now y 0 (tasks_of c.args.tasks.now) (tasks_of c.args.tasks.now)) (sym c.in-None.ensures.done)
+    (stays c.args.store.now (tasks_of c.args.tasks.now))
 
 pub returns-in_ok-push-in-Some-clause-ok : goal.returns-in_ok-push-in-Some-clause-ok
 returns-in_ok-push-in-Some-clause-ok c f a t i x below q e =
     let k = tasks_of below in
     let s = c.args.store.now in
     let step = expression_tree c.args.e.now in
-    reaches_as s c.evaluated.new.store (c.in-Some.steps + 1) (tasks_of c.args.tasks.now) _ (Heads t (Some step) a ∷ k) (tasks_of c.push.new.self) (ap tasks_of q ∙ e ∙ ap (λ y. loop_of y ∷ k) i)
-    (ap tasks_of c.in_ok-push-in-Some.ensures.ok ∙ ap (λ m. head_of (tree_of c.args.item.now) ∷ tasks_of m) (c.take_off.ensures x below q) ∙ ap (λ y. head_of y ∷ k) i)
+    reaches_as s c.evaluated.new.store (c.in-Some.steps + 1) (tasks_of c.args.tasks.now) _ (Heads t (Some step) a ∷ k) (tasks_of c.push.new.self)
+    (ap tasks_of q ∙ e ∙ ap (λ y. loop_of y ∷ k) i)
+    (ap tasks_of c.in_ok-push-in-Some.ensures.ok ∙ ap (λ m. head_of (tree_of c.args.item.now) ∷ tasks_of m) (c.take_off.ensures x below q) ∙
+    ap (λ y. head_of y ∷ k) i)
     (step_reaches s c.evaluated.new.store step t a c.in-Some.steps (c.in-Some.steps + 1) k c.in-Some.ensures.done.1 refl)

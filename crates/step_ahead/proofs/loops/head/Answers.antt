@@ -12,7 +12,8 @@ pub returns-in-Some-clause-ok : goal.returns-in-Some-clause-ok
 returns-in-Some-clause-ok c =
     let f = trees_of c.in-For.field-0 in
     let u = option_map expression_tree c.in-For.field-2 in
-    let i = ap tree_of c.in-For.is ∙ tree-For c.in-For.field-0 c.in-For.test c.in-For.field-2 c.in-For.a ∙ ap (λ t. For f (option_map expression_tree t) u (trees_of c.in-For.a)) c.in-Some.is
+    let i = ap tree_of c.in-For.is ∙ tree-For c.in-For.field-0 c.in-For.test c.in-For.field-2 c.in-For.a ∙
+    ap (λ t. For f (option_map expression_tree t) u (trees_of c.in-For.a)) c.in-Some.is
     ∙ ap (λ xs. For f (Some (expression_tree c.in-Some.e)) u (trees_of xs)) (sym c.as_slice.ensures.value)
     ∙ ap (λ e. For f (Some (expression_tree e)) u (trees_of c.as_slice.result.now)) (sym c.get.ensures) in
     IfOk-weaker c.turn.result _ _ (λ n h. h f u i) c.turn.ensures.ok

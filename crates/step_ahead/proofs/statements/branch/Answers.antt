@@ -18,4 +18,5 @@ returns-clause-ok c x below q e =
     let k = items (trees_of c.args.rest.now) (tasks_of below) in
     let r = c.in-Some.asked in
     reaches_as s s r.steps (tasks_of c.args.tasks.now) _ (items (cond r.holds a b) k) (tasks_of c.add_chosen.new.tasks) (ap tasks_of q ∙ e)
-    (c.in_ok-add_chosen.ensures.ok ∙ ap (items (cond r.holds a b)) (c.in_ok-go_on.ensures.ok x below q)) (if_reaches s (expression_tree c.args.e.now) a b k c.args.most r c.in-Some.ensures)
+    (c.in_ok-add_chosen.ensures.ok ∙ ap (items (cond r.holds a b)) (c.in_ok-go_on.ensures.ok x below q))
+    (if_reaches s (expression_tree c.args.e.now) a b k c.args.most r c.in-Some.ensures)

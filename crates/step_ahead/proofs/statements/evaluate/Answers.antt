@@ -13,10 +13,13 @@ returns-then-most-eq0-clause-ok c x below q e = stays c.args.store.now (tasks_of
 
 pub returns-in-None-clause-ok : goal.returns-in-None-clause-ok
 returns-in-None-clause-ok c x below q e =
-    subst (λ t. Reaches c.args.store.now t 0 (tasks_of c.args.tasks.now) (tasks_of c.args.tasks.now)) (sym c.in-None.ensures.done) (stays c.args.store.now (tasks_of c.args.tasks.now))
+    subst (λ t. Reaches c.args.store.now t 0 (tasks_of c.args.tasks.now) (tasks_of c.args.tasks.now)) (sym c.in-None.ensures.done)
+    (stays c.args.store.now (tasks_of c.args.tasks.now))
 
 pub returns-in_ok-go_on-in-Some-clause-ok : goal.returns-in_ok-go_on-in-Some-clause-ok
 returns-in_ok-go_on-in-Some-clause-ok c x below q e =
     let k = items (trees_of c.args.rest.now) (tasks_of below) in
-    reaches_as c.args.store.now c.evaluated.new.store (c.in-Some.steps + 1) (tasks_of c.args.tasks.now) _ k (tasks_of c.go_on.new.tasks) (ap tasks_of q ∙ e) (c.in_ok-go_on-in-Some.ensures.ok x below q)
-    (statement_reaches c.args.store.now c.evaluated.new.store (expression_tree c.args.e.now) c.in-Some.steps (c.in-Some.steps + 1) k c.in-Some.ensures.done.1 refl)
+    reaches_as c.args.store.now c.evaluated.new.store (c.in-Some.steps + 1) (tasks_of c.args.tasks.now) _ k (tasks_of c.go_on.new.tasks)
+    (ap tasks_of q ∙ e) (c.in_ok-go_on-in-Some.ensures.ok x below q)
+    (statement_reaches c.args.store.now c.evaluated.new.store (expression_tree c.args.e.now) c.in-Some.steps (c.in-Some.steps + 1) k
+    c.in-Some.ensures.done.1 refl)

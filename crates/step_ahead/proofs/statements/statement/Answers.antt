@@ -19,18 +19,23 @@ use Rattle.step_ahead.proofs.statements.statement.Goals as goal
 pub returns-in-Evaluate-clause-ok : goal.returns-in-Evaluate-clause-ok
 returns-in-Evaluate-clause-ok c =
     IfOk-weaker c.evaluate.result _ _
-    (λ n w x below q e. w x below q (e ∙ ap (λ y. Runs y ∷ items (trees_of c.args.rest.now) (tasks_of below)) (ap tree_of c.in-Evaluate.is ∙ tree-Evaluate c.in-Evaluate.e))) c.evaluate.ensures.ok
+    (λ n w x below q e. w x below q (e ∙ ap (λ y. Runs y ∷ items (trees_of c.args.rest.now) (tasks_of below))
+    (ap tree_of c.in-Evaluate.is ∙ tree-Evaluate c.in-Evaluate.e))) c.evaluate.ensures.ok
 
 pub returns-in-Source-clause-ok : goal.returns-in-Source-clause-ok
 returns-in-Source-clause-ok c =
     let t = Source (expression_tree c.in-Source.e) in
-    let i = ap tree_of c.in-If.is ∙ tree-If c.in-If.test c.in-If.a c.in-If.b ∙ ap (λ y. If y (trees_of c.in-If.a) (trees_of c.in-If.b)) (ap test_tree c.in-Source.is ∙ test-Source c.in-Source.e)
-    ∙ ap (λ xs. If t (trees_of xs) (trees_of c.in-If.b)) (sym c.as_slice.ensures.value) ∙ ap (λ xs. If t (trees_of c.as_slice.result.now) (trees_of xs)) (sym c.as_slice-in-Source.ensures.value) in
-    IfOk-weaker c.branch-tasks.result _ _ (λ n w x below q e. w x below q (e ∙ ap (λ y. Runs y ∷ items (trees_of c.args.rest.now) (tasks_of below)) i)) c.branch-tasks.ensures.ok
+    let i = ap tree_of c.in-If.is ∙ tree-If c.in-If.test c.in-If.a c.in-If.b ∙
+    ap (λ y. If y (trees_of c.in-If.a) (trees_of c.in-If.b)) (ap test_tree c.in-Source.is ∙ test-Source c.in-Source.e)
+    ∙ ap (λ xs. If t (trees_of xs) (trees_of c.in-If.b)) (sym c.as_slice.ensures.value) ∙
+    ap (λ xs. If t (trees_of c.as_slice.result.now) (trees_of xs)) (sym c.as_slice-in-Source.ensures.value) in
+    IfOk-weaker c.branch-tasks.result _ _ (λ n w x below q e. w x below q
+    (e ∙ ap (λ y. Runs y ∷ items (trees_of c.args.rest.now) (tasks_of below)) i)) c.branch-tasks.ensures.ok
 
 pub returns-in-Source-test-clause-ok : goal.returns-in-Source-test-clause-ok
 returns-in-Source-test-clause-ok c =
-    let i = ap tree_of c.in-While.is ∙ tree-While c.in-While.test c.in-While.a ∙ ap (λ t. While t (trees_of c.in-While.a)) (ap test_tree c.in-Source-test.is ∙ test-Source c.in-Source-test.e)
+    let i = ap tree_of c.in-While.is ∙ tree-While c.in-While.test c.in-While.a ∙
+    ap (λ t. While t (trees_of c.in-While.a)) (ap test_tree c.in-Source-test.is ∙ test-Source c.in-Source-test.e)
     ∙ ap (λ xs. While (Source (expression_tree c.in-Source-test.e)) (trees_of xs)) (sym c.as_slice-in-Source-test.ensures.value) in
     IfOk-weaker c.enter_while.result _ _ (λ n h. h i) c.enter_while.ensures.ok
 

@@ -5,5 +5,9 @@ use Rattle.step_memory.specs.Stores.{StoresIn}
 use Rattle.step_ahead.proofs.storing.stored.Goals as goal
 
 pub returns-in-Ok-clause-done : goal.returns-in-Ok-clause-done
-returns-in-Ok-clause-done c =
-    (refl, c.if-steps-most.false, subst (λ z. StoresIn c.args.found.owner c.args.found.at z c.args.store.now c.set.new.self) (to_z-of_z w128 c.args.number c.ranges.number) c.in-Ok.ensures.ok)
+returns-in-Ok-clause-done c = (
+  refl,
+  c.if-steps-most.false,
+  subst (λ z. StoresIn c.args.found.owner c.args.found.at z c.args.store.now c.set.new.self)
+      (to_z-of_z w128 c.args.number c.ranges.number) c.in-Ok.ensures.ok,
+)

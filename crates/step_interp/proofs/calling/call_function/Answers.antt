@@ -31,8 +31,10 @@ returns-then-is_some-clause-ok c =
     (λ next. IsFunctionOf old.program.now f → AreLabelsOf f c.args.labels.now → CallsFunction f c.args.arguments old next new)
     (λ next k p a w i. at_once R (invoked old f.name h vs w) w next new
     (subst (λ s. Reaches R s w next new)
-    (with_body f.body trees_of h f.name vs old.call.function.now.name (guards_of old.call.guards) (tasks_of old.call.tasks) (values_of (names_of old.store) old.call.values) (frames_of (names_of old.store) old.waiting) w (sym c.if-is_some.ensures))
-    (reaches_weaker ⊥ R (begin_call f.name (body_of f) (push h vs w) (frames_of (names_of old.store) (old.call ∷ old.waiting)) w) w next new (λ b. absurd b) (k p a w i))))
+    (with_body f.body trees_of h f.name vs old.call.function.now.name (guards_of old.call.guards) (tasks_of old.call.tasks)
+    (values_of (names_of old.store) old.call.values) (frames_of (names_of old.store) old.waiting) w (sym c.if-is_some.ensures))
+    (reaches_weaker ⊥ R (begin_call f.name (body_of f) (push h vs w) (frames_of (names_of old.store) (old.call ∷ old.waiting)) w) w next new
+    (λ b. absurd b) (k p a w i))))
     c.enter.ensures.ok
 
 pub returns-clause-ok : goal.returns-clause-ok
@@ -43,9 +45,12 @@ returns-clause-ok c =
     let vs = values_of (names_of old.store) c.args.arguments in
     let new = c.call_without_body.new.machine in
     IfOk-weaker c.call_without_body.result
-    (λ next. (g : FunctionTree) → c.is_some-2.result ≡ is_some g.result → SettlesQuietly (f.name ≡ codes "getchar") (call_without_body f.name g vs) old next new)
+    (λ next. (g : FunctionTree) → c.is_some-2.result ≡ is_some g.result →
+    SettlesQuietly (f.name ≡ codes "getchar") (call_without_body f.name g vs) old next new)
     (λ next. IsFunctionOf old.program.now f → AreLabelsOf f c.args.labels.now → CallsFunction f c.args.arguments old next new)
     (λ next k p a w i. subst (λ s. QuietlyReaches (IsGetchar f.name h) s w next new)
-    (no_body f.body trees_of h f.name vs old.call.function.now.name (guards_of old.call.guards) (tasks_of old.call.tasks) (values_of (names_of old.store) old.call.values) (frames_of (names_of old.store) old.waiting) w (sym c.if-is_some.ensures))
-    (quietly_weaker (f.name ≡ codes "getchar") (IsGetchar f.name h) (settled old (call_without_body f.name h vs w)) w next new (λ e. (e, is_none f.body trees_of (sym c.if-is_some.ensures))) (k h c.is_some-2.ensures w i)))
+    (no_body f.body trees_of h f.name vs old.call.function.now.name (guards_of old.call.guards) (tasks_of old.call.tasks)
+    (values_of (names_of old.store) old.call.values) (frames_of (names_of old.store) old.waiting) w (sym c.if-is_some.ensures))
+    (quietly_weaker (f.name ≡ codes "getchar") (IsGetchar f.name h) (settled old (call_without_body f.name h vs w)) w next new
+    (λ e. (e, is_none f.body trees_of (sym c.if-is_some.ensures))) (k h c.is_some-2.ensures w i)))
     c.call_without_body.ensures.ok

@@ -21,7 +21,8 @@ pub loop-at-preserved : goal.loop-at-preserved
 loop-at-preserved c = record {
   taken = λ ns.
       ap (λ a. last_values (c.args.count - (c.loop-at._at + 1)) (values_of ns a) (values_of ns c.pop.new.self)) c.in_ok-push-in-Some.ensures.ok
-      ∙ sym (one_taken c.args.count c.loop-at._at (values_of ns c.loop-at.arguments) (value_of ns c.in-Some.value) (values_of ns c.pop.new.self) c.loop-at-test.true)
+      ∙ sym (one_taken c.args.count c.loop-at._at (values_of ns c.loop-at.arguments) (value_of ns c.in-Some.value) (values_of ns c.pop.new.self)
+      c.loop-at-test.true)
       ∙ ap (λ v. last_values (c.args.count - c.loop-at._at) (values_of ns c.loop-at.arguments) (values_of ns v)) (sym c.in-Some.ensures)
       ∙ c.loop-at.invariant.taken ns;
   left = λ ns.

@@ -12,7 +12,9 @@ pub returns-then-contains_key-clause-file : goal.returns-then-contains_key-claus
 returns-then-contains_key-clause-file c tops left h =
     let g = c.in-Global.global in
     let names = map (λ n. n.now) c.args.names.now.items in
-    let known : has_name names g.slot.name ≡ true = sym (c.requires g.slot.name) ∙ ap (λ n. is_some (get_by (λ k. slice_cmp nat_cmp n k.now) c.args.places.now)) (sym c.as_str.ensures) ∙ sym c.contains_key.ensures ∙ c.if-contains_key.true in
+    let known : has_name names g.slot.name ≡ true = sym (c.requires g.slot.name) ∙
+    ap (λ n. is_some (get_by (λ k. slice_cmp nat_cmp n k.now) c.args.places.now)) (sym c.as_str.ensures) ∙ sym c.contains_key.ensures ∙
+    c.if-contains_key.true in
     skipped tops left names c.args.file.now g known (subst (λ t. HasFile tops (t ∷ left) names c.args.file.now) c.in-Global.is h)
 
 pub returns-clause-places : goal.returns-clause-places
@@ -32,7 +34,11 @@ returns-clause-file c tops left h =
     let g = c.in-Global.global in
     let names = map (λ n. n.now) c.args.names.now.items in
     let room = c.in_ok-global_room.field-0 in
-    let new : has_name names g.slot.name ≡ false = sym (c.requires g.slot.name) ∙ ap (λ n. is_some (get_by (λ k. slice_cmp nat_cmp n k.now) c.args.places.now)) (sym c.as_str.ensures) ∙ sym c.contains_key.ensures ∙ c.if-contains_key.false in
-    subst (λ ns. HasFile tops left ns c.push.new.self) (sym (ap (map (λ n. n.now)) c.in_ok-push-2.ensures.items ∙ map_push (λ n. n.now) c.args.names.now.items _))
+    let new : has_name names g.slot.name ≡ false = sym (c.requires g.slot.name) ∙
+    ap (λ n. is_some (get_by (λ k. slice_cmp nat_cmp n k.now) c.args.places.now)) (sym c.as_str.ensures) ∙ sym c.contains_key.ensures ∙
+    c.if-contains_key.false in
+    subst (λ ns. HasFile tops left ns c.push.new.self)
+    (sym (ap (map (λ n. n.now)) c.in_ok-push-2.ensures.items ∙ map_push (λ n. n.now) c.args.names.now.items _))
     (subst (HasFile tops left (names ++ g.slot.name ∷ [])) (sym c.in_ok-push.ensures.ok)
-    (added tops left names c.args.file.now g room new c.in_ok-global_room.ensures (subst (λ t. HasFile tops (t ∷ left) names c.args.file.now) c.in-Global.is h)))
+    (added tops left names c.args.file.now g room new c.in_ok-global_room.ensures
+    (subst (λ t. HasFile tops (t ∷ left) names c.args.file.now) c.in-Global.is h)))

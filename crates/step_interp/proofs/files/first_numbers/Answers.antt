@@ -13,5 +13,6 @@ loop-at-preserved c =
       count = ap length c.in_ok-push.ensures.ok ∙ length-append c.loop-at.cells (z ∷ []) ∙ ap (λ n. n + 1) c.loop-at.invariant.count;
       cells = subst (AreFirstCells c.args.kind c.args.initialisers.now) (sym c.in_ok-push.ensures.ok)
           (one_number_more c.loop-at.cells z (first_cell c.args.kind c.args.initialisers.now) c.loop-at.invariant.cells
-          (to_z-of_z w128 c.first_number.result (record { sfits = c.first_number.type_inv }) ∙ c.first_number.ensures ∙ ap (first_cell c.args.kind c.args.initialisers.now) (sym c.loop-at.invariant.count)));
+          (to_z-of_z w128 c.first_number.result (record { sfits = c.first_number.type_inv }) ∙ c.first_number.ensures ∙
+          ap (first_cell c.args.kind c.args.initialisers.now) (sym c.loop-at.invariant.count)));
     }

@@ -24,10 +24,18 @@ loop-top-preserved c =
     record {
       places = c.in_ok-add_top.ensures.places;
       file = c.in_ok-add_top.ensures.file tops (drop (at + 1) tops)
-          (subst (λ ts. HasFile tops ts names c.loop-top.file) (drop-cons tops at t within ∙ ap (λ x. x ∷ drop (suc at) tops) (sym item) ∙ ap (λ k. t ∷ drop k tops) one) c.loop-top.invariant.file);
+          (subst (λ ts. HasFile tops ts names c.loop-top.file)
+          (drop-cons tops at t within ∙ ap (λ x. x ∷ drop (suc at) tops) (sym item) ∙ ap (λ k. t ∷ drop k tops) one) c.loop-top.invariant.file);
     }
 
 pub returns : goal.returns
 returns c input =
-    first_holds c.args.program.now (record { names = c.loop-top.names; places = c.loop-top.places; file = c.loop-top.file; calls = c.push.new.self; newest = 0 }) input (drop c.loop-top.top-index c.args.program.now.tops) c.loop-top.invariant.file
-    (c.in_ok-push.ensures.ok ∙ ap (λ cs. cs ++ c.in_ok-rooms.rooms ∷ []) c.new-calls.ensures ∙ ap (λ x. x ∷ []) (c.in_ok-rooms.ensures ∙ ap (λ x. x ++ []) c.new-none.ensures)) (omega arith)
+    first_holds c.args.program.now (record {
+      names = c.loop-top.names;
+      places = c.loop-top.places;
+      file = c.loop-top.file;
+      calls = c.push.new.self;
+      newest = 0;
+    }) input (drop c.loop-top.top-index c.args.program.now.tops) c.loop-top.invariant.file
+    (c.in_ok-push.ensures.ok ∙ ap (λ cs. cs ++ c.in_ok-rooms.rooms ∷ []) c.new-calls.ensures ∙
+    ap (λ x. x ∷ []) (c.in_ok-rooms.ensures ∙ ap (λ x. x ++ []) c.new-none.ensures)) (omega arith)

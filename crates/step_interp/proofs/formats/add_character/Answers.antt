@@ -13,6 +13,7 @@ returns c = record {
   ok = on_ok_weaker c.push.result
       (λ e. e
       ∙ ap (λ z. c.args.text.now ++ unsigned_abs z ∷ [])
-      (to_z-of_z w128 c.convert.result (record { sfits = c.convert.type_inv }) ∙ c.convert.ensures.value ∙ ap (converted UChar) (to_z-of_z w128 c.args.number c.ranges.number))
+      (to_z-of_z w128 c.convert.result (record { sfits = c.convert.type_inv }) ∙ c.convert.ensures.value ∙
+      ap (converted UChar) (to_z-of_z w128 c.args.number c.ranges.number))
       ∙ ap (λ b. c.args.text.now ++ b ∷ []) (as_char c.args.number)) c.push.ensures.ok;
 }

@@ -18,6 +18,7 @@ returns c = record {
       ∙ ap (λ bs. c.args.text.now ++ bs)
       (c.as_bytes.ensures.value ∙ subst (λ o. IfSome o (λ bs. string_bytes c.in_ok-digits.digits ≡ bs)) c.in_radix.ensures c.in_ok-digits.ensures.ok
       ∙ ap (λ z. digits 16 false (unsigned_abs z))
-      (to_z-of_z w128 c.convert.result (record { sfits = c.convert.type_inv }) ∙ c.convert.ensures.value ∙ ap (converted UInt) (to_z-of_z w128 c.args.number c.ranges.number))
+      (to_z-of_z w128 c.convert.result (record { sfits = c.convert.type_inv }) ∙ c.convert.ensures.value ∙
+      ap (converted UInt) (to_z-of_z w128 c.args.number c.ranges.number))
       ∙ ap (digits 16 false) (as_word c.args.number))) c.add_bytes.ensures.ok;
 }

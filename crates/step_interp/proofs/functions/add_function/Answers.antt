@@ -17,5 +17,6 @@ returns c tops left h =
     let r : Routine = record { function = c.args.function; labels = c.in_ok-labels.labels } in
     let y : Functions = record { routines = c.insert.new.self } in
     put tops left g r x y refl (record { named = refl; labels = c.in_ok-labels.ensures }) (sym c.keeps.ensures ∙ c.if-keeps.false)
-    (λ m. btree_map_updates_str c.as_str.result.now x.routines c.insert.new.self (Some r) c.in_ok-insert.ensures.updates m ∙ ap (λ n. cond (bytes_eq n m) (Some r) (routine_at x m)) c.as_str.ensures)
+    (λ m. btree_map_updates_str c.as_str.result.now x.routines c.insert.new.self (Some r) c.in_ok-insert.ensures.updates m ∙
+    ap (λ n. cond (bytes_eq n m) (Some r) (routine_at x m)) c.as_str.ensures)
     h

@@ -16,10 +16,12 @@ loop-top-preserved c =
     let item = c.top-item.is ∙ ap (λ ts. get_or ts at t) c.as_slice-top-items.ensures.value in
     let one : suc at ≡ at + 1 = omega arith in
     c.in_ok-add_top.ensures tops (drop (at + 1) tops)
-    (subst (λ ts. HasFunctions tops ts c.loop-top.functions) (drop-cons tops at t within ∙ ap (λ x. x ∷ drop (suc at) tops) (sym item) ∙ ap (λ k. t ∷ drop k tops) one) c.loop-top.invariant)
+    (subst (λ ts. HasFunctions tops ts c.loop-top.functions)
+    (drop-cons tops at t within ∙ ap (λ x. x ∷ drop (suc at) tops) (sym item) ∙ ap (λ k. t ∷ drop k tops) one) c.loop-top.invariant)
 
 pub returns : goal.returns
 returns c =
     let tops = c.args.program.now.tops in
     let past = subst (λ ts. length ts ≡ length tops) (sym c.as_slice-top-items.ensures.value) (λ i. length tops) in
-    subst (λ ts. HasFunctions tops ts c.loop-top.functions) (drop_all c.loop-top.top-index tops (omega (arith, c.loop-top-test.false, past))) c.loop-top.invariant
+    subst (λ ts. HasFunctions tops ts c.loop-top.functions) (drop_all c.loop-top.top-index tops (omega (arith, c.loop-top-test.false, past)))
+    c.loop-top.invariant

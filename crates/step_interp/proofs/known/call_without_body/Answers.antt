@@ -38,7 +38,8 @@ returns-then-eq-2-clause-ok c =
     let t1 : bytes_eq m (codes "getchar") ≡ false = same (codes "getchar") ∙ sym c.if-eq.ensures in
     let t2 : bytes_eq m (codes "putchar") ≡ true = same (codes "putchar") ∙ sym c.if-eq-2.ensures in
     IfOk-weaker c.put_char.result (λ next. Settles ⊥ (write_byte (residue UChar (the_next vs))) old next c.put_char.new.machine)
-    (λ next. (f : FunctionTree) → c.args.gives ≡ is_some f.result → SettlesQuietly (m ≡ codes "getchar") (call_without_body m f vs) old next c.put_char.new.machine)
+    (λ next. (f : FunctionTree) → c.args.gives ≡ is_some f.result → SettlesQuietly (m ≡ codes "getchar") (call_without_body m f vs) old next
+    c.put_char.new.machine)
     (λ next k f e w h. at_once (m ≡ codes "getchar") (settled old (call_without_body m f vs w)) w next c.put_char.new.machine
     (subst (λ o. Reaches (m ≡ codes "getchar") (settled old o) w next c.put_char.new.machine) (sym (is_putchar m f vs w t1 t2))
     (reaches_weaker ⊥ (m ≡ codes "getchar") (settled old (write_byte (residue UChar (the_next vs)) w)) w next c.put_char.new.machine (λ b. absurd b) (k w h))))
@@ -54,7 +55,8 @@ returns-then-eq-3-clause-ok c =
     let t2 : bytes_eq m (codes "putchar") ≡ false = same (codes "putchar") ∙ sym c.if-eq-2.ensures in
     let t3 : bytes_eq m (codes "printf") ≡ true = same (codes "printf") ∙ sym c.if-eq-3.ensures in
     IfOk-weaker c.print.result (λ next. Settles ⊥ (write_bytes (printed_bytes vs)) old next c.print.new.machine)
-    (λ next. (f : FunctionTree) → c.args.gives ≡ is_some f.result → SettlesQuietly (m ≡ codes "getchar") (call_without_body m f vs) old next c.print.new.machine)
+    (λ next. (f : FunctionTree) → c.args.gives ≡ is_some f.result → SettlesQuietly (m ≡ codes "getchar") (call_without_body m f vs) old next
+    c.print.new.machine)
     (λ next k f e w h. at_once (m ≡ codes "getchar") (settled old (call_without_body m f vs w)) w next c.print.new.machine
     (subst (λ o. Reaches (m ≡ codes "getchar") (settled old o) w next c.print.new.machine) (sym (is_printf m f vs w t1 t2 t3))
     (reaches_weaker ⊥ (m ≡ codes "getchar") (settled old (write_bytes (printed_bytes vs) w)) w next c.print.new.machine (λ b. absurd b) (k w h))))
@@ -101,8 +103,10 @@ returns-clause-ok c =
     let t3 : bytes_eq m (codes "printf") ≡ false = same (codes "printf") ∙ sym c.if-eq-3.ensures in
     let t4 : bytes_eq m (codes "exit") ≡ false = same (codes "exit") ∙ sym c.if-eq-4.ensures in
     let t5 : bytes_eq m (codes "abort") ≡ false = same (codes "abort") ∙ sym c.if-eq-5.ensures in
-    IfOk-weaker c.declared.result (λ next. (n : List ℕ) (f : FunctionTree) (us : List Value) → c.args.gives ≡ is_some f.result → SettlesQuietly ⊥ (call_declared n f us) old next c.declared.new.machine)
-    (λ next. (f : FunctionTree) → c.args.gives ≡ is_some f.result → SettlesQuietly (m ≡ codes "getchar") (call_without_body m f vs) old next c.declared.new.machine)
+    IfOk-weaker c.declared.result (λ next. (n : List ℕ) (f : FunctionTree) (us : List Value) → c.args.gives ≡ is_some f.result →
+    SettlesQuietly ⊥ (call_declared n f us) old next c.declared.new.machine)
+    (λ next. (f : FunctionTree) → c.args.gives ≡ is_some f.result → SettlesQuietly (m ≡ codes "getchar") (call_without_body m f vs) old next
+    c.declared.new.machine)
     (λ next k f e w h. quietly_weaker ⊥ (m ≡ codes "getchar") (settled old (call_without_body m f vs w)) w next c.declared.new.machine (λ b. absurd b)
     (subst (λ o. QuietlyReaches ⊥ (settled old o) w next c.declared.new.machine) (sym (is_none m f vs w t1 t2 t3 t4 t5)) (k m f vs e w h)))
     c.declared.ensures.ok

@@ -7,7 +7,8 @@ use Rattle.step_interp.proofs.known.declared.Goals as goal
 pub returns-clause-ok : goal.returns-clause-ok
 returns-clause-ok c m f vs e w h =
     let old = c.args.machine.now in
-    declared_gives m f vs old (record old { call = record old.call { values = c.push.new.self } }) w (sym e ∙ c.if-gives.false) (ap (values_of (names_of old.store)) c.in_ok-push.ensures.ok) refl h
+    declared_gives m f vs old (record old { call = record old.call { values = c.push.new.self } }) w (sym e ∙ c.if-gives.false)
+    (ap (values_of (names_of old.store)) c.in_ok-push.ensures.ok) refl h
 
 pub returns-then-gives-clause-ok : goal.returns-then-gives-clause-ok
 returns-then-gives-clause-ok c m f vs e w h =

@@ -13,5 +13,7 @@ use Rattle.step_interp.proofs.known.print.Goals as goal
 pub returns-clause-ok : goal.returns-clause-ok
 returns-clause-ok c w h =
     let old = c.args.machine.now in
-    subst (λ bs. StandsFor (settled old (write_bytes bs w)) c.give_count.new.machine w.input (w.events ++ map Byte c.in_ok-text.text)) (c.in_ok-text.ensures (names_of old.store))
-    (wrote_bytes old c.give_count.new.machine c.in_ok-text.text w (subst (λ n. IsGiven (converted Int (pos n)) old c.give_count.new.machine) c.len.ensures.value c.in_ok-give_count.ensures.ok) h)
+    subst (λ bs. StandsFor (settled old (write_bytes bs w)) c.give_count.new.machine w.input (w.events ++ map Byte c.in_ok-text.text))
+    (c.in_ok-text.ensures (names_of old.store))
+    (wrote_bytes old c.give_count.new.machine c.in_ok-text.text w
+    (subst (λ n. IsGiven (converted Int (pos n)) old c.give_count.new.machine) c.len.ensures.value c.in_ok-give_count.ensures.ok) h)

@@ -13,5 +13,7 @@ declared_is (Some f) m ts e h = (ap (λ o. first_of o (function_in (wanted false
 
 pub returns-in-None : goal.returns-in-None
 returns-in-None c =
-    subst (λ ts. MatchOption c.function_in-in-None.result (function_named c.args.name.now ts ≡ undeclared) (λ f. (function_named c.args.name.now ts ≡ function_tree f.now) × (f.now.name ≡ c.args.name.now)))
-    c.as_slice-tops.ensures.value (declared_is c.function_in-in-None.result c.args.name.now c.as_slice-tops.result.now c.in-None.ensures c.function_in-in-None.ensures)
+    subst (λ ts. MatchOption c.function_in-in-None.result (function_named c.args.name.now ts ≡ undeclared)
+    (λ f. (function_named c.args.name.now ts ≡ function_tree f.now) × (f.now.name ≡ c.args.name.now)))
+    c.as_slice-tops.ensures.value (declared_is c.function_in-in-None.result c.args.name.now c.as_slice-tops.result.now c.in-None.ensures
+    c.function_in-in-None.ensures)

@@ -33,7 +33,8 @@ returns-clause-answers g c r e f =
 
 pub returns-in_default-clause-answers : goal.returns-in_default-clause-answers
 returns-in_default-clause-answers g c r e f =
-    stopped r c.loop-done.done c.args.budget c.loop-done.machine (g.O.Sink.written c.loop-done.out) (g.I.Source.rest c.loop-done.input) c.loop-done.invariant.within (c.loop-done.invariant.follows r e f)
+    stopped r c.loop-done.done c.args.budget c.loop-done.machine (g.O.Sink.written c.loop-done.out) (g.I.Source.rest c.loop-done.input)
+    c.loop-done.invariant.within (c.loop-done.invariant.follows r e f)
 
 pub loop-done-preserved : goal.loop-done-preserved
 loop-done-preserved g c = record {
@@ -43,12 +44,14 @@ loop-done-preserved g c = record {
       let none : d + c.in-Ok.steps ≡ d = omega (arith, c.if-steps-gt0.false) in
       let code = e ∙ sym (ap code_of c.loop-done.invariant.program) in
       let h = subst (λ k. Follows (after r k) r.told c.skip.new.machine (g.O.Sink.written c.loop-done.out) (g.I.Source.rest c.loop-done.input)) none
-      (skipped_to r d c.in-Ok.steps c.loop-done.machine c.skip.new.machine (g.O.Sink.written c.loop-done.out) (g.I.Source.rest c.loop-done.input) code (c.loop-done.invariant.follows r e f) c.in-Ok.ensures.ok) in
+      (skipped_to r d c.in-Ok.steps c.loop-done.machine c.skip.new.machine (g.O.Sink.written c.loop-done.out) (g.I.Source.rest c.loop-done.input) code
+      (c.loop-done.invariant.follows r e f) c.in-Ok.ensures.ok) in
       let told = g.O.Sink.written c.step_with.new.out in
       let left = g.I.Source.rest c.step_with.new.input in
       subst (λ k. Follows (after r k) r.told c.step_with.new.machine told left) (sym (one_more d))
       (next_at r d c.skip.new.machine c.step_with.new.machine h.world told left h.same
-      (subst (λ P. Follows (step P (state_of c.skip.new.machine h.world)) r.told c.step_with.new.machine told left) (ap (λ p. code_of p.now) c.in-Ok.ensures.program ∙ sym code)
+      (subst (λ P. Follows (step P (state_of c.skip.new.machine h.world)) r.told c.step_with.new.machine told left)
+      (ap (λ p. code_of p.now) c.in-Ok.ensures.program ∙ sym code)
       (c.in-GoesOn.ensures.came r.told h.world h.has h.ports)));
   reads = omega (arith, c.loop-done.invariant.reads, c.in-GoesOn.ensures.reads);
   within = omega (arith, c.loop-done-test.true);
@@ -61,10 +64,12 @@ returns-in-Over-clause-answers g c r e f =
     let none : d + c.in-Ok.steps ≡ d = omega (arith, c.if-steps-gt0.false) in
     let code = e ∙ sym (ap code_of c.loop-done.invariant.program) in
     let h = subst (λ k. Follows (after r k) r.told c.skip.new.machine (g.O.Sink.written c.loop-done.out) (g.I.Source.rest c.loop-done.input)) none
-    (skipped_to r d c.in-Ok.steps c.loop-done.machine c.skip.new.machine (g.O.Sink.written c.loop-done.out) (g.I.Source.rest c.loop-done.input) code (c.loop-done.invariant.follows r e f) c.in-Ok.ensures.ok) in
+    (skipped_to r d c.in-Ok.steps c.loop-done.machine c.skip.new.machine (g.O.Sink.written c.loop-done.out) (g.I.Source.rest c.loop-done.input) code
+    (c.loop-done.invariant.follows r e f) c.in-Ok.ensures.ok) in
     let told = g.O.Sink.written c.step_with.new.out in
     let left = g.I.Source.rest c.step_with.new.input in
     answered r d c.args.budget c.skip.new.machine c.step_with.new.machine h.world c.in-Over.answer told left c.loop-done-test.true h.same
     (subst (λ k. Followed r.code r.told k c.skip.new.machine h.world (A.Over c.in-Over.answer) c.step_with.new.machine told left) (one_more d)
-    (subst (λ P. Followed P r.told (d + 1) c.skip.new.machine h.world (A.Over c.in-Over.answer) c.step_with.new.machine told left) (ap (λ p. code_of p.now) c.in-Ok.ensures.program ∙ sym code)
+    (subst (λ P. Followed P r.told (d + 1) c.skip.new.machine h.world (A.Over c.in-Over.answer) c.step_with.new.machine told left)
+    (ap (λ p. code_of p.now) c.in-Ok.ensures.program ∙ sym code)
     (c.in-Over.ensures.came r.told h.world h.has h.ports)))

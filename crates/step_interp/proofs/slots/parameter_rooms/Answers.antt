@@ -17,7 +17,8 @@ loop-slot-preserved c =
     let within : i < c.args.count = omega (arith, c.loop-slot-test.true, length-take c.args.count ss) in
     let there : i < length c.args.function.now.slots = omega (arith, within, c.requires.slots) in
     let is_parameter : i < c.args.function.now.params = omega (arith, within, c.requires.parameters) in
-    let item : s ≡ get_or c.args.function.now.slots i s = c.slot-item.is ∙ get_or-take c.args.count ss i s within ∙ ap (λ xs. get_or xs i s) c.as_slice-slots.ensures.value in
+    let item : s ≡ get_or c.args.function.now.slots i s = c.slot-item.is ∙ get_or-take c.args.count ss i s within ∙ ap (λ xs. get_or xs i s)
+    c.as_slice-slots.ensures.value in
     record {
       count = ap length c.in_ok-push.ensures.ok ∙ length-append c.loop-slot.rooms (room ∷ []) ∙ ap (λ n. n + 1) c.loop-slot.invariant.count;
       slots = λ ns.
@@ -25,8 +26,11 @@ loop-slot-preserved c =
           subst (λ rooms. AreSlots ns rooms (slot_at_start f vs)) (sym c.in_ok-push.ensures.ok)
           (one_slot_more ns c.loop-slot.rooms room (slot_at_start f vs) (c.loop-slot.invariant.slots ns)
           (subst (λ n. IsRoom ns room (slot_at_start f vs n)) (sym c.loop-slot.invariant.count)
-          (subst (IsRoom ns room) (ap (parameter s) (c.take.ensures.value ns) ∙ next_slot f vs (values_of ns c.loop-slot.arguments) i s is_parameter there item (c.loop-slot.invariant.arguments ns)) (c.in_ok-parameter.ensures ns))));
-      arguments = λ ns. c.take.ensures.left ns ∙ next_arguments (values_of ns c.args.arguments) (values_of ns c.loop-slot.arguments) i (c.loop-slot.invariant.arguments ns);
+          (subst (IsRoom ns room) (ap (parameter s) (c.take.ensures.value ns) ∙
+          next_slot f vs (values_of ns c.loop-slot.arguments) i s is_parameter there item (c.loop-slot.invariant.arguments ns))
+          (c.in_ok-parameter.ensures ns))));
+      arguments = λ ns. c.take.ensures.left ns ∙ next_arguments (values_of ns c.args.arguments) (values_of ns c.loop-slot.arguments) i
+          (c.loop-slot.invariant.arguments ns);
     }
 
 pub returns-clause-count : goal.returns-clause-count

@@ -18,5 +18,6 @@ returns-clause-slots c =
     (λ it. (ns : List (List ℕ)) → AreSlots ns it (slot_at_start f (values_of ns c.args.arguments)))
     (λ it e ns. subst (λ xs. AreSlots ns xs (slot_at_start f (values_of ns c.args.arguments)))
     (sym (e ∙ ap (λ ss. rooms ++ map room_at_start ss) (take_rest c.as_slice-slots.result.now count ∙ ap (drop count) c.as_slice-slots.ensures.value)))
-    (rest_slots ns f (values_of ns c.args.arguments) rooms count c.in_ok-rooms.ensures.count c.parameter_count-count.ensures.all (c.in_ok-rooms.ensures.slots ns)))
+    (rest_slots ns f (values_of ns c.args.arguments) rooms count c.in_ok-rooms.ensures.count c.parameter_count-count.ensures.all
+    (c.in_ok-rooms.ensures.slots ns)))
     c.new.ensures

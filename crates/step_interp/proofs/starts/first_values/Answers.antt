@@ -10,9 +10,11 @@ loop-at-init c ns = ap (values_of ns) c.new-values.ensures ∙ sym (no_argument 
 pub loop-at-preserved : goal.loop-at-preserved
 loop-at-preserved c ns =
     let xs = c.args.arguments.now in
-    c.in_ok-leave_argument.ensures ns ∙ one_argument xs (length xs) c.loop-at.at (pos 0) (values_of ns c.loop-at.values) refl c.loop-at-test.true (c.loop-at.invariant ns)
+    c.in_ok-leave_argument.ensures ns ∙ one_argument xs (length xs) c.loop-at.at (pos 0) (values_of ns c.loop-at.values) refl c.loop-at-test.true
+    (c.loop-at.invariant ns)
 
 pub returns : goal.returns
 returns c ns =
     let done : c.loop-at.at ≡ length c.args.arguments.now = omega (arith, c.loop-at-test.false, c.loop-at.auto.at-end) in
-    c.loop-at.invariant ns ∙ ap (λ k. map Integer (drop (length c.args.arguments.now - k) c.args.arguments.now)) done ∙ all_arguments c.args.arguments.now (length c.args.arguments.now)
+    c.loop-at.invariant ns ∙ ap (λ k. map Integer (drop (length c.args.arguments.now - k) c.args.arguments.now)) done ∙
+    all_arguments c.args.arguments.now (length c.args.arguments.now)

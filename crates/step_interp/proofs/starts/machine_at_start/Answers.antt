@@ -20,6 +20,7 @@ returns c =
       tasks = c.in_ok-call.ensures.tasks;
       values = c.in_ok-call.ensures.values;
       waiting = c.new-2.ensures;
-      holds = λ input. c.in_ok-enter.ensures.ok f (map Integer c.args.arguments.now) (subst (λ vs. AreSlots ns c.in_ok-rooms.rooms (slot_at_start f vs)) (c.in_ok-values.ensures ns) (c.in_ok-rooms.ensures.slots ns))
+      holds = λ input. c.in_ok-enter.ensures.ok f (map Integer c.args.arguments.now)
+          (subst (λ vs. AreSlots ns c.in_ok-rooms.rooms (slot_at_start f vs)) (c.in_ok-values.ensures ns) (c.in_ok-rooms.ensures.slots ns))
           (world_at_start (code_of c.args.program.now) input []) (c.in_ok-store.ensures input);
     }

@@ -14,5 +14,12 @@ returns c =
     let cells = c.saturating_add-cells.result in
     let b = c.in_ok-machine.ensures in
     let few : cells ≤ most_cells = omega (arith, c.if-cells-gt-MOST_CELLS.false) in
-    let sum : cells ≡ global_cells p.tops + cells_of f.slots = omega (arith, c.saturating_add-cells.ensures, c.global_cells.ensures, c.cells_of.ensures, c.if-cells-gt-MOST_CELLS.false) in
-    record { ok = λ a. let r = c.in-Some.ensures p a in (b.program, λ input. begins p t c.args.name.now f ls c.args.arguments.now cells c.in_ok-machine.machine input r.0 r.1.named sum (not_over most_cells cells few) a r.1.labels b) }
+    let sum : cells ≡ global_cells p.tops + cells_of f.slots = omega
+    (arith, c.saturating_add-cells.ensures, c.global_cells.ensures, c.cells_of.ensures, c.if-cells-gt-MOST_CELLS.false) in
+    record {
+      ok = λ a. let r = c.in-Some.ensures p a in (
+        b.program,
+        λ input. begins p t c.args.name.now f ls c.args.arguments.now cells
+            c.in_ok-machine.machine input r.0 r.1.named sum (not_over most_cells cells few) a r.1.labels b,
+      );
+    }

@@ -25,7 +25,8 @@ returns-in-None-clause-ok c =
     let name = old.call.function.now.name in
     let cs = frames_of (names_of old.store) old.waiting in
     let none : tasks_of old.call.tasks ≡ [] = subst (λ o. IsNext o old.call.tasks c.next_task.new.tasks) c.in-None.is c.in_ok-next_task.ensures in
-    IfOk-weaker c.fall.result (λ next. (w : World) → HasWorld mid w → Reaches ⊥ (leave f (fallen name) cs w) w next c.fall.new.self) (λ next. Steps old next c.fall.new.self)
+    IfOk-weaker c.fall.result (λ next. (w : World) → HasWorld mid w → Reaches ⊥ (leave f (fallen name) cs w) w next c.fall.new.self)
+    (λ next. Steps old next c.fall.new.self)
     (λ next k w h. stepped old [] w next c.fall.new.self none
     (subst (λ g. Reaches ⊥ (leave g (fallen name) cs w) w next c.fall.new.self) (sym h.called.0) (k w (has_tasks old c.next_task.new.tasks w h))))
     c.fall.ensures.ok
@@ -38,8 +39,10 @@ returns-in-Some-End-true-clause-ok c =
     let v = top (values_of (names_of old.store) old.call.values) in
     let cs = frames_of (names_of old.store) old.waiting in
     let one : tasks_of old.call.tasks ≡ Works (Ends true) ∷ tasks_of c.next_task.new.tasks =
-    subst (λ o. IsNext o old.call.tasks c.next_task.new.tasks) (c.in-Some-End-true.is ∙ ap Some (c.in-Some-End-true.field-0-is ∙ ap End c.in-Some-End-true.field-0-0-test)) c.in_ok-next_task.ensures in
-    IfOk-weaker c.end.result (λ next. (w : World) → HasWorld mid w → Reaches ⊥ (leave f (returned f v) cs w) w next c.end.new.self) (λ next. Steps old next c.end.new.self)
+    subst (λ o. IsNext o old.call.tasks c.next_task.new.tasks)
+    (c.in-Some-End-true.is ∙ ap Some (c.in-Some-End-true.field-0-is ∙ ap End c.in-Some-End-true.field-0-0-test)) c.in_ok-next_task.ensures in
+    IfOk-weaker c.end.result (λ next. (w : World) → HasWorld mid w → Reaches ⊥ (leave f (returned f v) cs w) w next c.end.new.self)
+    (λ next. Steps old next c.end.new.self)
     (λ next k w h. stepped old (Works (Ends true) ∷ tasks_of c.next_task.new.tasks) w next c.end.new.self one
     (subst (λ g. Reaches ⊥ (leave g (returned g v) cs w) w next c.end.new.self) (sym h.called.0) (k w (has_tasks old c.next_task.new.tasks w h))))
     c.end.ensures.ok
@@ -53,8 +56,10 @@ returns-in-Some-End-false-clause-ok c =
     let cs = frames_of (names_of old.store) old.waiting in
     let new = c.fall-in-Some-End-false.new.self in
     let one : tasks_of old.call.tasks ≡ Works (Ends false) ∷ tasks_of c.next_task.new.tasks =
-    subst (λ o. IsNext o old.call.tasks c.next_task.new.tasks) (c.in-Some-End-false.is ∙ ap Some (c.in-Some-End-false.field-0-is ∙ ap End c.in-Some-End-false.field-0-0-test)) c.in_ok-next_task.ensures in
-    IfOk-weaker c.fall-in-Some-End-false.result (λ next. (w : World) → HasWorld mid w → Reaches ⊥ (leave f (fallen name) cs w) w next new) (λ next. Steps old next new)
+    subst (λ o. IsNext o old.call.tasks c.next_task.new.tasks)
+    (c.in-Some-End-false.is ∙ ap Some (c.in-Some-End-false.field-0-is ∙ ap End c.in-Some-End-false.field-0-0-test)) c.in_ok-next_task.ensures in
+    IfOk-weaker c.fall-in-Some-End-false.result (λ next. (w : World) → HasWorld mid w → Reaches ⊥ (leave f (fallen name) cs w) w next new)
+    (λ next. Steps old next new)
     (λ next k w h. stepped old (Works (Ends false) ∷ tasks_of c.next_task.new.tasks) w next new one
     (subst (λ g. Reaches ⊥ (leave g (fallen name) cs w) w next new) (sym h.called.0) (k w (has_tasks old c.next_task.new.tasks w h))))
     c.fall-in-Some-End-false.ensures.ok
@@ -64,7 +69,8 @@ returns-in-Some-clause-ok c =
     let old = c.args.machine.now in
     let mid = record old { call = record old.call { tasks = c.next_task.new.tasks } } in
     let t = c.in-Some.task in
-    let one : tasks_of old.call.tasks ≡ task_of t ∷ tasks_of c.next_task.new.tasks = subst (λ o. IsNext o old.call.tasks c.next_task.new.tasks) c.in-Some.is c.in_ok-next_task.ensures in
+    let one : tasks_of old.call.tasks ≡ task_of t ∷ tasks_of c.next_task.new.tasks =
+    subst (λ o. IsNext o old.call.tasks c.next_task.new.tasks) c.in-Some.is c.in_ok-next_task.ensures in
     IfOk-weaker c.perform.result (λ next. Performs t mid next c.perform.new.machine) (λ next. Steps old next c.perform.new.machine)
     (λ next k w h. stepped old (task_of t ∷ tasks_of c.next_task.new.tasks) w next c.perform.new.machine one (k w (has_tasks old c.next_task.new.tasks w h)))
     c.perform.ensures.ok

@@ -18,4 +18,5 @@ returns-clause-rooms c =
     let e : c.set.new.self ≡ slice_set ps c.args.page (map room_at_start (part c.args.page ss)) =
     c.set.ensures ∙ ap (slice_set ps c.args.page) (c.in_ok-rooms.ensures ∙ ap (map room_at_start) c.part.ensures) in
     ap (λ qs. shown qs ss) e
-    ∙ page_at_start_shown ps ss c.args.page (c.add_pages.ensures.each c.args.page ∙ c.if-is_made.ensures.unmade refl) (omega (arith, c.in_ok-add_pages.ensures.count)) ∙ c.add_pages.ensures.rooms
+    ∙ page_at_start_shown ps ss c.args.page (c.add_pages.ensures.each c.args.page ∙ c.if-is_made.ensures.unmade refl)
+    (omega (arith, c.in_ok-add_pages.ensures.count)) ∙ c.add_pages.ensures.rooms

@@ -6,4 +6,5 @@ pub returns-then-slots-from-le-PAGE : goal.returns-then-slots-from-le-PAGE
 returns-then-slots-from-le-PAGE c =
     let ss = c.args.slots.now in
     let from = c.args.page * 64 in
-    take_all (length ss - from) (drop from ss) (omega (arith, length-drop from ss)) ∙ sym (take_all 64 (drop from ss) (omega (arith, length-drop from ss, c.if-slots-from-le-PAGE.true)))
+    take_all (length ss - from) (drop from ss) (omega (arith, length-drop from ss)) ∙
+    sym (take_all 64 (drop from ss) (omega (arith, length-drop from ss, c.if-slots-from-le-PAGE.true)))

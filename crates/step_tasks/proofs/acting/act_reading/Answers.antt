@@ -9,6 +9,7 @@ use Rattle.step_tasks.proofs.acting.act_reading.Goals as goal
 pub returns-in_default : goal.returns-in_default
 returns-in_default c = record {
   ok = IfOk-weaker c.act_on_values.result (λ d. (o : Op) → task_of c.args.task ≡ Works o → IsDoneOrAlways o d c.args.values.now c.act_on_values.new.values)
-      (λ d. (o : Op) → task_of c.args.task ≡ Works o → IsDoneOr o d c.args.store.now c.args.tasks.now c.args.tasks.now c.args.values.now c.act_on_values.new.values)
+      (λ d. (o : Op) → task_of c.args.task ≡ Works o → IsDoneOr o d c.args.store.now c.args.tasks.now c.args.tasks.now c.args.values.now
+      c.act_on_values.new.values)
       (λ d k o h. k o h c.args.store.now c.args.tasks.now) c.act_on_values.ensures.ok;
 }

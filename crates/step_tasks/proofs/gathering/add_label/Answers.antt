@@ -16,5 +16,6 @@ pub returns : goal.returns
 returns c =
     let none : start_of c.args.labels.now c.args.label ≡ 0 = omega (arith, c.if-start-ne0.false, c.start.ensures) in
     on_ok_weaker c.set_start.result
-    (λ e. new_label c.args.labels.now c.put.new.labels c.set_start.new.labels c.args.label c.args.below c.in_ok-level.level (Items c.args.list) none c.in_ok-level.ensures c.set_start.ensures.levels e)
+    (λ e. new_label c.args.labels.now c.put.new.labels c.set_start.new.labels c.args.label c.args.below c.in_ok-level.level (Items c.args.list) none
+    c.in_ok-level.ensures c.set_start.ensures.levels e)
     c.set_start.ensures.starts

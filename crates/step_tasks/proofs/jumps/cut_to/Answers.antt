@@ -11,7 +11,8 @@ loop-work-preserved c =
     let there : Some c.in-Some.work.now ≡ slice_get c.loop-work.tasks 0 = sym (ap option_copied c.in-Some.is) ∙ c.top.ensures in
     let k = tasks_of c.pop.new.self in
     ap (λ b. cond b (work_of c.in-Some.work.now k) (cut_to k)) (sym c.if-ends_continue.false ∙ c.ends_continue.ensures)
-    ∙ sym (to_work c.in-Some.work.now k) ∙ sym (ap (λ ws. cut_to (tasks_of ws)) (popped c.pop.result c.in-Some.work.now c.loop-work.tasks c.pop.new.self c.pop.ensures there)) ∙ c.loop-work.invariant
+    ∙ sym (to_work c.in-Some.work.now k) ∙ sym
+    (ap (λ ws. cut_to (tasks_of ws)) (popped c.pop.result c.in-Some.work.now c.loop-work.tasks c.pop.new.self c.pop.ensures there)) ∙ c.loop-work.invariant
 
 pub returns-then-ends_continue : goal.returns-then-ends_continue
 returns-then-ends_continue c =

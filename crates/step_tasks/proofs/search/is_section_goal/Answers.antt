@@ -10,8 +10,10 @@ pub returns-in-Case : goal.returns-in-Case
 returns-in-Case c =
     c.has_case.ensures
     ∙ ap (λ cs. list_any (is_case c.in-Case.kind c.in-Case.number) (expression_trees cs)) c.as_slice.ensures.value
-    ∙ sym (ap (λ g. is_section_goal (goal_of g) (section_tree c.args.section.now).cases (section_tree c.args.section.now).default) c.in-Case.is ∙ ap (λ s. list_any (is_case c.in-Case.kind c.in-Case.number) s.cases) (section-parts c.args.section.now))
+    ∙ sym (ap (λ g. is_section_goal (goal_of g) (section_tree c.args.section.now).cases (section_tree c.args.section.now).default) c.in-Case.is ∙
+    ap (λ s. list_any (is_case c.in-Case.kind c.in-Case.number) s.cases) (section-parts c.args.section.now))
 
 pub returns-in-Default : goal.returns-in-Default
 returns-in-Default c =
-    sym (ap (λ g. is_section_goal (goal_of g) (section_tree c.args.section.now).cases (section_tree c.args.section.now).default) c.in-Default.is ∙ ap (λ s. s.default) (section-parts c.args.section.now))
+    sym (ap (λ g. is_section_goal (goal_of g) (section_tree c.args.section.now).cases (section_tree c.args.section.now).default) c.in-Default.is ∙
+    ap (λ s. s.default) (section-parts c.args.section.now))

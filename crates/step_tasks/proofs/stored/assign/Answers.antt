@@ -17,10 +17,13 @@ returns-clause-ok c =
     let fits = to_z-of_z w128 c.take_number-number.result (record { sfits = c.take_number-number.type_inv }) in
     on_ok_weaker c.leave_number.result
     (λ p.
-    assigned c.args.store.now c.set.new.self c.args.values.now c.leave_number.new.values c.in-Designates.owner c.in-Designates.at c.take_number-number.result c.in_ok-kind.kind
+    assigned c.args.store.now c.set.new.self c.args.values.now c.leave_number.new.values c.in-Designates.owner c.in-Designates.at
+    c.take_number-number.result c.in_ok-kind.kind
     (c.take_number-number.ensures.value ns) place c.in_ok-kind.ensures.ok
     (subst (λ z. StoresIn c.in-Designates.owner c.in-Designates.at z c.args.store.now c.set.new.self) fits c.in_ok-set.ensures.ok)
     (p ns
-    ∙ ap (λ z. Meant.Integer z ∷ values_of ns c.take.new.values) (to_z-of_z w128 c.convert.result (record { sfits = c.convert.type_inv }) ∙ c.convert.ensures.value ∙ ap (converted c.in_ok-kind.kind) fits)
-    ∙ ap (λ r. Meant.Integer (converted c.in_ok-kind.kind c.take_number-number.result) ∷ r) (c.take.ensures.left ns ∙ ap rest (c.take_number-number.ensures.left ns))))
+    ∙ ap (λ z. Meant.Integer z ∷ values_of ns c.take.new.values)
+    (to_z-of_z w128 c.convert.result (record { sfits = c.convert.type_inv }) ∙ c.convert.ensures.value ∙ ap (converted c.in_ok-kind.kind) fits)
+    ∙ ap (λ r. Meant.Integer (converted c.in_ok-kind.kind c.take_number-number.result) ∷ r)
+    (c.take.ensures.left ns ∙ ap rest (c.take_number-number.ensures.left ns))))
     c.leave_number.ensures.ok

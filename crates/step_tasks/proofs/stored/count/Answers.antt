@@ -11,7 +11,8 @@ pub returns-clause-ok : goal.returns-clause-ok
 returns-clause-ok c =
     let ns = names_of c.args.store.now in
     IfOk-weaker c.count_cell.result
-    (λ d. CountsIn c.args.up c.args.after c.in-Designates.owner c.in-Designates.at d c.args.store.now c.count_cell.new.store c.take.new.values c.count_cell.new.values)
+    (λ d. CountsIn c.args.up c.args.after c.in-Designates.owner c.in-Designates.at d c.args.store.now c.count_cell.new.store c.take.new.values
+    c.count_cell.new.values)
     (λ d. LeavesInOr (Counts c.args.up c.args.after) d c.args.store.now c.count_cell.new.store c.args.values.now c.count_cell.new.values)
     (λ d k. k c.args.values.now
     (with_place (values_of ns c.args.values.now) (values_of ns c.take.new.values) (owner_of ns c.in-Designates.owner) c.in-Designates.at

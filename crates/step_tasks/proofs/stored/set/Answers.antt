@@ -20,10 +20,12 @@ returns-clause-ok c =
     let fits = to_z-of_z w128 c.take_number-number.result (record { sfits = c.take_number-number.type_inv }) in
     on_ok_weaker c.initialise.result
     (λ p.
-    set_cell c.args.store.now c.set.new.self c.args.slot c.args.at (expression_trees c.args.later.now) c.args.tasks.now c.initialise.new.tasks c.args.values.now c.take.new.values c.initialise.new.values
+    set_cell c.args.store.now c.set.new.self c.args.slot c.args.at (expression_trees c.args.later.now) c.args.tasks.now c.initialise.new.tasks
+    c.args.values.now c.take.new.values c.initialise.new.values
     c.in-Designates.owner c.in-Designates.cell c.take_number-number.result
     c.in_ok-set.ensures.names (c.take_number-number.ensures.value ns) place
     (subst (λ z. StoresIn c.in-Designates.owner c.in-Designates.cell z c.args.store.now c.set.new.self) fits c.in_ok-set.ensures.ok)
     (c.take.ensures.left ns ∙ ap rest (c.take_number-number.ensures.left ns))
-    (subst (λ i. Effects (initialise c.args.slot i (expression_trees c.args.later.now)) c.set.new.self c.args.tasks.now c.initialise.new.tasks c.take.new.values c.initialise.new.values) (one_more c.args.at) p))
+    (subst (λ i. Effects (initialise c.args.slot i (expression_trees c.args.later.now)) c.set.new.self c.args.tasks.now c.initialise.new.tasks
+    c.take.new.values c.initialise.new.values) (one_more c.args.at) p))
     c.initialise.ensures.ok

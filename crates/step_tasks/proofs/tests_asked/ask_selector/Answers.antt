@@ -16,12 +16,27 @@ use Rattle.step_tasks.proofs.tests_asked.ask_selector.Goals as goal
 
 pub returns-in-Source-clause-ok : goal.returns-in-Source-clause-ok
 returns-in-Source-clause-ok c =
-    on_ok_weaker c.add_two.result (λ p. goes (AsksSelector (selector_tree c.args.selector.now)) c.args.call.now c.add_two.new.tasks (ap (λ x. view (body_of c.args.call.now.function.now) (guards_of c.args.call.now.guards) (AsksSelector x ∷ tasks_of c.args.call.now.tasks)) (ap selector_tree c.in-Source.is ∙ selector-Source c.in-Source.e) ∙ ap Goes (sym (p ∙ ap (λ k. Works (Computes (expression_tree c.in-Source.e)) ∷ Works (Converts k) ∷ tasks_of c.args.call.now.tasks) (c.promote-kind.ensures ∙ ap promoted (c.operand_kind.ensures ∙ ap operand_kind (sym (kind_is c.in-Source.e)))))))) c.add_two.ensures.ok
+    on_ok_weaker c.add_two.result (λ p. goes (AsksSelector (selector_tree c.args.selector.now)) c.args.call.now c.add_two.new.tasks
+    (ap (λ x. view (body_of c.args.call.now.function.now) (guards_of c.args.call.now.guards) (AsksSelector x ∷ tasks_of c.args.call.now.tasks))
+    (ap selector_tree c.in-Source.is ∙ selector-Source c.in-Source.e) ∙
+    ap Goes (sym (p ∙ ap (λ k. Works (Computes (expression_tree c.in-Source.e)) ∷ Works (Converts k) ∷ tasks_of c.args.call.now.tasks)
+    (c.promote-kind.ensures ∙ ap promoted (c.operand_kind.ensures ∙ ap operand_kind (sym (kind_is c.in-Source.e)))))))) c.add_two.ensures.ok
 
 pub returns-then-is_set-clause-ok : goal.returns-then-is_set-clause-ok
 returns-then-is_set-clause-ok c =
-    on_ok_weaker c.leave_constant.result (λ p. yields (AsksSelector (selector_tree c.args.selector.now)) c.args.call.now c.leave_constant.new.values (c.in-Pick.number) (ap (λ x. view (body_of c.args.call.now.function.now) (guards_of c.args.call.now.guards) (AsksSelector x ∷ tasks_of c.args.call.now.tasks)) (ap selector_tree c.in-Pick.is ∙ selector-Pick c.in-Pick.label c.in-Pick.number c.in-Pick.rest) ∙ ap (λ b. cond b (Yields c.in-Pick.number (tasks_of c.args.call.now.tasks)) (Goes (AsksSelector (selector_tree c.in-Pick.rest) ∷ tasks_of c.args.call.now.tasks))) (sym c.is_set.ensures ∙ c.if-is_set.true)) p) c.leave_constant.ensures.ok
+    on_ok_weaker c.leave_constant.result (λ p. yields (AsksSelector (selector_tree c.args.selector.now)) c.args.call.now c.leave_constant.new.values
+    (c.in-Pick.number) (ap (λ x. view (body_of c.args.call.now.function.now) (guards_of c.args.call.now.guards)
+    (AsksSelector x ∷ tasks_of c.args.call.now.tasks)) (ap selector_tree c.in-Pick.is ∙
+    selector-Pick c.in-Pick.label c.in-Pick.number c.in-Pick.rest) ∙
+    ap (λ b. cond b (Yields c.in-Pick.number (tasks_of c.args.call.now.tasks))
+    (Goes (AsksSelector (selector_tree c.in-Pick.rest) ∷ tasks_of c.args.call.now.tasks))) (sym c.is_set.ensures ∙ c.if-is_set.true)) p)
+    c.leave_constant.ensures.ok
 
 pub returns-else-is_set-clause-ok : goal.returns-else-is_set-clause-ok
 returns-else-is_set-clause-ok c =
-    on_ok_weaker c.add.result (λ p. goes (AsksSelector (selector_tree c.args.selector.now)) c.args.call.now c.add.new.tasks (ap (λ x. view (body_of c.args.call.now.function.now) (guards_of c.args.call.now.guards) (AsksSelector x ∷ tasks_of c.args.call.now.tasks)) (ap selector_tree c.in-Pick.is ∙ selector-Pick c.in-Pick.label c.in-Pick.number c.in-Pick.rest) ∙ ap (λ b. cond b (Yields c.in-Pick.number (tasks_of c.args.call.now.tasks)) (Goes (AsksSelector (selector_tree c.in-Pick.rest) ∷ tasks_of c.args.call.now.tasks))) (sym c.is_set.ensures ∙ c.if-is_set.false) ∙ ap Goes (sym (p ∙ ap (λ t. AsksSelector (selector_tree t) ∷ tasks_of c.args.call.now.tasks) c.get.ensures)))) c.add.ensures.ok
+    on_ok_weaker c.add.result (λ p. goes (AsksSelector (selector_tree c.args.selector.now)) c.args.call.now c.add.new.tasks
+    (ap (λ x. view (body_of c.args.call.now.function.now) (guards_of c.args.call.now.guards) (AsksSelector x ∷ tasks_of c.args.call.now.tasks))
+    (ap selector_tree c.in-Pick.is ∙ selector-Pick c.in-Pick.label c.in-Pick.number c.in-Pick.rest) ∙
+    ap (λ b. cond b (Yields c.in-Pick.number (tasks_of c.args.call.now.tasks))
+    (Goes (AsksSelector (selector_tree c.in-Pick.rest) ∷ tasks_of c.args.call.now.tasks))) (sym c.is_set.ensures ∙ c.if-is_set.false) ∙
+    ap Goes (sym (p ∙ ap (λ t. AsksSelector (selector_tree t) ∷ tasks_of c.args.call.now.tasks) c.get.ensures)))) c.add.ensures.ok

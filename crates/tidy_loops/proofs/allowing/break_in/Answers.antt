@@ -7,12 +7,14 @@ use Rattle.tidy_loops.proofs.allowing.break_in.Goals as goal
 pub returns-then-branch : goal.returns-then-branch
 returns-then-branch c =
     let P = breaks (count_in c.args.counts.now) c.args.level (trees_of c.args.list.now) (trees_of c.args.rest.now) in
-    sym (ap (allowed P) (ap stop_slot (test_same c.args.test.now) ∙ sym c.in-Some.ensures) ∙ ap (λ b. cond b (Some c.in-Some.slot) None) (sym c.in_ok-breaks-in-Some.ensures ∙ c.if-branch.true))
+    sym (ap (allowed P) (ap stop_slot (test_same c.args.test.now) ∙ sym c.in-Some.ensures) ∙
+    ap (λ b. cond b (Some c.in-Some.slot) None) (sym c.in_ok-breaks-in-Some.ensures ∙ c.if-branch.true))
 
 pub returns-else-branch : goal.returns-else-branch
 returns-else-branch c =
     let P = breaks (count_in c.args.counts.now) c.args.level (trees_of c.args.list.now) (trees_of c.args.rest.now) in
-    sym (ap (allowed P) (ap stop_slot (test_same c.args.test.now) ∙ sym c.in-Some.ensures) ∙ ap (λ b. cond b (Some c.in-Some.slot) None) (sym c.in_ok-breaks-in-Some.ensures ∙ c.if-branch.false))
+    sym (ap (allowed P) (ap stop_slot (test_same c.args.test.now) ∙ sym c.in-Some.ensures) ∙
+    ap (λ b. cond b (Some c.in-Some.slot) None) (sym c.in_ok-breaks-in-Some.ensures ∙ c.if-branch.false))
 
 pub returns-in-None : goal.returns-in-None
 returns-in-None c =

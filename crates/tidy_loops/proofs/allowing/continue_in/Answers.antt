@@ -10,5 +10,6 @@ returns c =
     let k = count_in c.args.counts.now in
     let xs = c.args.list.now in
     subst (λ z. IfOk c.continue_before.result (λ it. it ≡ z))
-    (ap₂ (λ a s. allowed (continues k c.args.level a) s) (ap trees_of c.split_last.ensures.front ∙ front_is xs) (c.first_reset.ensures ∙ ap (λ z. first_reset (trees_of z)) c.split_last.ensures.back ∙ back_is xs))
+    (ap₂ (λ a s. allowed (continues k c.args.level a) s) (ap trees_of c.split_last.ensures.front ∙ front_is xs)
+    (c.first_reset.ensures ∙ ap (λ z. first_reset (trees_of z)) c.split_last.ensures.back ∙ back_is xs))
     c.continue_before.ensures

@@ -8,4 +8,5 @@ use Rattle.tidy_loops.proofs.counting.is_set.Goals as goal
 pub returns : goal.returns
 returns c =
     let e : c.is_some.result ≡ is_some (option_copied c.set_value.result) = search rules in
-    e ∙ is_some_map expression_tree (option_copied c.set_value.result) _ c.set_value.ensures ∙ ap (λ z. is_some (set_value c.args.slot z)) (sym (expression_same c.args.e.now))
+    e ∙ is_some_map expression_tree (option_copied c.set_value.result) _ c.set_value.ensures ∙
+    ap (λ z. is_some (set_value c.args.slot z)) (sym (expression_same c.args.e.now))

@@ -14,4 +14,5 @@ returns c =
     let k : length c.in_ok-kept.kept ≡ n = ap length y ∙ zeros_long n in
     tells f c.in_ok-counts.counts c.count_body.new.counts c.keep_body.new.kept z c.in_ok-count_body.ensures (c.keep_body.ensures.as_long ∙ k)
     (λ g h. c.keep_body.ensures.kept g (omega (arith, h, k))
-    ∙ ap (cond (is_free f g && declares g (items_in c.args.function.now.body)) (count_in c.count_body.new.counts g)) (ap (λ xs. count_in xs g) y ∙ zeros_in n g))
+    ∙ ap (cond (is_free f g && declares g (items_in c.args.function.now.body)) (count_in c.count_body.new.counts g))
+    (ap (λ xs. count_in xs g) y ∙ zeros_in n g))

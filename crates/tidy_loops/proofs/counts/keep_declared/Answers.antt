@@ -14,7 +14,8 @@ loop-i-preserved c =
     let xs = c.args.items.now in
     let i = c.loop-i.i in
     let x = c.index-items-i.result in
-    one_more_kept (function_tree c.args.function.now) c.args.counts.now (trees_of xs) c.args.kept.now (trees_of (drop i xs)) c.loop-i.kept (tree_at x) (trees_of (drop (i + 1) xs)) c.keep_if.new.kept
+    one_more_kept (function_tree c.args.function.now) c.args.counts.now (trees_of xs) c.args.kept.now (trees_of (drop i xs)) c.loop-i.kept (tree_at x)
+    (trees_of (drop (i + 1) xs)) c.keep_if.new.kept
     (trees-at xs i x c.loop-i-test.true c.index-items-i.is) c.keep_if.ensures.as_long c.keep_if.ensures.kept c.loop-i.invariant
 
 pub returns : goal.returns
@@ -24,5 +25,6 @@ returns c =
     record {
       as_long = c.loop-i.invariant.as_long;
       kept =
-          all_kept (function_tree c.args.function.now) c.args.counts.now (trees_of xs) c.args.kept.now (trees_of (drop i xs)) c.loop-i.kept (trees-end xs i c.loop-i-test.false) c.loop-i.invariant;
+          all_kept (function_tree c.args.function.now) c.args.counts.now (trees_of xs) c.args.kept.now (trees_of (drop i xs)) c.loop-i.kept
+          (trees-end xs i c.loop-i-test.false) c.loop-i.invariant;
     }

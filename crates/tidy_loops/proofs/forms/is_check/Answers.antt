@@ -14,4 +14,5 @@ returns-in-If c =
     let t = c.in-If.test in
     let a = c.in-If.field-1 in
     let b = c.in-If.other in
-    c.checks.ensures ∙ ap (λ z. checks g z (trees_of b)) (sym (test_same t)) ∙ sym (check_if g (test_tree t) (trees_of a) (trees_of b)) ∙ ap (is_check g) (sym (at-If t a b)) ∙ sym (ap (λ y. is_check g (tree_at y)) c.in-If.is)
+    c.checks.ensures ∙ ap (λ z. checks g z (trees_of b)) (sym (test_same t)) ∙ sym (check_if g (test_tree t) (trees_of a) (trees_of b)) ∙
+    ap (is_check g) (sym (at-If t a b)) ∙ sym (ap (λ y. is_check g (tree_at y)) c.in-If.is)

@@ -6,7 +6,8 @@ pub returns-then-at-items : goal.returns-then-at-items
 returns-then-at-items c = end_none c.args.slot c.args.at c.args.items.now (omega (arith, c.if-at-items.true))
 
 pub returns-then-at-items-2 : goal.returns-then-at-items-2
-returns-then-at-items-2 c = c.is_check.ensures ∙ end_one c.args.slot c.args.at c.args.items.now c.index-items-at.result (omega (arith, c.if-at-items-2.true)) c.index-items-at.is
+returns-then-at-items-2 c = c.is_check.ensures ∙ end_one c.args.slot c.args.at c.args.items.now c.index-items-at.result
+    (omega (arith, c.if-at-items-2.true)) c.index-items-at.is
 
 pub returns-else-at-items-2 : goal.returns-else-at-items-2
 returns-else-at-items-2 c =

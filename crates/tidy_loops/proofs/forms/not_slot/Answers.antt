@@ -5,4 +5,5 @@ use Rattle.tidy_loops.proofs.FormLaws.{expression_same}
 use Rattle.tidy_loops.proofs.forms.not_slot.Goals as goal
 
 pub returns-in-Not : goal.returns-in-Not
-returns-in-Not c = c.read_slot.ensures ∙ ap read_slot (sym (expression_same c.args.a.now)) ∙ sym (ap (λ o. unary_off o (expression_tree c.args.a.now)) c.in-Not.is)
+returns-in-Not c = c.read_slot.ensures ∙ ap read_slot (sym (expression_same c.args.a.now)) ∙
+    sym (ap (λ o. unary_off o (expression_tree c.args.a.now)) c.in-Not.is)

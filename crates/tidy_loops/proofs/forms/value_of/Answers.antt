@@ -11,7 +11,8 @@ pub returns-then-not-is_it : goal.returns-then-not-is_it
 returns-then-not-is_it c =
     let g = c.args.slot in
     let e = expression_tree c.args.value.now in
-    sym (value_when g (place_tree c.args.place.now) e false (is_narrow_expression e) (lacks g e) (ap (is_it g) (sym c.place_slot.ensures) ∙ sym c.is_it.ensures ∙ c.if-not-is_it.true) refl refl)
+    sym (value_when g (place_tree c.args.place.now) e false (is_narrow_expression e) (lacks g e)
+    (ap (is_it g) (sym c.place_slot.ensures) ∙ sym c.is_it.ensures ∙ c.if-not-is_it.true) refl refl)
 
 pub returns-then-not-is_narrow : goal.returns-then-not-is_narrow
 returns-then-not-is_narrow c =

@@ -11,7 +11,8 @@ pub inner-returns : goal.inner-returns
 inner-returns t c =
     let g = c.args.slot in
     on_ok_weaker c.give_ways.result
-    (λ h. list_made g (each_inner g) (inner g) (inner_given g) c.args.list.now c.as_slice.result.now c.as_mut_slice.result.now c.inner_items.new.items c.in_ok-checks.checks (trees_of c.give_ways.new.list)
+    (λ h. list_made g (each_inner g) (inner g) (inner_given g) c.args.list.now c.as_slice.result.now c.as_mut_slice.result.now c.inner_items.new.items
+    c.in_ok-checks.checks (trees_of c.give_ways.new.list)
     c.as_slice.ensures.value c.in_ok-checks.ensures c.as_mut_slice.ensures.value c.inner_items.ensures.as_long c.in_ok-inner_items.ensures.made h)
     c.give_ways.ensures
 

@@ -6,12 +6,14 @@ use Rattle.tidy_loops.proofs.levels.+low.Goals as goal
 
 pub items_are_low-returns-then-not-branch : goal.items_are_low-returns-then-not-branch
 items_are_low-returns-then-not-branch t c =
-    low_first c.args.slot c.args.level c.args.items.now c.loop-i.i c.index-items-i.result false c.loop-i-test.true c.index-items-i.is (sym c.in_ok-is_low.ensures ∙ c.if-not-branch.true)
+    low_first c.args.slot c.args.level c.args.items.now c.loop-i.i c.index-items-i.result false c.loop-i-test.true c.index-items-i.is
+    (sym c.in_ok-is_low.ensures ∙ c.if-not-branch.true)
     ∙ c.loop-i.invariant
 
 pub items_are_low-loop-i-preserved : goal.items_are_low-loop-i-preserved
 items_are_low-loop-i-preserved t c =
-    low_first c.args.slot c.args.level c.args.items.now c.loop-i.i c.index-items-i.result true c.loop-i-test.true c.index-items-i.is (sym c.in_ok-is_low.ensures ∙ c.if-not-branch.false)
+    low_first c.args.slot c.args.level c.args.items.now c.loop-i.i c.index-items-i.result true c.loop-i-test.true c.index-items-i.is
+    (sym c.in_ok-is_low.ensures ∙ c.if-not-branch.false)
     ∙ c.loop-i.invariant
 
 pub items_are_low-returns : goal.items_are_low-returns

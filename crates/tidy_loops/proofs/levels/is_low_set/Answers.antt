@@ -12,13 +12,15 @@ returns-in-None c =
 pub returns-then-is_number : goal.returns-then-is_number
 returns-then-is_number c =
     let v = expression_tree c.in-Some.value.now in
-    let e : Some v ≡ set_value c.args.slot (expression_tree c.args.e.now) = c.in-Some.ensures ∙ ap (set_value c.args.slot) (sym (expression_same c.args.e.now)) in
+    let e : Some v ≡ set_value c.args.slot (expression_tree c.args.e.now) =
+    c.in-Some.ensures ∙ ap (set_value c.args.slot) (sym (expression_same c.args.e.now)) in
     let n = ap (is_number 1) (expression_same c.in-Some.value.now) ∙ sym c.is_number.ensures in
     c.if-is_number.true ∙ sym (ap (λ b. b || leb c.args.level 399) (n ∙ c.if-is_number.true)) ∙ ap (low_set c.args.level) e
 
 pub returns-else-is_number : goal.returns-else-is_number
 returns-else-is_number c =
     let v = expression_tree c.in-Some.value.now in
-    let e : Some v ≡ set_value c.args.slot (expression_tree c.args.e.now) = c.in-Some.ensures ∙ ap (set_value c.args.slot) (sym (expression_same c.args.e.now)) in
+    let e : Some v ≡ set_value c.args.slot (expression_tree c.args.e.now) =
+    c.in-Some.ensures ∙ ap (set_value c.args.slot) (sym (expression_same c.args.e.now)) in
     let n = ap (is_number 1) (expression_same c.in-Some.value.now) ∙ sym c.is_number.ensures in
     sym (ap (λ b. b || leb c.args.level 399) (n ∙ c.if-is_number.false)) ∙ ap (low_set c.args.level) e

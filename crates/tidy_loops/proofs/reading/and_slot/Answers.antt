@@ -6,4 +6,5 @@ use Rattle.tidy_loops.specs.Slots.{and_slot}
 use Rattle.tidy_loops.proofs.reading.and_slot.Goals as goal
 
 pub returns-in-AndThen : goal.returns-in-AndThen
-returns-in-AndThen c = c.off_slot.ensures ∙ ap off_slot (sym (expression_same c.args.e.now)) ∙ sym (ap (λ o. and_slot o (expression_tree c.args.e.now)) c.in-AndThen.is)
+returns-in-AndThen c = c.off_slot.ensures ∙ ap off_slot (sym (expression_same c.args.e.now)) ∙
+    sym (ap (λ o. and_slot o (expression_tree c.args.e.now)) c.in-AndThen.is)

@@ -7,4 +7,5 @@ use Rattle.tidy_loops.proofs.reading.reset_slot.Goals as goal
 
 pub returns-in-Evaluate : goal.returns-in-Evaluate
 returns-in-Evaluate c =
-    c.reset_slot_of.ensures ∙ ap reset_in (sym (expression_same c.in-Evaluate.e)) ∙ sym (ap reset_slot (ap tree_at c.in-Evaluate.is ∙ at-Evaluate c.in-Evaluate.e))
+    c.reset_slot_of.ensures ∙ ap reset_in (sym (expression_same c.in-Evaluate.e)) ∙
+    sym (ap reset_slot (ap tree_at c.in-Evaluate.is ∙ at-Evaluate c.in-Evaluate.e))

@@ -8,4 +8,5 @@ use Rattle.tidy_loops.proofs.reading.second_half.Goals as goal
 
 pub returns-in-Source : goal.returns-in-Source
 returns-in-Source c =
-    c.second_half_of.ensures ∙ ap (λ z. second_half (Source z)) (sym (expression_same c.in-Source.e)) ∙ sym (ap second_half (ap test_at c.in-Source.is ∙ at_source c.in-Source.e))
+    c.second_half_of.ensures ∙ ap (λ z. second_half (Source z)) (sym (expression_same c.in-Source.e)) ∙
+    sym (ap second_half (ap test_at c.in-Source.is ∙ at_source c.in-Source.e))

@@ -8,4 +8,5 @@ use Rattle.tidy_loops.proofs.reading.stop_slot.Goals as goal
 
 pub returns-in-Source : goal.returns-in-Source
 returns-in-Source c =
-    c.stop_slot_of.ensures ∙ ap (λ z. stop_slot (Source z)) (sym (expression_same c.in-Source.e)) ∙ sym (ap stop_slot (ap test_at c.in-Source.is ∙ at_source c.in-Source.e))
+    c.stop_slot_of.ensures ∙ ap (λ z. stop_slot (Source z)) (sym (expression_same c.in-Source.e)) ∙
+    sym (ap stop_slot (ap test_at c.in-Source.is ∙ at_source c.in-Source.e))

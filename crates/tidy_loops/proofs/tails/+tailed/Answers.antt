@@ -12,7 +12,8 @@ tailed-returns t c =
     let g = c.args.slot in
     let l = jump_of c.args.exit in
     on_ok_weaker c.give_ways.result
-    (λ h. list_made g (each_tailed g l) (tailed g l) (tailed_given g l) c.args.list.now c.as_slice.result.now c.as_mut_slice.result.now c.tailed_items.new.items c.in_ok-checks.checks (trees_of c.give_ways.new.list)
+    (λ h. list_made g (each_tailed g l) (tailed g l) (tailed_given g l) c.args.list.now c.as_slice.result.now c.as_mut_slice.result.now
+    c.tailed_items.new.items c.in_ok-checks.checks (trees_of c.give_ways.new.list)
     c.as_slice.ensures.value c.in_ok-checks.ensures c.as_mut_slice.ensures.value c.tailed_items.ensures.as_long c.in_ok-tailed_items.ensures.made h)
     c.give_ways.ensures
 
@@ -25,7 +26,8 @@ tailed_items-loop-i-preserved t c =
     let new = c.loop-i.items in
     let y = c.tailed_item.new.item in (
       one_visited old new c.loop-i.i y c.loop-i.invariant.0,
-      one_tailed c.args.slot (jump_of c.args.exit) old new c.loop-i.i c.index-items-i.result y c.is_last-last.result (omega (arith, c.loop-i-test.true, c.loop-i.invariant.0.0)) c.index-items-i.is c.is_last-last.ensures c.in_ok-tailed_item.ensures
+      one_tailed c.args.slot (jump_of c.args.exit) old new c.loop-i.i c.index-items-i.result y c.is_last-last.result
+          (omega (arith, c.loop-i-test.true, c.loop-i.invariant.0.0)) c.index-items-i.is c.is_last-last.ensures c.in_ok-tailed_item.ensures
           c.loop-i.invariant.1,
     )
 

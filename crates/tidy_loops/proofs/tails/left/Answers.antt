@@ -11,7 +11,8 @@ pub returns-in_ok-leaving-in-Some : goal.returns-in_ok-leaving-in-Some
 returns-in_ok-leaving-in-Some c =
     let l = jump_of c.args.exit in
     let x = expression_tree c.in-Evaluate.e in
-    let e : Some (expression_tree c.in-Some.value.now) ≡ set_value c.args.slot x = c.in-Some.ensures ∙ ap (set_value c.args.slot) (sym (expression_same c.in-Evaluate.e)) in
+    let e : Some (expression_tree c.in-Some.value.now) ≡ set_value c.args.slot x =
+    c.in-Some.ensures ∙ ap (set_value c.args.slot) (sym (expression_same c.in-Evaluate.e)) in
     c.in_ok-leaving-in-Some.ensures ∙ ap (set_or l x) e ∙ sym (ap (left_at c.args.slot l) (ap tree_at c.in-Evaluate.is ∙ at-Evaluate c.in-Evaluate.e))
 
 pub returns-in-None : goal.returns-in-None

@@ -9,5 +9,6 @@ use Rattle.tidy_loops.proofs.ways.add.Goals as goal
 pub returns-else-gives : goal.returns-else-gives
 returns-else-gives c =
     on_ok_weaker c.push.result
-    (λ h. ap trees_of h ∙ trees-push c.args.out.now c.args.item ∙ sym (ap (λ b. join (trees_of c.args.out.now) (way_given b (tree_at c.args.item))) c.if-gives.false))
+    (λ h. ap trees_of h ∙ trees-push c.args.out.now c.args.item ∙ sym
+    (ap (λ b. join (trees_of c.args.out.now) (way_given b (tree_at c.args.item))) c.if-gives.false))
     c.push.ensures.ok

@@ -12,7 +12,8 @@ pub returns-then-has_local : goal.returns-then-has_local
 returns-then-has_local c =
     let l = ap (λ z. has_local (trees_of z)) (sym c.as_slice.ensures.value) ∙ sym c.has_local.ensures ∙ c.if-has_local.true in
     on_ok_weaker c.push.result
-    (λ h. ap trees_of h ∙ trees-push c.args.out.now (Block c.args.list) ∙ ap (λ z. join (trees_of c.args.out.now) (one z)) (at-Block c.args.list) ∙ ap (join (trees_of c.args.out.now)) (given_block (trees_of c.args.list) l))
+    (λ h. ap trees_of h ∙ trees-push c.args.out.now (Block c.args.list) ∙ ap (λ z. join (trees_of c.args.out.now) (one z)) (at-Block c.args.list) ∙
+    ap (join (trees_of c.args.out.now)) (given_block (trees_of c.args.list) l))
     c.push.ensures.ok
 
 pub returns-else-has_local : goal.returns-else-has_local

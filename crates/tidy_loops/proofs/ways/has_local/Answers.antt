@@ -10,10 +10,12 @@ step (Local x es) xs = refl
 step _ xs = refl
 
 pub returns-then-is_local : goal.returns-then-is_local
-returns-then-is_local c = found has_local is_local step c.args.items.now c.loop-i.i c.index-items-i.result c.loop-i-test.true c.index-items-i.is c.loop-i.invariant c.is_local.result c.is_local.ensures c.if-is_local.true
+returns-then-is_local c = found has_local is_local step c.args.items.now c.loop-i.i c.index-items-i.result c.loop-i-test.true c.index-items-i.is
+    c.loop-i.invariant c.is_local.result c.is_local.ensures c.if-is_local.true
 
 pub loop-i-preserved : goal.loop-i-preserved
-loop-i-preserved c = passed has_local is_local step c.args.items.now c.loop-i.i c.index-items-i.result c.loop-i-test.true c.index-items-i.is c.loop-i.invariant c.is_local.result c.is_local.ensures c.if-is_local.false
+loop-i-preserved c = passed has_local is_local step c.args.items.now c.loop-i.i c.index-items-i.result c.loop-i-test.true c.index-items-i.is
+    c.loop-i.invariant c.is_local.result c.is_local.ensures c.if-is_local.false
 
 pub returns : goal.returns
 returns c = missed has_local refl c.args.items.now c.loop-i.i c.loop-i-test.false c.loop-i.invariant

@@ -21,24 +21,35 @@ pub node_names-returns-in-Cast : goal.node_names-returns-in-Cast
 node_names-returns-in-Cast t c = rw (in-Cast c.args.slot c.args.node.now c.in-Cast.a c.in-Cast.is) (search rules)
 
 pub node_names-returns-in-Binary : goal.node_names-returns-in-Binary
-node_names-returns-in-Binary t c = rw (in-Binary c.args.slot c.args.node.now c.in-Binary.field-0 c.in-Binary.a c.in-Binary.b c.in-Binary.is) (either_named c.names-a.result c.names-b.result (lacks c.args.slot (expression_tree c.in-Binary.a)) (lacks c.args.slot (expression_tree c.in-Binary.b)) (search rules) (search rules))
+node_names-returns-in-Binary t c = rw (in-Binary c.args.slot c.args.node.now c.in-Binary.field-0 c.in-Binary.a c.in-Binary.b c.in-Binary.is)
+    (either_named c.names-a.result c.names-b.result (lacks c.args.slot (expression_tree c.in-Binary.a))
+    (lacks c.args.slot (expression_tree c.in-Binary.b)) (search rules) (search rules))
 
 pub node_names-returns-in-Conditional : goal.node_names-returns-in-Conditional
-node_names-returns-in-Conditional t c = rw (in-Conditional c.args.slot c.args.node.now c.in-Conditional.a c.in-Conditional.b c.in-Conditional.c c.in-Conditional.is)
-    (either_named c.names-a-in-Conditional.result _ (lacks c.args.slot (expression_tree c.in-Conditional.a)) (lacks c.args.slot (expression_tree c.in-Conditional.b) && lacks c.args.slot (expression_tree c.in-Conditional.c)) (search rules)
-    (either_named c.names-b-in-Conditional.result c.names-c.result (lacks c.args.slot (expression_tree c.in-Conditional.b)) (lacks c.args.slot (expression_tree c.in-Conditional.c)) (search rules) (search rules)))
+node_names-returns-in-Conditional t c = rw (in-Conditional c.args.slot c.args.node.now c.in-Conditional.a c.in-Conditional.b c.in-Conditional.c
+    c.in-Conditional.is)
+    (either_named c.names-a-in-Conditional.result _ (lacks c.args.slot (expression_tree c.in-Conditional.a))
+    (lacks c.args.slot (expression_tree c.in-Conditional.b) && lacks c.args.slot (expression_tree c.in-Conditional.c)) (search rules)
+    (either_named c.names-b-in-Conditional.result c.names-c.result (lacks c.args.slot (expression_tree c.in-Conditional.b))
+    (lacks c.args.slot (expression_tree c.in-Conditional.c)) (search rules) (search rules)))
 
 pub node_names-returns-in-Assign : goal.node_names-returns-in-Assign
-node_names-returns-in-Assign t c = rw (in-Assign c.args.slot c.args.node.now c.in-Assign.place c.in-Assign.a c.in-Assign.is) (either_named c.place_names-place.result c.names-a-in-Assign.result (place_lacks c.args.slot (place_tree c.in-Assign.place)) (lacks c.args.slot (expression_tree c.in-Assign.a)) (search rules) (search rules))
+node_names-returns-in-Assign t c = rw (in-Assign c.args.slot c.args.node.now c.in-Assign.place c.in-Assign.a c.in-Assign.is)
+    (either_named c.place_names-place.result c.names-a-in-Assign.result (place_lacks c.args.slot (place_tree c.in-Assign.place))
+    (lacks c.args.slot (expression_tree c.in-Assign.a)) (search rules) (search rules))
 
 pub node_names-returns-in-Update : goal.node_names-returns-in-Update
-node_names-returns-in-Update t c = rw (in-Update c.args.slot c.args.node.now c.in-Update.field-0 c.in-Update.place c.in-Update.a c.in-Update.is) (either_named c.place_names-place-in-Update.result c.names-a-in-Update.result (place_lacks c.args.slot (place_tree c.in-Update.place)) (lacks c.args.slot (expression_tree c.in-Update.a)) (search rules) (search rules))
+node_names-returns-in-Update t c = rw (in-Update c.args.slot c.args.node.now c.in-Update.field-0 c.in-Update.place c.in-Update.a c.in-Update.is)
+    (either_named c.place_names-place-in-Update.result c.names-a-in-Update.result (place_lacks c.args.slot (place_tree c.in-Update.place))
+    (lacks c.args.slot (expression_tree c.in-Update.a)) (search rules) (search rules))
 
 pub node_names-returns-in-Count : goal.node_names-returns-in-Count
 node_names-returns-in-Count t c = rw (in-Count c.args.slot c.args.node.now c.in-Count.place c.in-Count.field-1 c.in-Count.field-2 c.in-Count.is) (search rules)
 
 pub node_names-returns-in-Comma : goal.node_names-returns-in-Comma
-node_names-returns-in-Comma t c = rw (in-Comma c.args.slot c.args.node.now c.in-Comma.a c.in-Comma.b c.in-Comma.is) (either_named c.names-a-in-Comma.result c.names-b-in-Comma.result (lacks c.args.slot (expression_tree c.in-Comma.a)) (lacks c.args.slot (expression_tree c.in-Comma.b)) (search rules) (search rules))
+node_names-returns-in-Comma t c = rw (in-Comma c.args.slot c.args.node.now c.in-Comma.a c.in-Comma.b c.in-Comma.is)
+    (either_named c.names-a-in-Comma.result c.names-b-in-Comma.result (lacks c.args.slot (expression_tree c.in-Comma.a))
+    (lacks c.args.slot (expression_tree c.in-Comma.b)) (search rules) (search rules))
 
 pub node_names-returns-in-Call : goal.node_names-returns-in-Call
 node_names-returns-in-Call t c = rw (in-Call c.args.slot c.args.node.now c.in-Call.field-0 c.in-Call.xs c.in-Call.is) (search rules)
@@ -59,13 +70,20 @@ pub place_names-returns-in-Var : goal.place_names-returns-in-Var
 place_names-returns-in-Var t c = rw (in-Var c.args.slot c.args.place.now c.in-Var.home c.in-Var.is) (search rules)
 
 pub place_names-returns-in-Cell : goal.place_names-returns-in-Cell
-place_names-returns-in-Cell t c = rw (in-Cell c.args.slot c.args.place.now c.in-Cell.home c.in-Cell.a c.in-Cell.is) (either_named c.home_names-home.result c.names-a.result (home_lacks c.args.slot c.in-Cell.home) (lacks c.args.slot (expression_tree c.in-Cell.a)) (search rules) (search rules))
+place_names-returns-in-Cell t c = rw (in-Cell c.args.slot c.args.place.now c.in-Cell.home c.in-Cell.a c.in-Cell.is)
+    (either_named c.home_names-home.result c.names-a.result (home_lacks c.args.slot c.in-Cell.home) (lacks c.args.slot (expression_tree c.in-Cell.a))
+    (search rules) (search rules))
 
 pub any_names-returns-then-names : goal.any_names-returns-then-names
-any_names-returns-then-names t c = found_named (λ x. not (lacks c.args.slot (expression_tree x))) (any_named c.args.slot) (λ x xs. either_lacks (lacks c.args.slot (expression_tree x)) _) c.args.items.now c.loop-i.i c.index-items-i.result c.loop-i-test.true c.index-items-i.is c.loop-i.invariant c.names.result c.names.ensures c.if-names.true
+any_names-returns-then-names t c = found_named (λ x. not (lacks c.args.slot (expression_tree x))) (any_named c.args.slot)
+    (λ x xs. either_lacks (lacks c.args.slot (expression_tree x)) _) c.args.items.now c.loop-i.i c.index-items-i.result c.loop-i-test.true
+    c.index-items-i.is c.loop-i.invariant c.names.result c.names.ensures c.if-names.true
 
 pub any_names-loop-i-preserved : goal.any_names-loop-i-preserved
-any_names-loop-i-preserved t c = passed_named (λ x. not (lacks c.args.slot (expression_tree x))) (any_named c.args.slot) (λ x xs. either_lacks (lacks c.args.slot (expression_tree x)) _) c.args.items.now c.loop-i.i c.index-items-i.result c.loop-i-test.true c.index-items-i.is c.loop-i.invariant c.names.result c.names.ensures c.if-names.false
+any_names-loop-i-preserved t c = passed_named (λ x. not (lacks c.args.slot (expression_tree x))) (any_named c.args.slot)
+    (λ x xs. either_lacks (lacks c.args.slot (expression_tree x)) _) c.args.items.now c.loop-i.i c.index-items-i.result c.loop-i-test.true
+    c.index-items-i.is c.loop-i.invariant c.names.result c.names.ensures c.if-names.false
 
 pub any_names-returns : goal.any_names-returns
-any_names-returns t c = none_named (λ x. not (lacks c.args.slot (expression_tree x))) (any_named c.args.slot) (λ x xs. either_lacks (lacks c.args.slot (expression_tree x)) _) refl c.args.items.now c.loop-i.i c.loop-i-test.false c.loop-i.invariant
+any_names-returns t c = none_named (λ x. not (lacks c.args.slot (expression_tree x))) (any_named c.args.slot)
+    (λ x xs. either_lacks (lacks c.args.slot (expression_tree x)) _) refl c.args.items.now c.loop-i.i c.loop-i-test.false c.loop-i.invariant

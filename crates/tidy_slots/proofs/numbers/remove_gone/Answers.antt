@@ -13,7 +13,8 @@ loop-i-preserved c =
     let q : i ≡ suc (i - 1) = omega (arith, c.loop-i-test.true) in
     let m : i - 1 < length c.args.gone.now = omega (arith, q, c.loop-i.invariant.0) in (
       omega (arith, m),
-      one_taken c.args.gone.now c.args.slots.now c.loop-i.slots c.remove_if.new.slots (i - 1) i (get_or c.as_slice-marks.result.now (i - 1) false) q m c.requires
+      one_taken c.args.gone.now c.args.slots.now c.loop-i.slots c.remove_if.new.slots (i - 1) i (get_or c.as_slice-marks.result.now (i - 1) false) q m
+          c.requires
           (ap (λ xs. get_or xs (i - 1) false) c.as_slice-marks.ensures.value) c.remove_if.ensures c.loop-i.invariant.1,
     )
 

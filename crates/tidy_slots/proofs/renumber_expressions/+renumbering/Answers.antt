@@ -19,46 +19,62 @@ renumbered_node-returns-in-Read t c =
 pub renumbered_node-returns-in-Unary : goal.renumbered_node-returns-in-Unary
 renumbered_node-returns-in-Unary t c =
     let g = number c.args.numbers.now in
-    in-Unary g c.args.node c.in-Unary.op c.in-Unary.a c.renumber_expression.new.e c.in-Unary.is (lent g c.in-Unary.a c.get_mut.result.now c.renumber_expression.new.e c.get_mut.ensures.value c.renumber_expression.ensures)
+    in-Unary g c.args.node c.in-Unary.op c.in-Unary.a c.renumber_expression.new.e c.in-Unary.is
+    (lent g c.in-Unary.a c.get_mut.result.now c.renumber_expression.new.e c.get_mut.ensures.value c.renumber_expression.ensures)
 
 pub renumbered_node-returns-in-Cast : goal.renumbered_node-returns-in-Cast
 renumbered_node-returns-in-Cast t c =
     let g = number c.args.numbers.now in
-    in-Cast g c.args.node c.in-Cast.a c.renumber_expression-in-Cast.new.e c.in-Cast.is (lent g c.in-Cast.a c.get_mut-in-Cast.result.now c.renumber_expression-in-Cast.new.e c.get_mut-in-Cast.ensures.value c.renumber_expression-in-Cast.ensures)
+    in-Cast g c.args.node c.in-Cast.a c.renumber_expression-in-Cast.new.e c.in-Cast.is
+    (lent g c.in-Cast.a c.get_mut-in-Cast.result.now c.renumber_expression-in-Cast.new.e c.get_mut-in-Cast.ensures.value
+    c.renumber_expression-in-Cast.ensures)
 
 pub renumbered_node-returns-in-Binary : goal.renumbered_node-returns-in-Binary
 renumbered_node-returns-in-Binary t c =
     let g = number c.args.numbers.now in
-    in-Binary g c.args.node c.in-Binary.op c.in-Binary.a c.in-Binary.b c.renumber_expression-in-Binary.new.e c.renumber_expression-in-Binary-2.new.e c.in-Binary.is
-    (lent g c.in-Binary.a c.get_mut-in-Binary.result.now c.renumber_expression-in-Binary.new.e c.get_mut-in-Binary.ensures.value c.renumber_expression-in-Binary.ensures)
-    (lent g c.in-Binary.b c.get_mut-in-Binary-2.result.now c.renumber_expression-in-Binary-2.new.e c.get_mut-in-Binary-2.ensures.value c.renumber_expression-in-Binary-2.ensures)
+    in-Binary g c.args.node c.in-Binary.op c.in-Binary.a c.in-Binary.b c.renumber_expression-in-Binary.new.e c.renumber_expression-in-Binary-2.new.e
+    c.in-Binary.is
+    (lent g c.in-Binary.a c.get_mut-in-Binary.result.now c.renumber_expression-in-Binary.new.e c.get_mut-in-Binary.ensures.value
+    c.renumber_expression-in-Binary.ensures)
+    (lent g c.in-Binary.b c.get_mut-in-Binary-2.result.now c.renumber_expression-in-Binary-2.new.e c.get_mut-in-Binary-2.ensures.value
+    c.renumber_expression-in-Binary-2.ensures)
 
 pub renumbered_node-returns-in-Comma : goal.renumbered_node-returns-in-Comma
 renumbered_node-returns-in-Comma t c =
     let g = number c.args.numbers.now in
     in-Comma g c.args.node c.in-Comma.a c.in-Comma.b c.renumber_expression-in-Comma.new.e c.renumber_expression-in-Comma-2.new.e c.in-Comma.is
-    (lent g c.in-Comma.a c.get_mut-in-Comma.result.now c.renumber_expression-in-Comma.new.e c.get_mut-in-Comma.ensures.value c.renumber_expression-in-Comma.ensures)
-    (lent g c.in-Comma.b c.get_mut-in-Comma-2.result.now c.renumber_expression-in-Comma-2.new.e c.get_mut-in-Comma-2.ensures.value c.renumber_expression-in-Comma-2.ensures)
+    (lent g c.in-Comma.a c.get_mut-in-Comma.result.now c.renumber_expression-in-Comma.new.e c.get_mut-in-Comma.ensures.value
+    c.renumber_expression-in-Comma.ensures)
+    (lent g c.in-Comma.b c.get_mut-in-Comma-2.result.now c.renumber_expression-in-Comma-2.new.e c.get_mut-in-Comma-2.ensures.value
+    c.renumber_expression-in-Comma-2.ensures)
 
 pub renumbered_node-returns-in-Conditional : goal.renumbered_node-returns-in-Conditional
 renumbered_node-returns-in-Conditional t c =
     let g = number c.args.numbers.now in
-    in-Conditional g c.args.node c.in-Conditional.a c.in-Conditional.b c.in-Conditional.c c.renumber_expression-in-Conditional.new.e c.renumber_expression-in-Conditional-2.new.e c.renumber_expression-in-Conditional-3.new.e c.in-Conditional.is
-    (lent g c.in-Conditional.a c.get_mut-in-Conditional.result.now c.renumber_expression-in-Conditional.new.e c.get_mut-in-Conditional.ensures.value c.renumber_expression-in-Conditional.ensures)
-    (lent g c.in-Conditional.b c.get_mut-in-Conditional-2.result.now c.renumber_expression-in-Conditional-2.new.e c.get_mut-in-Conditional-2.ensures.value c.renumber_expression-in-Conditional-2.ensures)
-    (lent g c.in-Conditional.c c.get_mut-in-Conditional-3.result.now c.renumber_expression-in-Conditional-3.new.e c.get_mut-in-Conditional-3.ensures.value c.renumber_expression-in-Conditional-3.ensures)
+    in-Conditional g c.args.node c.in-Conditional.a c.in-Conditional.b c.in-Conditional.c c.renumber_expression-in-Conditional.new.e
+    c.renumber_expression-in-Conditional-2.new.e c.renumber_expression-in-Conditional-3.new.e c.in-Conditional.is
+    (lent g c.in-Conditional.a c.get_mut-in-Conditional.result.now c.renumber_expression-in-Conditional.new.e c.get_mut-in-Conditional.ensures.value
+    c.renumber_expression-in-Conditional.ensures)
+    (lent g c.in-Conditional.b c.get_mut-in-Conditional-2.result.now c.renumber_expression-in-Conditional-2.new.e
+    c.get_mut-in-Conditional-2.ensures.value c.renumber_expression-in-Conditional-2.ensures)
+    (lent g c.in-Conditional.c c.get_mut-in-Conditional-3.result.now c.renumber_expression-in-Conditional-3.new.e
+    c.get_mut-in-Conditional-3.ensures.value c.renumber_expression-in-Conditional-3.ensures)
 
 pub renumbered_node-returns-in-Assign : goal.renumbered_node-returns-in-Assign
 renumbered_node-returns-in-Assign t c =
     let g = number c.args.numbers.now in
-    in-Assign g c.args.node c.in-Assign.place c.renumbered_place-in-Assign.result c.in-Assign.a c.renumber_expression-in-Assign.new.e c.in-Assign.is c.renumbered_place-in-Assign.ensures
-    (lent g c.in-Assign.a c.get_mut-in-Assign.result.now c.renumber_expression-in-Assign.new.e c.get_mut-in-Assign.ensures.value c.renumber_expression-in-Assign.ensures)
+    in-Assign g c.args.node c.in-Assign.place c.renumbered_place-in-Assign.result c.in-Assign.a c.renumber_expression-in-Assign.new.e c.in-Assign.is
+    c.renumbered_place-in-Assign.ensures
+    (lent g c.in-Assign.a c.get_mut-in-Assign.result.now c.renumber_expression-in-Assign.new.e c.get_mut-in-Assign.ensures.value
+    c.renumber_expression-in-Assign.ensures)
 
 pub renumbered_node-returns-in-Update : goal.renumbered_node-returns-in-Update
 renumbered_node-returns-in-Update t c =
     let g = number c.args.numbers.now in
-    in-Update g c.args.node c.in-Update.op c.in-Update.place c.renumbered_place-in-Update.result c.in-Update.a c.renumber_expression-in-Update.new.e c.in-Update.is c.renumbered_place-in-Update.ensures
-    (lent g c.in-Update.a c.get_mut-in-Update.result.now c.renumber_expression-in-Update.new.e c.get_mut-in-Update.ensures.value c.renumber_expression-in-Update.ensures)
+    in-Update g c.args.node c.in-Update.op c.in-Update.place c.renumbered_place-in-Update.result c.in-Update.a c.renumber_expression-in-Update.new.e
+    c.in-Update.is c.renumbered_place-in-Update.ensures
+    (lent g c.in-Update.a c.get_mut-in-Update.result.now c.renumber_expression-in-Update.new.e c.get_mut-in-Update.ensures.value
+    c.renumber_expression-in-Update.ensures)
 
 pub renumbered_node-returns-in-Count : goal.renumbered_node-returns-in-Count
 renumbered_node-returns-in-Count t c =
@@ -69,7 +85,8 @@ pub renumbered_node-returns-in-Call : goal.renumbered_node-returns-in-Call
 renumbered_node-returns-in-Call t c =
     let g = number c.args.numbers.now in
     in-Call g c.args.node c.in-Call.name c.in-Call.name c.in-Call.args _ c.in-Call.is refl
-    (ap (map expression_tree) (refilled_same c.in-Call.args c.as_mut_slice.result.now c.renumber_each.new.items c.as_mut_slice.ensures.value c.renumber_each.ensures.as_long)
+    (ap (map expression_tree) (refilled_same c.in-Call.args c.as_mut_slice.result.now c.renumber_each.new.items c.as_mut_slice.ensures.value
+    c.renumber_each.ensures.as_long)
     ∙ c.renumber_each.ensures.made ∙ ap (λ z. map (renamed g) (map expression_tree z)) c.as_mut_slice.ensures.value)
 
 pub renumbered_node-returns-in-Number : goal.renumbered_node-returns-in-Number
@@ -104,7 +121,8 @@ renumbered_place-returns-in-Cell t c =
 pub renumber_expression-returns : goal.renumber_expression-returns
 renumber_expression-returns t c =
     ap expression_tree c.replace-old.ensures.after
-    ∙ whole (number c.args.numbers.now) c.args.e.now _ c.renumbered_node-node.result refl (c.renumbered_node-node.ensures ∙ ap (λ n. renamed_node (number c.args.numbers.now) (node_tree n)) c.replace-taken.ensures.value)
+    ∙ whole (number c.args.numbers.now) c.args.e.now _ c.renumbered_node-node.result refl
+    (c.renumbered_node-node.ensures ∙ ap (λ n. renamed_node (number c.args.numbers.now) (node_tree n)) c.replace-taken.ensures.value)
 
 pub renumber_each-returns-clause-made : goal.renumber_each-returns-clause-made
 renumber_each-returns-clause-made t c =

@@ -14,4 +14,5 @@ pub renumber_sections-returns-clause-made : goal.renumber_sections-returns-claus
 renumber_sections-returns-clause-made t c =
     let g = number c.args.numbers.now in
     sections_same g c.args.sections.now c.loop-i.sections c.loop-i.invariant.1.0
-    (all_done (SameSection g) c.loop-i.i c.args.sections.now c.loop-i.sections (omega (arith, c.loop-i-test.false, c.loop-i.invariant.1.0)) c.loop-i.invariant.1)
+    (all_done (SameSection g) c.loop-i.i c.args.sections.now c.loop-i.sections (omega (arith, c.loop-i-test.false, c.loop-i.invariant.1.0))
+    c.loop-i.invariant.1)

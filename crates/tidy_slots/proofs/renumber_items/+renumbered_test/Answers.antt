@@ -17,9 +17,11 @@ returns-in-Off t c = of-Off (number c.args.numbers.now) c.args.test c.in-Off.lab
 pub returns-in-AndOff : goal.returns-in-AndOff
 returns-in-AndOff t c =
     of-AndOff (number c.args.numbers.now) c.args.test c.in-AndOff.label c.in-AndOff.rest c.set.new.self c.in-AndOff.is
-    (ap test_tree c.set.ensures ∙ c.renumbered_test.ensures ∙ ap (λ u. renamed_test (number c.args.numbers.now) (test_tree u)) (c.replace-inner.ensures.value ∙ c.get_mut.ensures.value))
+    (ap test_tree c.set.ensures ∙ c.renumbered_test.ensures ∙ ap (λ u. renamed_test (number c.args.numbers.now) (test_tree u))
+    (c.replace-inner.ensures.value ∙ c.get_mut.ensures.value))
 
 pub returns-in-OrOn : goal.returns-in-OrOn
 returns-in-OrOn t c =
     of-OrOn (number c.args.numbers.now) c.args.test c.in-OrOn.label c.in-OrOn.rest c.set-in-OrOn.new.self c.in-OrOn.is
-    (ap test_tree c.set-in-OrOn.ensures ∙ c.renumbered_test-in-OrOn.ensures ∙ ap (λ u. renamed_test (number c.args.numbers.now) (test_tree u)) (c.replace-inner-in-OrOn.ensures.value ∙ c.get_mut-in-OrOn.ensures.value))
+    (ap test_tree c.set-in-OrOn.ensures ∙ c.renumbered_test-in-OrOn.ensures ∙
+    ap (λ u. renamed_test (number c.args.numbers.now) (test_tree u)) (c.replace-inner-in-OrOn.ensures.value ∙ c.get_mut-in-OrOn.ensures.value))

@@ -22,14 +22,17 @@ loop-number-init c =
       first = first;
       within = within;
       used = used;
-      value = passed us base _ most 2 n first within used (found_same us base (most - 2) (omega (arith, enough)) (omega (arith, enough, c.in_ok-most.ensures.bound)));
+      value = passed us base _ most 2 n first within used (found_same us base (most - 2) (omega (arith, enough))
+          (omega (arith, enough, c.in_ok-most.ensures.bound)));
     }
 
 pub returns-clause-unused : goal.returns-clause-unused
 returns-clause-unused c =
     let us = with_names c.args.self.now.file c.args.self.now.own in
-    let last = first_free_last us c.args.base.now (first_free us c.args.base.now 2 (length us)) c.loop-number.number c.in_ok-most.most c.loop-number.invariant.within c.loop-number-test.false c.loop-number.invariant.value in
-    ap (has_name us) (c.in_ok-numbered.ensures ∙ last) ∙ found_unused us c.args.base.now (omega (arith, c.in_ok-most.ensures.enough, c.in_ok-most.ensures.bound))
+    let last = first_free_last us c.args.base.now (first_free us c.args.base.now 2 (length us)) c.loop-number.number c.in_ok-most.most
+    c.loop-number.invariant.within c.loop-number-test.false c.loop-number.invariant.value in
+    ap (has_name us) (c.in_ok-numbered.ensures ∙ last) ∙ found_unused us c.args.base.now
+    (omega (arith, c.in_ok-most.ensures.enough, c.in_ok-most.ensures.bound))
 
 pub loop-number-preserved : goal.loop-number-preserved
 loop-number-preserved c =

@@ -14,7 +14,9 @@ returns-then-self-eq0 c =
     let xs = c.self.inside.steps in
     elim c.then-self-eq0.branch [
       | then-self-eq0-via-then-self-eq0 w ↦ sym v ∙ sym (none_bound name b (reverse xs) h.0 (sym h.1 ∙ w.if-self-eq0.true)) ∙ ap (bind name b) v
-      | then-self-eq0-via-else-self-eq0+then-before-self w ↦ sym v ∙ sym (kept_whole name b xs c.self.inside.entered c.number_of-before.result c.self.inside.numbers h c.number_of-before.ensures w.if-before-self.true) ∙ ap (bind name b) v
+      | then-self-eq0-via-else-self-eq0+then-before-self w ↦ sym v ∙ sym
+          (kept_whole name b xs c.self.inside.entered c.number_of-before.result c.self.inside.numbers h c.number_of-before.ensures
+          w.if-before-self.true) ∙ ap (bind name b) v
     ]
 
 pub invariant_of-self-in-Err : goal.invariant_of-self-in-Err
@@ -26,5 +28,7 @@ invariant_of-self-in-Err c =
 
 pub invariant_of-self-in_default : goal.invariant_of-self-in_default
 invariant_of-self-in_default c =
-    bound_more c.args.name.now c.key_of.result c.key_of-2.result c.number_of-before.result c.len.result c.self.inside.entered c.args.binding c.self.inside.steps c.push.new.self c.self.inside.numbers c.insert.new.self
-    c.key_of.ensures c.key_of-2.ensures c.in_ok-push.ensures.ok c.len.ensures.value c.number_of-before.ensures c.if-before-self.false c.if-self-eq0.false c.self.invariant c.in_default.ensures.updates
+    bound_more c.args.name.now c.key_of.result c.key_of-2.result c.number_of-before.result c.len.result c.self.inside.entered c.args.binding
+    c.self.inside.steps c.push.new.self c.self.inside.numbers c.insert.new.self
+    c.key_of.ensures c.key_of-2.ensures c.in_ok-push.ensures.ok c.len.ensures.value c.number_of-before.ensures c.if-before-self.false
+    c.if-self-eq0.false c.self.invariant c.in_default.ensures.updates

@@ -21,7 +21,8 @@ returns-clause-ok c k a w h =
     let vs = values_of ns c.args.arguments in
     let fs = frames_of ns (s.call ∷ s.waiting) in
     let few : suc w.calls ≤ most_calls = omega (arith, h.holds.newest, c.if-self-ge-MOST_CALLS.false) in
-    let fits : w.cells + cells_of f.slots ≤ most_cells = omega (arith, c.saturating_add-cells.ensures, c.cells_of.ensures, h.cells, c.if-cells-gt-MOST_CELLS.false) in
+    let fits : w.cells + cells_of f.slots ≤ most_cells = omega
+    (arith, c.saturating_add-cells.ensures, c.cells_of.ensures, h.cells, c.if-cells-gt-MOST_CELLS.false) in
     let n = record s { store = c.enter.new.self; call = c.replace-caller.new.dest; waiting = c.push.new.self; cells = c.saturating_add-cells.result } in
     let made = c.replace-caller.ensures.after in
     let is_call = λ (x : Call). IsCallOf s.program.now x in
@@ -31,8 +32,11 @@ returns-clause-ok c k a w h =
     ∙ ap (λ x. frames_of ns (x ∷ s.waiting)) c.replace-caller.ensures.value in
     record {
       world = enter_call f vs w;
-      same = ap (λ b. begin_call c.args.function.now.name (body_of c.args.function.now) (cond b (Err Trap.Calls) (cond (nat_lt most_cells (w.cells + cells_of f.slots)) (Err Trap.Cells) (Ok (enter_call f vs w)))) fs w) (not_over most_calls (suc w.calls) few)
-          ∙ ap (λ b. begin_call c.args.function.now.name (body_of c.args.function.now) (cond b (Err Trap.Cells) (Ok (enter_call f vs w))) fs w) (not_over most_cells (w.cells + cells_of f.slots) fits)
+      same = ap (λ b. begin_call c.args.function.now.name (body_of c.args.function.now)
+          (cond b (Err Trap.Calls) (cond (nat_lt most_cells (w.cells + cells_of f.slots)) (Err Trap.Cells) (Ok (enter_call f vs w)))) fs w)
+          (not_over most_calls (suc w.calls) few)
+          ∙ ap (λ b. begin_call c.args.function.now.name (body_of c.args.function.now) (cond b (Err Trap.Cells) (Ok (enter_call f vs w))) fs w)
+          (not_over most_cells (w.cells + cells_of f.slots) fits)
           ∙ state_at n (enter_call f vs w) c.args.function.now.name (body_of c.args.function.now) fs
           (ap (λ x. x.function.now.name) made ∙ ap (λ g. g.name) c.in_ok-call.ensures.function) (ap (λ x. x.guards) made ∙ c.in_ok-call.ensures.guards)
           (ap (λ x. tasks_of x.tasks) made ∙ c.in_ok-call.ensures.tasks) (ap (λ x. x.values) made ∙ c.in_ok-call.ensures.values) frames;
@@ -43,9 +47,11 @@ returns-clause-ok c k a w h =
         linked = h.linked;
         called = subst is_call (sym made) (
           subst (IsFunctionOf s.program.now) (sym c.in_ok-call.ensures.function) k,
-          subst (λ f. AreLabelsOf f c.in_ok-call.call.labels.now) (sym c.in_ok-call.ensures.function) (subst (AreLabelsOf c.args.function.now) (sym c.in_ok-call.ensures.labels) a),
+          subst (λ f. AreLabelsOf f c.in_ok-call.call.labels.now) (sym c.in_ok-call.ensures.function)
+              (subst (AreLabelsOf c.args.function.now) (sym c.in_ok-call.ensures.labels) a),
         );
-        waiting = subst (λ cs. All is_call cs) (sym c.in_ok-push.ensures.ok) (all_more is_call c.replace-caller.result s.waiting (subst is_call (sym c.replace-caller.ensures.value) h.called) h.waiting);
+        waiting = subst (λ cs. All is_call cs) (sym c.in_ok-push.ensures.ok)
+            (all_more is_call c.replace-caller.result s.waiting (subst is_call (sym c.replace-caller.ensures.value) h.called) h.waiting);
       };
       input = refl;
       events = refl;

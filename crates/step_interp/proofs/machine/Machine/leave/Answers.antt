@@ -14,8 +14,13 @@ returns-in-Some-clause-ok c =
     let below = record c.args.self.now { waiting = c.pop.new.self } in
     let v = value_of (names_of c.args.self.now.store) c.args.value in
     IfOk-weaker c.return_to.result
-    (λ next. (w : World) → HasWorld (with_waiting c.in-Some.caller below) w → Reaches ⊥ (leave (function_tree c.args.self.now.call.function.now) v (frames_of (names_of c.args.self.now.store) (c.in-Some.caller ∷ c.pop.new.self)) w) w next c.return_to.new.self)
-    (λ next. (w : World) → HasWorld c.args.self.now w → Reaches ⊥ (leave (function_tree c.args.self.now.call.function.now) v (frames_of (names_of c.args.self.now.store) c.args.self.now.waiting) w) w next c.return_to.new.self)
-    (λ next k w h. subst (λ cs. Reaches ⊥ (leave (function_tree c.args.self.now.call.function.now) v (frames_of (names_of c.args.self.now.store) cs) w) w next c.return_to.new.self) (sym c.in-Some.ensures)
+    (λ next. (w : World) → HasWorld (with_waiting c.in-Some.caller below) w →
+    Reaches ⊥ (leave (function_tree c.args.self.now.call.function.now) v
+    (frames_of (names_of c.args.self.now.store) (c.in-Some.caller ∷ c.pop.new.self)) w) w next c.return_to.new.self)
+    (λ next. (w : World) → HasWorld c.args.self.now w → Reaches ⊥
+    (leave (function_tree c.args.self.now.call.function.now) v (frames_of (names_of c.args.self.now.store) c.args.self.now.waiting) w) w next
+    c.return_to.new.self)
+    (λ next k w h. subst (λ cs. Reaches ⊥ (leave (function_tree c.args.self.now.call.function.now) v (frames_of (names_of c.args.self.now.store) cs)
+    w) w next c.return_to.new.self) (sym c.in-Some.ensures)
     (k w (subst (λ cs. HasWorld (record c.args.self.now { waiting = cs }) w) c.in-Some.ensures h)))
     c.return_to.ensures.ok

@@ -16,11 +16,28 @@ returns-clause-ok c w h =
     let f = (function_tree c.args.self.now.call.function.now) in
     record {
       world = pop f w;
-      same = ap (λ b. settle (cond b (Traps Trap.NoValue w) (Gives v (pop f w))) c.args.caller.function.now.name (guards_of c.args.caller.guards) (tasks_of c.args.caller.tasks) (values_of (names_of c.args.self.now.store) c.args.caller.values) (frames_of (names_of c.args.self.now.store) c.args.self.now.waiting)) (ap (λ b. b && not (is_dropped (tasks_of c.args.caller.tasks))) (sym (c.lacks.ensures (names_of c.args.self.now.store))) ∙ ap (λ b. c.lacks.result && not b) (sym c.drops_next-dropped.ensures.drops) ∙ sym c.is_refused.ensures ∙ c.if-is_refused.false)
-          ∙ ap (λ k. At c.args.caller.function.now.name (guards_of c.args.caller.guards) k (v ∷ values_of (names_of c.args.self.now.store) c.args.caller.values) (frames_of (names_of c.args.self.now.store) c.args.self.now.waiting) (pop f w)) (sym c.drops_next-dropped.ensures.tasks)
-          ∙ ap (λ vs. At c.args.caller.function.now.name (guards_of c.args.caller.guards) (tasks_of c.drops_next-dropped.new.tasks) (values_of (names_of c.args.self.now.store) vs) (frames_of (names_of c.args.self.now.store) c.args.self.now.waiting) (pop f w)) (sym c.in_ok-push.ensures.ok)
-          ∙ ap (λ s. At c.args.caller.function.now.name (guards_of c.args.caller.guards) (tasks_of c.drops_next-dropped.new.tasks) (values_of s c.push.new.self) (frames_of s c.args.self.now.waiting) (pop f w)) (ap (λ n. names_of (record c.args.self.now.store { names = n })) (sym c.leave.ensures.names));
-      has = record { holds = c.leave.ensures.left f w h.holds; cells = omega (arith, c.saturating_sub-self.ensures, h.cells, c.cells_of.ensures); answers = h.answers; linked = h.linked; called = h.waiting 0 c.args.caller (omega arith); waiting = λ k d l. h.waiting (suc k) d (omega arith) };
+      same = ap (λ b. settle (cond b (Traps Trap.NoValue w) (Gives v (pop f w))) c.args.caller.function.now.name (guards_of c.args.caller.guards)
+          (tasks_of c.args.caller.tasks) (values_of (names_of c.args.self.now.store) c.args.caller.values)
+          (frames_of (names_of c.args.self.now.store) c.args.self.now.waiting))
+          (ap (λ b. b && not (is_dropped (tasks_of c.args.caller.tasks))) (sym (c.lacks.ensures (names_of c.args.self.now.store))) ∙
+          ap (λ b. c.lacks.result && not b) (sym c.drops_next-dropped.ensures.drops) ∙ sym c.is_refused.ensures ∙ c.if-is_refused.false)
+          ∙ ap (λ k. At c.args.caller.function.now.name (guards_of c.args.caller.guards) k
+          (v ∷ values_of (names_of c.args.self.now.store) c.args.caller.values)
+          (frames_of (names_of c.args.self.now.store) c.args.self.now.waiting) (pop f w)) (sym c.drops_next-dropped.ensures.tasks)
+          ∙ ap (λ vs. At c.args.caller.function.now.name (guards_of c.args.caller.guards) (tasks_of c.drops_next-dropped.new.tasks)
+          (values_of (names_of c.args.self.now.store) vs) (frames_of (names_of c.args.self.now.store) c.args.self.now.waiting) (pop f w))
+          (sym c.in_ok-push.ensures.ok)
+          ∙ ap (λ s. At c.args.caller.function.now.name (guards_of c.args.caller.guards) (tasks_of c.drops_next-dropped.new.tasks)
+          (values_of s c.push.new.self) (frames_of s c.args.self.now.waiting) (pop f w))
+          (ap (λ n. names_of (record c.args.self.now.store { names = n })) (sym c.leave.ensures.names));
+      has = record {
+        holds = c.leave.ensures.left f w h.holds;
+        cells = omega (arith, c.saturating_sub-self.ensures, h.cells, c.cells_of.ensures);
+        answers = h.answers;
+        linked = h.linked;
+        called = h.waiting 0 c.args.caller (omega arith);
+        waiting = λ k d l. h.waiting (suc k) d (omega arith);
+      };
       input = refl;
       events = refl;
     }

@@ -12,5 +12,6 @@ returns-clause-ok c =
     let ss = c.self.inside.slots.now in
     on_ok_weaker c.change_in_pages.result
     (λ b. subst (λ rs. BecomesAt (changed c.args.change) c.args.place rs (first ++ shown c.change_in_pages.new.pages ss)) c.self.view_is
-    (becomes_right (changed c.args.change) first (shown c.self.inside.pages ss) (shown c.change_in_pages.new.pages ss) c.args.place (c.args.place - c.len-count.result) (omega (arith, c.len-count.ensures.value, c.if-place-count.false)) b))
+    (becomes_right (changed c.args.change) first (shown c.self.inside.pages ss) (shown c.change_in_pages.new.pages ss) c.args.place
+    (c.args.place - c.len-count.result) (omega (arith, c.len-count.ensures.value, c.if-place-count.false)) b))
     c.change_in_pages.ensures.ok

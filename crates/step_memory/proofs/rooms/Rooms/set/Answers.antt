@@ -13,5 +13,6 @@ returns-then-place-len-clause-ok c =
     let behind = shown c.self.inside.pages c.self.inside.slots.now in
     on_ok_weaker c.set_in.result
     (λ b. subst (λ rs. BecomesAt (with_number c.args.at c.args.value) c.args.place rs (c.set_in.new.rooms ++ behind)) c.self.view_is
-    (becomes_left (with_number c.args.at c.args.value) c.self.inside.first c.set_in.new.rooms behind c.args.place (subst (λ z. BecomesAt (with_number c.args.at z) c.args.place c.self.inside.first c.set_in.new.rooms) (to_z-of_z w128 c.args.value c.ranges.value) b)))
+    (becomes_left (with_number c.args.at c.args.value) c.self.inside.first c.set_in.new.rooms behind c.args.place
+    (subst (λ z. BecomesAt (with_number c.args.at z) c.args.place c.self.inside.first c.set_in.new.rooms) (to_z-of_z w128 c.args.value c.ranges.value) b)))
     c.set_in.ensures.ok

@@ -8,5 +8,6 @@ returns-in-Some c = c.holder.ensures c.args.self.now c.args.home.now c.in_ok-own
 
 pub returns-in-None : goal.returns-in-None
 returns-in-None c =
-    IfOk-weaker c.holder_behind.result (λ o. (h : Home) → Names c.args.self.now h c.in_ok-owner.owner → Reaches c.args.self.now h o) (λ o. Reaches c.args.self.now c.args.home.now o)
+    IfOk-weaker c.holder_behind.result (λ o. (h : Home) → Names c.args.self.now h c.in_ok-owner.owner → Reaches c.args.self.now h o)
+    (λ o. Reaches c.args.self.now c.args.home.now o)
     (λ o k. k c.args.home.now c.in_ok-owner.ensures) c.holder_behind.ensures
