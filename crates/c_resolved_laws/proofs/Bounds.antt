@@ -16,9 +16,9 @@ use Rattle.c_tree.proofs.KeptLemmas.{total-join}
 use Rattle.jump_meaning.specs.Code.{entry_or}
 use Rattle.jump_meaning.specs.World.{no_slot}
 use Rattle.jump_meaning.specs.Step.{switch_kind}
-use Rattle.flat_looser_laws.specs.Pieces.{Aim, Stays, Becomes, Absent, mark_of, third_items, assigned_cells, Names, is_number, test_for, tests_for}
-use Rattle.flat_looser_laws.specs.Pieces.{tests, tests_in, tests_among, case_marks}
-use Rattle.flat_looser_laws.specs.Loose.{Arrivals, NoArrival, Arrives}
+use Rattle.flat_laws.specs.Pieces.{Aim, Stays, Becomes, Absent, mark_of, third_items, assigned_cells, Names, is_number, test_for, tests_for}
+use Rattle.flat_laws.specs.Pieces.{tests, tests_in, tests_among, case_marks}
+use Rattle.flat_laws.specs.Loose.{Arrivals, NoArrival, Arrives}
 use Rattle.flat_laws.specs.Parts.{is_named, is_scattered, holds_jump, kept_breaks, has_jumps, Here, past, past_item, inside, Ending, Gone, Breaks, Jumps}
 use Rattle.flat_laws.specs.Parts.{Otherwise, ending, is_gone}
 use Rattle.flat_laws.specs.FlatForm.{Plan, names_of, scatter_aim, otherwise_label, end_goto, aim, exit, is_jumpy_switch, assigned, mark_if, arrival}

@@ -13,8 +13,8 @@ use Rattle.c_tree.proofs.KeptLemmas.{total-join}
 use Rattle.c_resolved_defs.specs.Form.{gathered, gathered_of, gathered_in, marked_label, HasNoLoose, IsNotLoose}
 use Rattle.c_resolved_defs.specs.Limits.{FlatCounts}
 use Rattle.c_resolved_defs.specs.Resolved.{IsResolvedFunction}
-use Rattle.flat_looser_laws.specs.Loose.{NoArrival}
-use Rattle.flat_looser_laws.specs.Pieces.{Stays}
+use Rattle.flat_laws.specs.Loose.{NoArrival}
+use Rattle.flat_laws.specs.Pieces.{Stays}
 use Rattle.flat_laws.specs.Parts.{has_jumps, is_named, jumps_of, is_some_number}
 use Rattle.flat_laws.specs.FlatForm.{coded, numbered, first_here, flat, marks, marks_in, marks_among}
 use Rattle.flat_laws.specs.Source.{HasOwnLabels}

@@ -4,8 +4,8 @@ use Rattle.c_tree.specs.declared.tree.Slot.{Slot}
 use Rattle.c_tree.specs.Everywhere.{total}
 use Rattle.c_tree.specs.Numerals.{constant}
 use Rattle.c_tree.specs.Trees.{Tree, Forest, Goto}
-use Rattle.flat_looser_laws.specs.Pieces.{Stays}
-use Rattle.flat_looser_laws.specs.Loose.{NoArrival}
+use Rattle.flat_laws.specs.Pieces.{Stays}
+use Rattle.flat_laws.specs.Loose.{NoArrival}
 use Rattle.flat_laws.specs.FlatForm.{Plan, coded, numbered, first_here, flat, flat_body, marks}
 use Rattle.flat_laws.specs.FlatWellMadeLaws.{label_count}
 use Rattle.flat_laws.proofs.SameCounts.{stays, no_arrival, weight, flat_same, marks_counted}

@@ -16,7 +16,7 @@ use Rattle.c_tree.specs.InRange.{IsSourceTest, IsSourceSelector, body_of}
 use Rattle.c_tree.proofs.WellMoved.{everywhere_map, everywhere_both}
 use Rattle.jump_meaning.specs.Code.{entry_or}
 use Rattle.jump_meaning.specs.World.{no_slot}
-use Rattle.flat_looser_laws.specs.Loose.{Setting, In, AreIn}
+use Rattle.flat_laws.specs.Loose.{Setting, In, AreIn}
 use Rattle.flat_laws.specs.Parts as P
 use Rattle.flat_laws.specs.Parts.{is_named}
 use Rattle.flat_laws.specs.Source.{InTest, InSelector, AreInitialisers, IsSourceItem}

@@ -17,7 +17,7 @@ use Rattle.struct_meaning.specs.Runs.{MeaningsAgreeOn}
 use Rattle.c_resolved_defs.specs.PrintablePrograms.{IsPrintable}
 use Rattle.plain_laws.specs.Kinded.{KindedItem}
 use Rattle.plain_laws.specs.Laws.{IsProgramReady}
-use Rattle.flat_looser_laws.specs.Loose.{Setting, slot_of}
+use Rattle.flat_laws.specs.Loose.{Setting, slot_of}
 use Rattle.c_tree.specs.TextItems.{is_empty}
 use Rattle.flat_laws.specs.Parts.{arrivals, is_named}
 use Rattle.flat_laws.specs.Source.{IsSourceItem, HasOwnLabels}

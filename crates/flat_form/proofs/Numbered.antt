@@ -4,8 +4,8 @@ use Rattle.std.proofs.Math.Path.{fun_ext}
 use Rattle.c_tree.specs.declared.tree.Function.{Function}
 use Rattle.c_tree.specs.Numerals.{constant}
 use Rattle.c_tree.specs.Trees.{Forest}
-use Rattle.flat_looser_laws.specs.Loose.{NoArrival}
-use Rattle.flat_looser_laws.specs.Pieces.{Stays}
+use Rattle.flat_laws.specs.Loose.{NoArrival}
+use Rattle.flat_laws.specs.Pieces.{Stays}
 use Rattle.flat_laws.specs.FlatForm.{coded, first_here, flat_body, marks, place_in}
 use Rattle.flat_laws.specs.Relabelled.{relabelled}
 use Rattle.flat_laws.proofs.Relabelled.{flat_labels}

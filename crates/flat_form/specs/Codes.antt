@@ -3,8 +3,8 @@ use Rattle.std.specs.Prelude.{ℕ, List, length}
 use Rattle.c_tree.specs.declared.tree.Function.{Function}
 use Rattle.c_tree.specs.Numerals.{constant}
 use Rattle.c_tree.specs.Trees.{Forest}
-use Rattle.flat_looser_laws.specs.Loose.{NoArrival}
-use Rattle.flat_looser_laws.specs.Pieces.{Stays}
+use Rattle.flat_laws.specs.Loose.{NoArrival}
+use Rattle.flat_laws.specs.Pieces.{Stays}
 use Rattle.flat_laws.specs.FlatForm.{flat, coded, first_here, marks}
 
 -- the flat form of a body, in which each label has its code as its number

@@ -17,8 +17,8 @@ use Rattle.guard_vars.specs.Conversion.{converted, converted_list}
 use Rattle.move_order_laws.proofs.ConvertedTrees.{converted_trees}
 use Rattle.jump_meaning.specs.Runs.{BehaveTheSame}
 use Rattle.jump_meaning.specs.Steady.{IsTopMadeWell, IsSteady}
-use Rattle.flat_looser_laws.specs.Loose.{LooserTop, lt_same, lt_function, LooserTops, lt_none, lt_more}
-use Rattle.flat_looser_laws.proofs.Lifted.{loose_laws}
+use Rattle.flat_laws.specs.Loose.{LooserTop, lt_same, lt_function, LooserTops, lt_none, lt_more}
+use Rattle.flat_laws.proofs.Lifted.{loose_laws}
 use Rattle.c_resolved_laws.specs.Counts.{flat_counts}
 use Rattle.c_resolved_defs.specs.Resolved.{IsResolvedFunction, IsResolvedTop}
 use Rattle.whole_laws.specs.Rewritten.{FlatTop, ft_flat, ft_unlabelled, ft_declared, ft_other, IsNoFunction}

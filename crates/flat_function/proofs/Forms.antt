@@ -13,7 +13,7 @@ use Rattle.c_tree.specs.Trees.{Tree, Forest, Nil, Then, Sections, NoSection, Sec
 use Rattle.jump_meaning.specs.Code.{entry_or}
 use Rattle.jump_meaning.specs.World.{no_slot}
 use Rattle.jump_meaning.specs.Step.{switch_kind}
-use Rattle.flat_looser_laws.specs.Loose.{Setting, ExtendSlots}
+use Rattle.flat_laws.specs.Loose.{Setting, ExtendSlots}
 use Rattle.flat_laws.specs.Parts.{has_jumps, is_scattered, switch_labels, cases_among, has_default, leaves, variables_of, Here, past, past_item, inside}
 use Rattle.flat_laws.specs.FlatForm.{first_here}
 use Rattle.flat_laws.specs.Source.{IsVariable, IfTrue, HaveVariables, HasVariables, HaveVariablesAmong}

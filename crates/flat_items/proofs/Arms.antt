@@ -18,8 +18,8 @@ use Rattle.c_tree.specs.TestTrees.{SelectorTree}
 use Rattle.c_tree.specs.Trees as P
 use Rattle.c_tree.specs.Trees.{Tree, Forest, Nil, Then, Sections, Switch, Evaluate, Goto, trees_of, sections_of, expression_trees, join}
 use Rattle.jump_meaning.specs.Step.{switch_kind}
-use Rattle.flat_looser_laws.specs.Pieces.{Aim, mark_of, assign_number, tests_among}
-use Rattle.flat_looser_laws.specs.Loose.{Arrivals}
+use Rattle.flat_laws.specs.Pieces.{Aim, mark_of, assign_number, tests_among}
+use Rattle.flat_laws.specs.Loose.{Arrivals}
 use Rattle.flat_laws.specs.Parts.{Here, past_item, inside, is_scattered, switch_labels, cases_among}
 use Rattle.flat_laws.specs.FlatForm.{Plan, is_jumpy_switch, flat_sections, flat_item, names_of, scatter_aim, otherwise_label, spread}
 use Rattle.c_tree.specs.declared.tree.Expression.{Expression}

@@ -11,7 +11,7 @@ use Rattle.c_tree.specs.ExpressionTrees.{ExpressionTree, expression_tree}
 use Rattle.c_tree.specs.Trees.{Tree, Forest, Nil, Then, Sections, NoSection, Section, Evaluate, While, sections_of, expression_trees, join}
 use Rattle.c_tree.proofs.TreeLaws.{sections-none}
 use Rattle.c_tree.specs.TestTrees.{Source}
-use Rattle.flat_looser_laws.specs.Pieces.{Aim, test_or_one, mark_of, third_items, assign_cell, assigned_cells, zero_tree}
+use Rattle.flat_laws.specs.Pieces.{Aim, test_or_one, mark_of, third_items, assign_cell, assigned_cells, zero_tree}
 use Rattle.flat_laws.specs.FlatForm.{flat_for}
 use Rattle.flat_items.specs.Pieces.{behind, for_loop}
 use Rattle.c_tree.specs.Views.{before}

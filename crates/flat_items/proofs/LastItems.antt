@@ -8,8 +8,8 @@ use Rattle.c_tree.specs.declared.tree.Item.{Item}
 use Rattle.c_tree.specs.Views.{tree_at}
 use Rattle.c_tree.proofs.Views.{trees-push}
 use Rattle.c_tree.proofs.TreeLaws.{trees-none, join-nil}
-use Rattle.flat_looser_laws.specs.Pieces.{Aim, Stays, Becomes, Absent}
-use Rattle.flat_looser_laws.specs.Loose.{Arrivals, NoArrival}
+use Rattle.flat_laws.specs.Pieces.{Aim, Stays, Becomes, Absent}
+use Rattle.flat_laws.specs.Loose.{Arrivals, NoArrival}
 use Rattle.flat_laws.specs.Parts.{Here, Ending, Gone, Breaks, Jumps, Otherwise, later, gone_or, if_jumps, is_gone, is_scattered, leaves, ending, ending_of, last_ending, past_item}
 use Rattle.flat_laws.specs.FlatForm.{Plan, exit, mark_if, if_breaks, flat, flat_item, flat_last, flat_last_item}
 use Rattle.flat_questions.proofs.LastBreaks.{later_both, no_break_if, gone_or_no}

@@ -7,8 +7,8 @@ use Rattle.c_tree.specs.Paths.{list_of}
 use Rattle.c_tree.specs.TestTrees.{TestTree, SelectorTree}
 use Rattle.c_tree.specs.Trees.{Tree, Forest, Then, Sections, NoSection, If, While, Do, For, Switch, Block, trees_of, sections_of, expression_trees, join}
 use Rattle.c_tree.proofs.TreeLaws.{join-nil}
-use Rattle.flat_looser_laws.specs.Pieces.{Aim, Names, mark_of, case_marks}
-use Rattle.flat_looser_laws.specs.Loose.{Arrivals, Arrives}
+use Rattle.flat_laws.specs.Pieces.{Aim, Names, mark_of, case_marks}
+use Rattle.flat_laws.specs.Loose.{Arrivals, Arrives}
 use Rattle.flat_laws.specs.Parts.{Here, past, past_item, inside}
 use Rattle.flat_laws.specs.FlatForm.{Plan, flat, flat_item, flat_sections, end_goto, spread}
 use Rattle.c_tree.specs.Views.{tree_at, before}

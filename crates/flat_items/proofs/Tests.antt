@@ -10,7 +10,7 @@ use Rattle.c_tree.specs.declared.tree.Expression.{Expression}
 use Rattle.c_tree.specs.ExpressionTrees.{ExpressionTree, expression_tree}
 use Rattle.c_tree.specs.TestTrees.{Source}
 use Rattle.c_tree.specs.Trees.{Tree, Forest, Nil, Then, Sections, NoSection, Section, If, While, Do, For, Block, Goto, Mark, Arrival, expression_trees, join}
-use Rattle.flat_looser_laws.specs.Pieces.{Names, is_number, tests_for, tests, tests_in, tests_among, case_marks}
+use Rattle.flat_laws.specs.Pieces.{Names, is_number, tests_for, tests, tests_in, tests_among, case_marks}
 use Rattle.flat_laws.specs.Parts.{arrivals, arrivals_in, section_labels, switch_labels, cases_among}
 use Rattle.flat_items.specs.Pieces.{number_test, number_tests}
 use Rattle.flat_questions.proofs.Steps.{numbers_append}

@@ -7,8 +7,8 @@ use Rattle.c_tree.specs.TestTrees.{TestTree, SelectorTree}
 use Rattle.c_tree.specs.Trees.{Forest, Nil, Then, Sections, NoSection, Section, While, Do, Switch, expression_trees, trees_of, join}
 use Rattle.c_tree.specs.declared.tree.Section as Real
 use Rattle.jump_meaning.specs.Step.{switch_kind}
-use Rattle.flat_looser_laws.specs.Pieces.{Aim, Names, mark_of, case_marks}
-use Rattle.flat_looser_laws.specs.Loose.{Arrivals, NoArrival, Arrives}
+use Rattle.flat_laws.specs.Pieces.{Aim, Names, mark_of, case_marks}
+use Rattle.flat_laws.specs.Loose.{Arrivals, NoArrival, Arrives}
 use Rattle.flat_laws.specs.Parts.{Here, holds_jump, kept_breaks, ending, ends_then, constructs_of, cases_of, variables_of, inside}
 use Rattle.flat_laws.specs.FlatForm.{Plan, aim, is_jumpy_switch, scatter_aim, names_of, dissolved, initialised, if_breaks, end_goto, flat_loop, flat_for, flat, flat_last, flat_sections, spread}
 

@@ -9,7 +9,7 @@ use Rattle.c_tree.specs.ExpressionTrees.{ExpressionTree}
 use Rattle.c_tree.specs.Trees.{Tree, Forest, Nil, If, While, For, Goto, Sections, NoSection, Section, join}
 use Rattle.jump_meaning.specs.Code.{entry_or}
 use Rattle.jump_meaning.specs.World.{no_slot}
-use Rattle.flat_looser_laws.specs.Pieces.{is_number, test_or_one, third_items}
+use Rattle.flat_laws.specs.Pieces.{is_number, test_or_one, third_items}
 use Rattle.flat_laws.specs.FlatForm.{assigned}
 
 -- `if (v == n) goto` the label of the case of this number

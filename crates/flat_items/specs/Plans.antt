@@ -3,8 +3,8 @@ use Rattle.std.specs.Prelude.{ℕ, ◌+◌, ◌*◌, ℤ, Option, Some, None, ge
 use Rattle.std.specs.Option.{option_map_or}
 use Rattle.c_tree.specs.Cases.{case_number}
 use Rattle.c_tree.specs.Numerals.{constant}
-use Rattle.flat_looser_laws.specs.Pieces.{Aim, Stays, Becomes, Absent, Names}
-use Rattle.flat_looser_laws.specs.Loose.{Arrivals, NoArrival, Arrives}
+use Rattle.flat_laws.specs.Pieces.{Aim, Stays, Becomes, Absent, Names}
+use Rattle.flat_laws.specs.Loose.{Arrivals, NoArrival, Arrives}
 use Rattle.flat_laws.specs.Parts.{Here}
 use Rattle.flat_laws.specs.FlatForm.{Plan, place_of}
 use Rattle.flat_questions.specs.Reading.{is_flagged}

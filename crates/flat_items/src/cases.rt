@@ -5,7 +5,7 @@ ghost use Rattle.c_tree.specs.ExpressionTrees.{expression_tree};
 ghost use Rattle.c_tree.specs.TestTrees.{selector_tree};
 ghost use Rattle.c_tree.specs.Trees.{Evaluate, Goto, Then, expression_trees, trees_of, sections_of, join};
 ghost use Rattle.jump_meaning.specs.Step.{switch_kind as the_switch_kind};
-ghost use Rattle.flat_looser_laws.specs.Pieces.{assign_number, case_marks};
+ghost use Rattle.flat_laws.specs.Pieces.{assign_number, case_marks};
 ghost use Rattle.flat_laws.specs.Parts.{switch_labels, cases_among};
 ghost use Rattle.flat_laws.specs.FlatForm.{arrival, otherwise_label as the_otherwise_label};
 ghost use Rattle.flat_items.specs.Pieces.{number_test, number_tests};

@@ -3,7 +3,7 @@ ghost use Rattle.c_tree.specs.Changed.{one};
 ghost use Rattle.c_tree.specs.ExpressionTrees.{expression_tree};
 ghost use Rattle.c_tree.specs.TestTrees.{Source, test_tree, selector_tree};
 ghost use Rattle.c_tree.specs.Trees.{Then, Nil, If, While, Do, For, Switch, Goto, Mark, Break, Continue, expression_trees, trees_of, sections_of, join};
-ghost use Rattle.flat_looser_laws.specs.Pieces.{mark_of, test_or_one, third_items, assigned_cells};
+ghost use Rattle.flat_laws.specs.Pieces.{mark_of, test_or_one, third_items, assigned_cells};
 ghost use Rattle.flat_laws.specs.FlatForm.{assigned, exit as the_exit, end_goto as the_end_goto, flat_for, flat_loop};
 ghost use Rattle.flat_items.specs.Pieces.{for_loop, initialised_of};
 ghost use Rattle.flat_items.specs.Plans.{aim_of};

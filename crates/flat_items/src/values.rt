@@ -5,7 +5,7 @@ ghost use Rattle.c_tree.specs.Numerals.{constant as the_constant, least_constant
 ghost use Rattle.c_tree.specs.TestTrees.{Source, test_tree};
 ghost use Rattle.c_tree.specs.Trees.{Evaluate, If, Goto, Nil};
 ghost use Rattle.c_tree.specs.Changed.{one};
-ghost use Rattle.flat_looser_laws.specs.Pieces.{assign_number, assign_cell, is_number, test_or_one, zero_tree};
+ghost use Rattle.flat_laws.specs.Pieces.{assign_number, assign_cell, is_number, test_or_one, zero_tree};
 ghost use Rattle.c_tree.specs.Views.{tree_at};
 
 use c_copies::copy_expression;

@@ -2,9 +2,9 @@
 use Rattle.std.proofs.Common.{ℕ, ◌≤◌, ◌++◌, arith}
 use Rattle.c_tree.specs.Exits.{breaks, continues}
 use Rattle.c_tree.specs.Trees.{Tree, Forest, Nil, Then, Sections, NoSection, Section, If, While, Do, For, Block, Arrival, join}
-use Rattle.flat_looser_laws.specs.Pieces.{Aim, mark_of, Names, case_marks}
-use Rattle.flat_looser_laws.specs.Placed.{places}
-use Rattle.flat_looser_laws.specs.Loose.{Arrives, NoArrival}
+use Rattle.flat_laws.specs.Pieces.{Aim, mark_of, Names, case_marks}
+use Rattle.flat_laws.specs.Placed.{places}
+use Rattle.flat_laws.specs.Loose.{Arrives, NoArrival}
 use Rattle.flat_laws.specs.Parts.{arrivals, arrivals_in, section_labels, switch_labels, holds_jump, Here, past, past_item, inside}
 use Rattle.flat_laws.specs.FlatForm.{Plan, aim, end_goto, flat_for, flat, flat_item, spread}
 use Rattle.flat_laws.proofs.Counts.{places_join, labelled, labelled_append, marks_places, for_places}

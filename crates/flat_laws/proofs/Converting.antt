@@ -17,8 +17,8 @@ use Rattle.c_tree.proofs.KeptLemmas.{total-join, SameEntries, everywhere_join}
 use Rattle.c_tree.proofs.WellMoved.{everywhere_map}
 use Rattle.c_tree.specs.Conversions.{jump_tree, source_tree, lone_goto, conditional_goto, convert, convert_item, convert_sections}
 use Rattle.jump_meaning.specs.Steady.{IsUnjumping}
-use Rattle.flat_looser_laws.specs.Placed.{places, places_of, places_among}
-use Rattle.flat_looser_laws.proofs.Exits.{free_join, stay_join}
+use Rattle.flat_laws.specs.Placed.{places, places_of, places_among}
+use Rattle.flat_laws.proofs.Exits.{free_join, stay_join}
 use Rattle.flat_laws.specs.FlatMade.{hop_of, hops, IsFlatItem, IsFlatMade}
 
 -- ---- `if (c) goto L` or another `if`

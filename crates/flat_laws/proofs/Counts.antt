@@ -9,9 +9,9 @@ use Rattle.c_tree.specs.Trees.{Tree, Forest, Nil, Then, Sections, NoSection, Sec
 use Rattle.c_tree.specs.Changed.{one}
 use Rattle.jump_meaning.specs.Step.{switch_kind}
 use Rattle.std.specs.Option.{option_map_or}
-use Rattle.flat_looser_laws.specs.Pieces.{Aim, Stays, Becomes, Absent, mark_of, third_items, Names, case_marks, assigned_cells, is_number, test_for, tests_for, tests, tests_in, tests_among}
-use Rattle.flat_looser_laws.specs.Placed.{places, places_among}
-use Rattle.flat_looser_laws.specs.Loose.{Arrivals, NoArrival, Arrives}
+use Rattle.flat_laws.specs.Pieces.{Aim, Stays, Becomes, Absent, mark_of, third_items, Names, case_marks, assigned_cells, is_number, test_for, tests_for, tests, tests_in, tests_among}
+use Rattle.flat_laws.specs.Placed.{places, places_among}
+use Rattle.flat_laws.specs.Loose.{Arrivals, NoArrival, Arrives}
 use Rattle.c_tree.specs.Exits.{breaks, continues}
 use Rattle.jump_meaning.specs.Code.{entry_or}
 use Rattle.jump_meaning.specs.World.{no_slot}

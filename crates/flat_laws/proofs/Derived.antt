@@ -10,8 +10,8 @@ use Rattle.jump_meaning.specs.Code.{entry_or}
 use Rattle.jump_meaning.specs.World.{no_slot}
 use Rattle.jump_meaning.specs.Search.{ToDefault}
 use Rattle.jump_meaning.specs.Step.{switch_kind}
-use Rattle.flat_looser_laws.specs.Pieces.{Aim, Stays, Becomes, Absent, mark_of, IsMoved, Names, wanted_among, case_marks, assign_number, tests_among}
-use Rattle.flat_looser_laws.specs.Loose.{Setting, In, slot_of, IsLocal, AreGone, IsGone, Mode, Open, Ended, Jumped, IsLast, in_open, in_last, Arrivals, NoArrival, Arrives, IsOtherwise, LooserItem, lo_evaluate, lo_return, lo_return_none, lo_note, lo_if, lo_while, lo_do, lo_for, lo_for_while, lo_block, lo_declares, lo_break_end, lo_goto, lo_switch, lo_scatter, Looser, la_nil, la_then, la_last, LooserSections, lc_none, lc_section, lc_ended, Spread, ls_none, ls_last, ls_falls}
+use Rattle.flat_laws.specs.Pieces.{Aim, Stays, Becomes, Absent, mark_of, IsMoved, Names, wanted_among, case_marks, assign_number, tests_among}
+use Rattle.flat_laws.specs.Loose.{Setting, In, slot_of, IsLocal, AreGone, IsGone, Mode, Open, Ended, Jumped, IsLast, in_open, in_last, Arrivals, NoArrival, Arrives, IsOtherwise, LooserItem, lo_evaluate, lo_return, lo_return_none, lo_note, lo_if, lo_while, lo_do, lo_for, lo_for_while, lo_block, lo_declares, lo_break_end, lo_goto, lo_switch, lo_scatter, Looser, la_nil, la_then, la_last, LooserSections, lc_none, lc_section, lc_ended, Spread, ls_none, ls_last, ls_falls}
 use Rattle.c_tree.specs.TextItems.{is_empty}
 use Rattle.flat_laws.specs.Parts.{is_some_number, arrivals, arrivals_in, is_scattered, switch_labels, has_default, ends_some, leaves, holds_jump, Here, past, past_item, inside, Ending, Gone, Breaks, Jumps, Otherwise, later, gone_or, if_jumps, ending, ending_of, last_ending, is_gone, trimmed, trimmed_item, section_list, kept_breaks, ends_then}
 use Rattle.flat_laws.specs.FlatForm.{Plan, names_of, scatter_aim, otherwise_label, end_goto, aim, is_jumpy_switch, mark_if, dissolved, if_breaks, flat_for, flat, flat_item, flat_last, flat_last_item, flat_sections, spread}

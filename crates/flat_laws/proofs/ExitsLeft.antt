@@ -10,9 +10,9 @@ use Rattle.c_tree.specs.Changed.{one}
 use Rattle.jump_meaning.specs.Code.{entry_or}
 use Rattle.jump_meaning.specs.World.{no_slot}
 use Rattle.jump_meaning.specs.Step.{switch_kind}
-use Rattle.flat_looser_laws.specs.Pieces.{Aim, Stays, Becomes, Absent, mark_of, test_or_one, with_third, assign_number, Names, tests_among, case_marks}
-use Rattle.flat_looser_laws.specs.Loose.{Arrivals, NoArrival, Arrives}
-use Rattle.flat_looser_laws.proofs.Exits.{Free, free_join, stay_join, joined, mark_free, cells_free, marks_free, tests_among_free}
+use Rattle.flat_laws.specs.Pieces.{Aim, Stays, Becomes, Absent, mark_of, test_or_one, with_third, assign_number, Names, tests_among, case_marks}
+use Rattle.flat_laws.specs.Loose.{Arrivals, NoArrival, Arrives}
+use Rattle.flat_laws.proofs.Exits.{Free, free_join, stay_join, joined, mark_free, cells_free, marks_free, tests_among_free}
 use Rattle.flat_laws.specs.Parts.{is_some_number, is_scattered, switch_labels, has_default, ends_some, holds_jump, Here, past, past_item, inside, Ending, Gone, Breaks, Jumps, Otherwise, ending, is_gone, trimmed, trimmed_item, section_list, kept_breaks}
 use Rattle.flat_laws.specs.FlatForm.{Plan, names_of, scatter_aim, otherwise_label, end_goto, aim, exit, is_jumpy_switch, assigned, mark_if, arrival, dissolved, if_breaks, flat_for, flat, flat_item, flat_last, flat_last_item, flat_sections, spread}
 

@@ -7,11 +7,11 @@ use Rattle.c_tree.specs.TestTrees.{Source}
 use Rattle.c_tree.specs.Trees.{Forest, forest, Nil, Evaluate, Return, If, For, Local, Break, Continue, Goto, Mark}
 use Rattle.c_tree.specs.Changed.{one}
 use Rattle.jump_meaning.specs.Code.{FunctionTree}
-use Rattle.flat_looser_laws.specs.Pieces.{Stays}
-use Rattle.flat_looser_laws.specs.Placed.{Has, IsOnce}
+use Rattle.flat_laws.specs.Pieces.{Stays}
+use Rattle.flat_laws.specs.Placed.{Has, IsOnce}
 use Rattle.c_tree.specs.Numerals.{constant}
-use Rattle.flat_looser_laws.specs.Loose.{Setting, NoArrival, IsLooser}
-use Rattle.flat_looser_laws.proofs.Spelled.{spelled_numbers}
+use Rattle.flat_laws.specs.Loose.{Setting, NoArrival, IsLooser}
+use Rattle.flat_laws.proofs.Spelled.{spelled_numbers}
 use Rattle.c_tree.specs.Everywhere.{total}
 use Rattle.flat_laws.specs.Parts.{Here, gotos_to, is_some_number}
 use Rattle.flat_laws.specs.FlatForm.{Plan, flat, marks, coded, numbered, first_here, flat_body}

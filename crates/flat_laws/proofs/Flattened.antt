@@ -2,10 +2,10 @@
 use Rattle.std.proofs.Common.{ℕ, Bool, true, false, cond, Option, Some, None, ◌≡◌, refl, sym, ◌∙◌, ap, subst, true≢false}
 use Rattle.c_tree.specs.Trees.{Forest}
 use Rattle.jump_meaning.specs.Code.{FunctionTree, items_of}
-use Rattle.flat_looser_laws.specs.Pieces.{Stays}
-use Rattle.flat_looser_laws.specs.Placed.{IsOnce}
-use Rattle.flat_looser_laws.specs.Loose.{Setting, Open, NoArrival, Looser, IsLooser}
-use Rattle.flat_looser_laws.proofs.Placing.{once_placed}
+use Rattle.flat_laws.specs.Pieces.{Stays}
+use Rattle.flat_laws.specs.Placed.{IsOnce}
+use Rattle.flat_laws.specs.Loose.{Setting, Open, NoArrival, Looser, IsLooser}
+use Rattle.flat_laws.proofs.Placing.{once_placed}
 use Rattle.flat_laws.specs.Parts.{Here}
 use Rattle.flat_laws.specs.FlatForm.{Plan, flat}
 use Rattle.flat_laws.specs.FlatLaws.{IsSourceBody, IsFlattened, FlatLaws}

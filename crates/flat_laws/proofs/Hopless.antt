@@ -9,8 +9,8 @@ use Rattle.c_tree.proofs.KeptLemmas.{total-join}
 use Rattle.jump_meaning.specs.Code.{entry_or}
 use Rattle.jump_meaning.specs.World.{no_slot}
 use Rattle.jump_meaning.specs.Step.{switch_kind}
-use Rattle.flat_looser_laws.specs.Pieces.{Aim, Stays, Becomes, Absent, mark_of, third_items, assigned_cells}
-use Rattle.flat_looser_laws.specs.Loose.{Arrivals, NoArrival}
+use Rattle.flat_laws.specs.Pieces.{Aim, Stays, Becomes, Absent, mark_of, third_items, assigned_cells}
+use Rattle.flat_laws.specs.Loose.{Arrivals, NoArrival}
 use Rattle.flat_laws.specs.Parts.{is_some_number, is_scattered, holds_jump, holds_jump_in, holds_jump_among, Here, past, past_item, inside, Ending, Gone, Breaks, Jumps, Otherwise, ending, is_gone, kept_breaks}
 use Rattle.flat_laws.specs.FlatForm.{Plan, names_of, scatter_aim, aim, exit, is_moved, is_jumpy_switch, assigned, mark_if, dissolved, if_breaks, flat_for, flat, flat_item, flat_last, flat_last_item, flat_sections, spread}
 use Rattle.flat_laws.specs.FlatMade.{hop_of, hops, AreFirst}

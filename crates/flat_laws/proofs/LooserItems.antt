@@ -5,8 +5,8 @@ use Rattle.c_tree.specs.ExpressionTrees.{ExpressionTree}
 use Rattle.c_tree.specs.Exits.{breaks_in}
 use Rattle.c_tree.specs.Trees.{Tree, Forest, Nil, Then, Sections, NoSection, Section, If, While, Do, For, Block, Local, Break, Continue, Mark, Arrival, join}
 use Rattle.jump_meaning.specs.Search.{or_else, ToDefault}
-use Rattle.flat_looser_laws.specs.Pieces.{Aim, Stays, Becomes, Absent, IsMoved, Names, wanted, wanted_in, wanted_case, wanted_among, case_marks}
-use Rattle.flat_looser_laws.specs.Loose.{Setting, AreIn, slot_of, IsLocal, Open, Arrivals, NoArrival, Arrives, IsOtherwise, LooserItem, lo_number, lo_array, lo_break, lo_break_to, lo_continue, lo_continue_to, lo_mark, lo_drop, lo_arrival, Looser, Spread, ls_falls, ls_ends}
+use Rattle.flat_laws.specs.Pieces.{Aim, Stays, Becomes, Absent, IsMoved, Names, wanted, wanted_in, wanted_case, wanted_among, case_marks}
+use Rattle.flat_laws.specs.Loose.{Setting, AreIn, slot_of, IsLocal, Open, Arrivals, NoArrival, Arrives, IsOtherwise, LooserItem, lo_number, lo_array, lo_break, lo_break_to, lo_continue, lo_continue_to, lo_mark, lo_drop, lo_arrival, Looser, Spread, ls_falls, ls_ends}
 use Rattle.c_tree.specs.TextItems.{is_empty}
 use Rattle.flat_laws.specs.Parts.{is_some_number, arrivals, arrivals_in, section_labels, switch_labels, has_default, ends_some, Here}
 use Rattle.flat_laws.specs.FlatForm.{Plan, names_of, scatter_aim, otherwise_label, end_goto, aim, exit, assigned, mark_if, arrival}

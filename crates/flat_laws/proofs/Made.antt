@@ -13,10 +13,10 @@ use Rattle.c_tree.proofs.KeptLemmas.{total-join, SameEntries, everywhere_join}
 use Rattle.jump_meaning.specs.Code.{entry_or}
 use Rattle.jump_meaning.specs.World.{no_slot}
 use Rattle.jump_meaning.specs.Step.{switch_kind}
-use Rattle.flat_looser_laws.specs.Pieces.{Aim, Stays, Becomes, Absent, mark_of, third_items, with_third, assigned_cells, Names, is_number, test_for, tests_for, tests, tests_in, tests_among, case_marks}
-use Rattle.flat_looser_laws.specs.Placed.{places, places_among}
-use Rattle.flat_looser_laws.specs.Loose.{Arrivals, NoArrival, Arrives}
-use Rattle.flat_looser_laws.proofs.Exits.{free_join, stay_join, mark_free, third_free}
+use Rattle.flat_laws.specs.Pieces.{Aim, Stays, Becomes, Absent, mark_of, third_items, with_third, assigned_cells, Names, is_number, test_for, tests_for, tests, tests_in, tests_among, case_marks}
+use Rattle.flat_laws.specs.Placed.{places, places_among}
+use Rattle.flat_laws.specs.Loose.{Arrivals, NoArrival, Arrives}
+use Rattle.flat_laws.proofs.Exits.{free_join, stay_join, mark_free, third_free}
 use Rattle.c_tree.specs.TextItems.{is_empty}
 use Rattle.flat_laws.specs.Parts.{arrivals, arrivals_in, is_scattered, section_labels, switch_labels, has_default, ends_some, is_some_number, holds_jump, holds_jump_among, Here, past, past_item, inside, Ending, Gone, Breaks, Jumps, Otherwise, ending, is_gone, kept_breaks}
 use Rattle.flat_laws.specs.FlatForm.{Plan, names_of, scatter_aim, otherwise_label, end_goto, aim, exit, is_jumpy_switch, assigned, mark_if, arrival, dissolved, if_breaks, flat_for, flat, flat_item, flat_last, flat_last_item, flat_sections, spread}

@@ -7,9 +7,9 @@ use Rattle.c_tree.specs.TestTrees.{Source, On, Off, AndOff, OrOn, Selects, Pick}
 use Rattle.c_tree.specs.Everywhere.{Everywhere, EverywhereOf, EverywhereIn}
 use Rattle.c_tree.specs.Labels.{ItemLabels}
 use Rattle.c_tree.specs.Trees.{Tree, Forest, Nil, Then, Sections, NoSection, Section, If, While, Do, For, Switch, Block, Goto, Mark, Arm, Leap, Land}
-use Rattle.flat_looser_laws.specs.Pieces.{Stays}
-use Rattle.flat_looser_laws.specs.Placed.{places, places_of, places_among}
-use Rattle.flat_looser_laws.specs.Loose.{NoArrival}
+use Rattle.flat_laws.specs.Pieces.{Stays}
+use Rattle.flat_laws.specs.Placed.{places, places_of, places_among}
+use Rattle.flat_laws.specs.Loose.{NoArrival}
 use Rattle.flat_laws.specs.FlatForm.{flat, marks, marks_in, marks_among, place_in, coded, first_here, flat_body}
 use Rattle.flat_laws.proofs.Counts.{one_if}
 use Rattle.flat_laws.specs.FlatMade.{IsFlatItem, IsFlatMade}

@@ -7,9 +7,9 @@ use Rattle.c_tree.specs.Cases.{case_number}
 use Rattle.c_tree.specs.Everywhere.{total, Everywhere}
 use Rattle.c_tree.specs.Trees.{Tree, Forest, Sections, If, While, Do, For, Switch, Mark, Land}
 use Rattle.jump_meaning.specs.Step.{switch_kind}
-use Rattle.flat_looser_laws.specs.Pieces.{Stays}
-use Rattle.flat_looser_laws.specs.Placed.{places, IsOnce}
-use Rattle.flat_looser_laws.specs.Loose.{NoArrival}
+use Rattle.flat_laws.specs.Pieces.{Stays}
+use Rattle.flat_laws.specs.Placed.{places, IsOnce}
+use Rattle.flat_laws.specs.Loose.{NoArrival}
 use Rattle.flat_laws.specs.Parts.{is_scattered, switch_labels, cases_among, constructs_of, cases_of, Here, past}
 use Rattle.flat_laws.specs.FlatForm.{Plan, place_of, names_of, flat, marks, place_in, coded, numbered, first_here, flat_body}
 use Rattle.flat_laws.specs.Source.{mark_bit, nones, AreOther, AreDifferent, IfTrue, HasOwnCases, HasOwnLabels}

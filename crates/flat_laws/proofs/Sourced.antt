@@ -2,7 +2,7 @@
 use Rattle.std.proofs.Common.{ℕ, zero, suc, ◌+◌, ◌≤◌, ◌<◌, Bool, true, false, eqb, inl, inr, ◌⊎◌, ◌≡◌, refl, arith, eqb-true}
 use Rattle.c_tree.specs.Everywhere.{total, total_of, total_in, Everywhere, EverywhereOf, EverywhereIn}
 use Rattle.c_tree.specs.Trees.{Tree, Forest, Nil, Then, Sections, NoSection, Section, Evaluate, If, While, Do, For, Switch, Block, Local, Mark, Land}
-use Rattle.flat_looser_laws.specs.Placed.{places, places_of, places_among, Has, HasIn, HasAmong, IsOnce}
+use Rattle.flat_laws.specs.Placed.{places, places_of, places_among, Has, HasIn, HasAmong, IsOnce}
 use Rattle.flat_laws.specs.Parts.{is_named}
 use Rattle.flat_laws.specs.Source.{mark_bit}
 use Rattle.flat_laws.proofs.Counts.{one_if}

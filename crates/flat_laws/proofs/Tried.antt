@@ -8,7 +8,7 @@ use Rattle.c_tree.specs.ExpressionTrees.{ExpressionTree, NodeTree, Typed, Number
 use Rattle.c_tree.specs.TestTrees.{Source, Selects}
 use Rattle.c_tree.specs.Trees.{Tree, Forest, Nil, Then, NoSection, Section, Evaluate, Return, If, While, Do, For, Switch, Block, Local, Break, Continue, Goto, Mark, Arrival}
 use Rattle.c_tree.specs.Changed.{one}
-use Rattle.flat_looser_laws.specs.Pieces.{assign_number, is_number, assign_cell, zero_tree}
+use Rattle.flat_laws.specs.Pieces.{assign_number, is_number, assign_cell, zero_tree}
 use Rattle.flat_laws.specs.FlatForm.{flat_body}
 
 abbrev int_slot : Slot

@@ -5,11 +5,11 @@ use Rattle.c_tree.specs.Everywhere.{Everywhere, EverywhereOf, EverywhereIn}
 use Rattle.c_tree.specs.Trees.{Tree, Forest, Nil, Then, Sections, NoSection, Section, Evaluate, Return, If, While, Do, For, Switch, Block, Local, Break, Continue, Goto, Mark, Arm, Leap, Land, Arrival, Note, join}
 use Rattle.c_tree.specs.Changed.{one}
 use Rattle.jump_meaning.specs.Code.{FunctionTree, items_of}
-use Rattle.flat_looser_laws.specs.Pieces.{Stays}
-use Rattle.flat_looser_laws.specs.Placed.{IsUnlabelled, IsUnlabelledAmong, IsOnce}
-use Rattle.flat_looser_laws.specs.Loose.{Setting, Open, NoArrival, LooserItem, lo_evaluate, lo_return, lo_return_none, lo_note, lo_if, lo_while, lo_do, lo_keep_block, lo_keep_for, lo_keep_declares, lo_keep_local, lo_break, lo_continue, lo_drop, lo_switch, Looser, la_nil, la_then, LooserSections, lc_none, lc_section, IsLooser}
-use Rattle.flat_looser_laws.proofs.ControlFacts.{unlabelled_placed}
-use Rattle.flat_looser_laws.proofs.Placing.{once_placed}
+use Rattle.flat_laws.specs.Pieces.{Stays}
+use Rattle.flat_laws.specs.Placed.{IsUnlabelled, IsUnlabelledAmong, IsOnce}
+use Rattle.flat_laws.specs.Loose.{Setting, Open, NoArrival, LooserItem, lo_evaluate, lo_return, lo_return_none, lo_note, lo_if, lo_while, lo_do, lo_keep_block, lo_keep_for, lo_keep_declares, lo_keep_local, lo_break, lo_continue, lo_drop, lo_switch, Looser, la_nil, la_then, LooserSections, lc_none, lc_section, IsLooser}
+use Rattle.flat_laws.proofs.ControlFacts.{unlabelled_placed}
+use Rattle.flat_laws.proofs.Placing.{once_placed}
 use Rattle.flat_laws.specs.Unlabelled.{unlabelled, unlabelled_item, unlabelled_among, IsCalmItem, IsUnlabelledFrom}
 
 join_nil : (a : Forest) → join a Nil ≡ a

@@ -21,9 +21,9 @@ use Rattle.c_tree.specs.Trees.{Tree, Forest, Nil, Then, Sections, NoSection, Sec
 use Rattle.c_tree.specs.WellMade.{IsWellMade}
 use Rattle.c_tree.proofs.WellMoved.{everywhere_map}
 use Rattle.jump_meaning.specs.Steady.{IsUnarmed, IsMadeWell}
-use Rattle.flat_looser_laws.specs.Pieces.{Stays}
-use Rattle.flat_looser_laws.specs.Placed.{places}
-use Rattle.flat_looser_laws.specs.Loose.{NoArrival}
+use Rattle.flat_laws.specs.Pieces.{Stays}
+use Rattle.flat_laws.specs.Placed.{places}
+use Rattle.flat_laws.specs.Loose.{NoArrival}
 use Rattle.flat_laws.specs.FlatForm.{flat, marks, coded, numbered, first_here, flat_body}
 use Rattle.flat_laws.specs.Parts.{is_some_number, is_named, gotos_to, variables_of}
 use Rattle.flat_laws.proofs.Once.{flat_once}

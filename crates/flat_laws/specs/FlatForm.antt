@@ -13,8 +13,8 @@ use Rattle.c_tree.specs.Changed.{one}
 use Rattle.jump_meaning.specs.Code.{entry_or}
 use Rattle.jump_meaning.specs.World.{no_slot}
 use Rattle.jump_meaning.specs.Step.{switch_kind}
-use Rattle.flat_looser_laws.specs.Pieces.{Aim, Stays, Becomes, Absent, mark_of, test_or_one, with_third, assign_number, assigned_cells, Names, tests_among, case_marks}
-use Rattle.flat_looser_laws.specs.Loose.{Arrivals, NoArrival, Arrives}
+use Rattle.flat_laws.specs.Pieces.{Aim, Stays, Becomes, Absent, mark_of, test_or_one, with_third, assign_number, assigned_cells, Names, tests_among, case_marks}
+use Rattle.flat_laws.specs.Loose.{Arrivals, NoArrival, Arrives}
 use Rattle.flat_laws.specs.Parts.{is_some_number, is_scattered, switch_labels, cases_among, has_default, leaves, holds_jump, holds_jump_among, is_named, Here, past, past_item, inside, Ending, Breaks, is_gone, ending, kept_breaks, ends_then}
 
 -- the labels of a flat form, and what it takes of the function

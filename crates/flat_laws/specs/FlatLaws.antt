@@ -7,9 +7,9 @@ use Rattle.c_tree.specs.Trees.{Forest}
 use Rattle.c_tree.specs.Everywhere.{Everywhere}
 use Rattle.jump_meaning.specs.Code.{FunctionTree, items_of, entry_or}
 use Rattle.jump_meaning.specs.World.{no_slot}
-use Rattle.flat_looser_laws.specs.Pieces.{Stays}
-use Rattle.flat_looser_laws.specs.Placed.{Has, IsOnce}
-use Rattle.flat_looser_laws.specs.Loose.{Setting, slot_of, IsLocal, Open, NoArrival, Looser, ExtendSlots, IsLooser}
+use Rattle.flat_laws.specs.Pieces.{Stays}
+use Rattle.flat_laws.specs.Placed.{Has, IsOnce}
+use Rattle.flat_laws.specs.Loose.{Setting, slot_of, IsLocal, Open, NoArrival, Looser, ExtendSlots, IsLooser}
 use Rattle.c_tree.specs.TextItems.{is_empty}
 use Rattle.flat_laws.specs.Parts.{arrivals, Here}
 use Rattle.flat_laws.specs.FlatForm.{Plan, flat, flat_body}

@@ -7,7 +7,7 @@ use Rattle.c_tree.specs.Exits.{breaks, breaks_in, continues}
 use Rattle.c_tree.specs.InRange.{IsSourceTest, IsSourceSelector, IsUnguarded}
 use Rattle.c_tree.specs.Trees.{Tree, Forest, Nil, Then, Sections, Evaluate, If, While, Do, For, Switch, Block, Local, Goto, Mark, Arm, Leap, Land, Arrival}
 use Rattle.c_tree.specs.TestTrees.{SelectorTree}
-use Rattle.flat_looser_laws.specs.Placed.{places}
+use Rattle.flat_laws.specs.Placed.{places}
 use Rattle.flat_laws.specs.Parts.{is_scattered}
 use Rattle.flat_laws.specs.Source.{IfTrue}
 

@@ -15,9 +15,9 @@ use Rattle.c_tree.specs.WellMade.{IsWellMade}
 use Rattle.c_tree.specs.Conversions.{convert}
 use Rattle.jump_meaning.specs.Steady.{IsMadeWell}
 use Rattle.c_tree.specs.Numerals.{constant}
-use Rattle.flat_looser_laws.specs.Loose.{NoArrival}
-use Rattle.flat_looser_laws.specs.Pieces.{Stays}
-use Rattle.flat_looser_laws.specs.Placed.{Has, IsOnce}
+use Rattle.flat_laws.specs.Loose.{NoArrival}
+use Rattle.flat_laws.specs.Pieces.{Stays}
+use Rattle.flat_laws.specs.Placed.{Has, IsOnce}
 use Rattle.c_tree.specs.TextItems.{is_empty}
 use Rattle.flat_laws.specs.Parts.{arrivals, is_scattered, switch_labels, cases_among, is_named, variables_of}
 use Rattle.flat_laws.specs.FlatForm.{flat, marks, coded, first_here, flat_body}

@@ -6,3 +6,7 @@ pub mod Relabelled
 pub mod FlatLaws
 pub mod FlatMade
 pub mod FlatWellMadeLaws
+pub mod Pieces
+pub mod Placed
+pub mod Loose
+pub mod LooserLaws

@@ -5,7 +5,7 @@ use Rattle.c_tree.specs.ExpressionTrees.{ExpressionTree}
 use Rattle.c_tree.specs.TestTrees.{TestTree, Source, SelectorTree, Selects}
 use Rattle.c_tree.specs.Trees.{Tree, Forest, Nil, Then, Sections, NoSection, Section, Evaluate, Return, If, While, Do, For, Switch, Block, Local, Goto, Mark, Arm, Leap, Land}
 use Rattle.jump_meaning.specs.Step.{switch_kind}
-use Rattle.flat_looser_laws.specs.Loose.{Setting, In, AreIn, slot_of, IsLocal, IsNew}
+use Rattle.flat_laws.specs.Loose.{Setting, In, AreIn, slot_of, IsLocal, IsNew}
 use Rattle.c_tree.specs.TextItems.{is_empty}
 use Rattle.flat_laws.specs.Parts.{arrivals, is_scattered, switch_labels, cases_among, Here, past, past_item, inside}
 use Rattle.flat_laws.specs.FlatForm.{same_number}

@@ -4,7 +4,7 @@ use Rattle.c_tree.specs.Trees.{Tree, Forest, Nil, Then, Sections, NoSection, Sec
 use Rattle.c_tree.specs.Changed.{one}
 use Rattle.c_tree.specs.Everywhere.{Everywhere}
 use Rattle.jump_meaning.specs.Code.{FunctionTree, items_of}
-use Rattle.flat_looser_laws.specs.Loose.{Setting, ExtendSlots}
+use Rattle.flat_laws.specs.Loose.{Setting, ExtendSlots}
 use Rattle.flat_laws.specs.Source.{IsSourceItem}
 
 abbrev mutual

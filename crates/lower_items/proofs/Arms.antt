@@ -13,8 +13,8 @@ use Rattle.c_tree.specs.ExpressionTrees.{ExpressionTree}
 use Rattle.c_tree.specs.Trees as P
 use Rattle.c_tree.specs.Trees.{Tree, expression_trees}
 use Rattle.c_tree.specs.Views.{layer_at, tree_at}
-use Rattle.flat_looser_laws.specs.Pieces.{Aim}
-use Rattle.flat_looser_laws.specs.Loose.{Arrivals}
+use Rattle.flat_laws.specs.Pieces.{Aim}
+use Rattle.flat_laws.specs.Loose.{Arrivals}
 use Rattle.flat_laws.specs.Parts.{Here}
 use Rattle.lower_laws.specs.Lowered.{Layout, past_item, lowered_item}
 use Rattle.lower_items.specs.Forms.{simple_form, local_form}

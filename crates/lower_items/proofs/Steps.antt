@@ -9,8 +9,8 @@ use Rattle.c_tree.specs.Paths.{list_of}
 use Rattle.c_tree.specs.TestTrees.{TestTree, SelectorTree}
 use Rattle.c_tree.specs.Trees.{Tree, Forest, Nil, Then, Sections, If, While, Do, For, Switch, Block, Goto, Mark, trees_of, sections_of, expression_trees, join}
 use Rattle.c_tree.proofs.TreeLaws.{join-nil, trees-none, sections-none}
-use Rattle.flat_looser_laws.specs.Pieces.{Aim, Names, mark_of, case_marks}
-use Rattle.flat_looser_laws.specs.Loose.{Arrivals, Arrives}
+use Rattle.flat_laws.specs.Pieces.{Aim, Names, mark_of, case_marks}
+use Rattle.flat_laws.specs.Loose.{Arrivals, Arrives}
 use Rattle.flat_laws.specs.Parts.{Here}
 use Rattle.flat_laws.specs.FlatForm.{end_goto}
 use Rattle.lower_laws.specs.Lowered.{Layout, constructs_of, cases_of, variables_of, past, past_item, inside, is_bare, only_goto, jump_of, lowered, lowered_item, lowered_among}

@@ -6,7 +6,7 @@ use Rattle.c_tree.specs.Changed.{one}
 use Rattle.c_tree.specs.TestTrees.{SelectorTree}
 use Rattle.c_tree.specs.Trees.{Forest, Then, Sections, Evaluate, Goto, join}
 use Rattle.jump_meaning.specs.Step.{switch_kind}
-use Rattle.flat_looser_laws.specs.Pieces.{Aim, Becomes, Absent, assign_number}
+use Rattle.flat_laws.specs.Pieces.{Aim, Becomes, Absent, assign_number}
 use Rattle.flat_laws.specs.Parts.{Here, switch_labels, cases_among, has_default, leaves}
 use Rattle.flat_laws.specs.FlatForm.{place_of}
 use Rattle.flat_items.specs.Pieces.{number_tests}

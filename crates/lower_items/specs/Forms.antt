@@ -5,8 +5,8 @@ use Rattle.c_tree.specs.Everywhere.{total_in}
 use Rattle.c_tree.specs.ExpressionTrees.{ExpressionTree}
 use Rattle.c_tree.specs.Trees.{Tree, Forest, Nil, Then, Sections, Local, Break, Continue, Goto, Mark, Arrival, expression_trees, trees_of, join}
 use Rattle.c_tree.specs.declared.tree.Section as Real
-use Rattle.flat_looser_laws.specs.Pieces.{Aim, Names, case_marks}
-use Rattle.flat_looser_laws.specs.Loose.{Arrivals, Arrives}
+use Rattle.flat_laws.specs.Pieces.{Aim, Names, case_marks}
+use Rattle.flat_laws.specs.Loose.{Arrivals, Arrives}
 use Rattle.flat_laws.specs.Parts.{Here}
 use Rattle.flat_laws.specs.FlatForm.{end_goto, exit, mark_if, arrival, initialised}
 use Rattle.lower_items.specs.declared.plans.Labels.{Labels}

@@ -5,7 +5,7 @@ use Rattle.c_tree.specs.Exits.{breaks, continues}
 use Rattle.c_tree.specs.ExpressionTrees.{ExpressionTree}
 use Rattle.c_tree.specs.TestTrees.{TestTree, Source}
 use Rattle.c_tree.specs.Trees.{Forest, Then, Goto, Mark, trees_of, join}
-use Rattle.flat_looser_laws.specs.Pieces.{Aim, Becomes, Absent, mark_of, third_items}
+use Rattle.flat_laws.specs.Pieces.{Aim, Becomes, Absent, mark_of, third_items}
 use Rattle.flat_laws.specs.FlatForm.{aim}
 use Rattle.lower_laws.specs.Straight.{jump_if}
 use Rattle.lower_items.specs.declared.loops.Loop as L

@@ -2,8 +2,8 @@
 use Rattle.std.specs.Prelude.{ℕ, suc, ◌+◌, ◌*◌, ℤ, Option, Some, None}
 use Rattle.c_tree.specs.Cases.{case_number}
 use Rattle.c_tree.specs.Numerals.{constant}
-use Rattle.flat_looser_laws.specs.Pieces.{Names}
-use Rattle.flat_looser_laws.specs.Loose.{Arrivals}
+use Rattle.flat_laws.specs.Pieces.{Names}
+use Rattle.flat_laws.specs.Loose.{Arrivals}
 use Rattle.flat_laws.specs.Parts.{Here}
 use Rattle.flat_questions.specs.Reading.{is_flagged}
 use Rattle.flat_items.specs.Places.{place_at}

@@ -4,7 +4,7 @@ ghost use Rattle.c_tree.specs.Exits.{breaks, continues};
 ghost use Rattle.c_tree.specs.ExpressionTrees.{expression_tree};
 ghost use Rattle.c_tree.specs.TestTrees.{test_tree};
 ghost use Rattle.c_tree.specs.Trees.{Then, Goto, Mark, trees_of, join};
-ghost use Rattle.flat_looser_laws.specs.Pieces.{Becomes, mark_of, third_items as the_third_items};
+ghost use Rattle.flat_laws.specs.Pieces.{Becomes, mark_of, third_items as the_third_items};
 ghost use Rattle.flat_laws.specs.FlatForm.{aim as the_aim};
 ghost use Rattle.lower_laws.specs.Straight.{jump_if};
 ghost use Rattle.lower_items.specs.Loops.{frame_of, tested as the_tested, for_start, while_frame, do_frame, for_frame};

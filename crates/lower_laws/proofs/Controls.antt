@@ -9,9 +9,9 @@ use Rattle.jump_meaning.specs.Tasks.{WhileLoop, DoLoop, Loop, Task, Runs, Works,
 use Rattle.jump_meaning.specs.Search.{find}
 use Rattle.jump_meaning.specs.Step.{is_dropped}
 use Rattle.jump_meaning.proofs.TaskFacts.{items_join}
-use Rattle.flat_looser_laws.specs.Pieces.{test_or_one}
-use Rattle.flat_looser_laws.specs.Placed.{ArePlaced}
-use Rattle.flat_looser_laws.proofs.ControlFacts.{placed_join}
+use Rattle.flat_laws.specs.Pieces.{test_or_one}
+use Rattle.flat_laws.specs.Placed.{ArePlaced}
+use Rattle.flat_laws.proofs.ControlFacts.{placed_join}
 use Rattle.lower_laws.specs.Straight.{jump_if, if_items, while_items, do_items, ever_items, StraightItem, Straight, sl_nil, sl_end, sl_then, sl_declares, sl_while}
 
 -- tasks that no value waits for; B is the flat list

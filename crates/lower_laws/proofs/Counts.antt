@@ -9,9 +9,9 @@ use Rattle.c_tree.specs.Changed.{one}
 use Rattle.jump_meaning.specs.Code.{entry_or}
 use Rattle.jump_meaning.specs.World.{no_slot}
 use Rattle.jump_meaning.specs.Step.{switch_kind}
-use Rattle.flat_looser_laws.specs.Pieces.{Aim, Becomes, mark_of, third_items, with_third, Names, case_marks, tests_among}
-use Rattle.flat_looser_laws.specs.Placed.{places}
-use Rattle.flat_looser_laws.specs.Loose.{Arrivals, NoArrival, Arrives}
+use Rattle.flat_laws.specs.Pieces.{Aim, Becomes, mark_of, third_items, with_third, Names, case_marks, tests_among}
+use Rattle.flat_laws.specs.Placed.{places}
+use Rattle.flat_laws.specs.Loose.{Arrivals, NoArrival, Arrives}
 use Rattle.flat_laws.specs.Parts.{arrivals, arrivals_in, leaves, section_labels, switch_labels, Here}
 use Rattle.flat_laws.specs.FlatForm.{names_of, scatter_aim, otherwise_label, end_goto}
 use Rattle.flat_laws.proofs.Counts.{one_if, places_join, aim_places, scatter_places, third_places, assigned_places, tests_among_places, labelled, labelled_append, marks_places, arrived, arrived_append, sourced, gathered, gathered_in, gathered_among, exit_break, exit_continue, mark_places, arrival_places, end_places}

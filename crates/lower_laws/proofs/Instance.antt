@@ -8,10 +8,10 @@ use Rattle.c_tree.specs.Trees.{Forest, forest, Nil, Evaluate, Return, If, While,
 use Rattle.c_tree.specs.Changed.{one}
 use Rattle.c_tree.specs.Numerals.{constant}
 use Rattle.jump_meaning.specs.Code.{FunctionTree}
-use Rattle.flat_looser_laws.specs.Pieces.{Stays}
-use Rattle.flat_looser_laws.specs.Placed.{IsOnce}
-use Rattle.flat_looser_laws.specs.Loose.{Setting, NoArrival}
-use Rattle.flat_looser_laws.proofs.Spelled.{spelled_numbers}
+use Rattle.flat_laws.specs.Pieces.{Stays}
+use Rattle.flat_laws.specs.Placed.{IsOnce}
+use Rattle.flat_laws.specs.Loose.{Setting, NoArrival}
+use Rattle.flat_laws.proofs.Spelled.{spelled_numbers}
 use Rattle.flat_laws.specs.Parts.{Here}
 use Rattle.flat_laws.specs.FlatForm.{marks, first_here}
 use Rattle.lower_laws.specs.Lowered.{Layout, lowered, coded, placed, lowered_body}

@@ -5,8 +5,8 @@ use Rattle.c_tree.specs.Trees.{Tree, Forest, Then, Goto, Mark}
 use Rattle.c_tree.specs.Changed.{one}
 use Rattle.jump_meaning.specs.Tasks.{Task, items}
 use Rattle.jump_meaning.specs.Search.{find}
-use Rattle.flat_looser_laws.specs.Placed.{ArePlaced, IsPlaced, Has, HasIn}
-use Rattle.flat_looser_laws.proofs.ControlFacts.{placed_join}
+use Rattle.flat_laws.specs.Placed.{ArePlaced, IsPlaced, Has, HasIn}
+use Rattle.flat_laws.proofs.ControlFacts.{placed_join}
 use Rattle.lower_laws.specs.Straight.{while_items, StraightItem, st_evaluate, st_return, st_note, st_goto, st_mark, st_jump_if, st_if, st_do, st_ever, Straight, sl_nil, sl_end, sl_then, sl_declares, sl_while}
 use Rattle.lower_laws.proofs.Controls.{Control, ct_nil, ct_item, ct_mark, list_goes, while_list, while_again, while_end, do_list, do_end, ever_list, ever_end, then_list, then_end, else_list, else_end}
 

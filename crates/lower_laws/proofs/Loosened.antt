@@ -9,8 +9,8 @@ use Rattle.c_tree.specs.Trees.{Tree, Forest, Nil, Then, Sections, NoSection, Sec
 use Rattle.jump_meaning.specs.Code.{entry_or}
 use Rattle.jump_meaning.specs.World.{no_slot}
 use Rattle.jump_meaning.specs.Step.{switch_kind}
-use Rattle.flat_looser_laws.specs.Pieces.{Aim, Becomes, IsMoved, Names, assign_number, tests_among}
-use Rattle.flat_looser_laws.specs.Loose.{Setting, In, slot_of, IsLocal, Open, in_open, Arrivals, NoArrival, Arrives, LooserItem, lo_evaluate, lo_return, lo_return_none, lo_note, lo_if, lo_while, lo_do, lo_for_while, lo_block, lo_declares, lo_goto, lo_drop, lo_scatter, Looser, la_nil, la_then, Spread, ls_none}
+use Rattle.flat_laws.specs.Pieces.{Aim, Becomes, IsMoved, Names, assign_number, tests_among}
+use Rattle.flat_laws.specs.Loose.{Setting, In, slot_of, IsLocal, Open, in_open, Arrivals, NoArrival, Arrives, LooserItem, lo_evaluate, lo_return, lo_return_none, lo_note, lo_if, lo_while, lo_do, lo_for_while, lo_block, lo_declares, lo_goto, lo_drop, lo_scatter, Looser, la_nil, la_then, Spread, ls_none}
 use Rattle.flat_laws.specs.Parts.{is_some_number, arrivals, arrivals_in, switch_labels, has_default, ends_some, leaves, Here}
 use Rattle.flat_laws.specs.FlatForm.{names_of, scatter_aim, otherwise_label}
 use Rattle.flat_laws.specs.Source.{AreInitialisers, IsSourceItem}

@@ -12,12 +12,12 @@ use Rattle.jump_meaning.proofs.RunFacts.{same_trans}
 use Rattle.jump_meaning.proofs.UnguardedPrograms.{unflat_steady}
 use Rattle.core_laws.specs.Laws.{IsMadeBody, HasMadeBodies}
 use Rattle.core_laws.proofs.Programs.{made_bodies}
-use Rattle.flat_looser_laws.specs.Pieces.{Stays}
-use Rattle.flat_looser_laws.specs.Placed.{IsOnce}
-use Rattle.flat_looser_laws.specs.Loose.{NoArrival, Open, Looser, IsLooser, LooserFunction, lf_same, lf_looser}
-use Rattle.flat_looser_laws.proofs.Lifted.{loose_laws}
-use Rattle.flat_looser_laws.proofs.Placing.{once_placed}
-use Rattle.flat_looser_laws.proofs.Plain.{new_unguarded}
+use Rattle.flat_laws.specs.Pieces.{Stays}
+use Rattle.flat_laws.specs.Placed.{IsOnce}
+use Rattle.flat_laws.specs.Loose.{NoArrival, Open, Looser, IsLooser, LooserFunction, lf_same, lf_looser}
+use Rattle.flat_laws.proofs.Lifted.{loose_laws}
+use Rattle.flat_laws.proofs.Placing.{once_placed}
+use Rattle.flat_laws.proofs.Plain.{new_unguarded}
 use Rattle.flat_laws.specs.FlatForm.{place_in}
 use Rattle.lower_laws.specs.Straight.{Straight, sl_declares, IsStraight}
 use Rattle.lower_laws.specs.Rewritten.{Rewritten, rw_same, rw_by, RewrittenCode, RewrittenTops}

@@ -6,9 +6,9 @@ use Rattle.c_tree.specs.ExpressionTrees.{ExpressionTree}
 use Rattle.c_tree.specs.Everywhere.{total, Everywhere}
 use Rattle.c_tree.specs.Trees.{Tree, Forest, If, While, Do, For, Switch, Land}
 use Rattle.jump_meaning.specs.Step.{switch_kind}
-use Rattle.flat_looser_laws.specs.Pieces.{Stays}
-use Rattle.flat_looser_laws.specs.Placed.{places, IsOnce}
-use Rattle.flat_looser_laws.specs.Loose.{NoArrival}
+use Rattle.flat_laws.specs.Pieces.{Stays}
+use Rattle.flat_laws.specs.Placed.{places, IsOnce}
+use Rattle.flat_laws.specs.Loose.{NoArrival}
 use Rattle.flat_laws.specs.Parts.{switch_labels, cases_among, Here}
 use Rattle.flat_laws.specs.FlatForm.{names_of, marks, first_here}
 use Rattle.flat_laws.specs.Source.{mark_bit}

@@ -18,7 +18,7 @@ use Rattle.jump_meaning.specs.Tasks.{WhileLoop, DoLoop, Task, Runs, Loops, items
 use Rattle.jump_meaning.specs.Step.{Guards, no_guards, with_guard, Frame, Waits, State, At, HasEnded, HasTrapped, View, Finishes, Goes, Guarding, Yields, Takes, Arming, Acts, is_dropped, view, settle, leave, begin_call, invoke, perform, move, step}
 use Rattle.jump_meaning.specs.Runs.{iterate}
 use Rattle.jump_meaning.proofs.Scheme.{Joint}
-use Rattle.flat_looser_laws.specs.Placed.{ArePlaced}
+use Rattle.flat_laws.specs.Placed.{ArePlaced}
 use Rattle.lower_laws.specs.Straight.{StraightItem, st_evaluate, st_return, st_note, st_goto, st_mark, st_jump_if, st_if, st_do, st_ever, IsStraight}
 use Rattle.lower_laws.specs.Rewritten.{Rewritten, rw_same, rw_by, RewrittenCode}
 use Rattle.lower_laws.proofs.Controls.{Control, ct_nil, ct_item, ct_while, ct_do, ct_skip, ct_declares, ct_goto, ct_mark, ct_loops, Tasks, tk_control, tk_works, tk_if, tk_turns, tasks_works, control_if, tasks_dropped, list_goes, while_turns, while_stops, do_starts, ever_starts, if_holds, if_fails}

@@ -12,9 +12,9 @@ use Rattle.c_tree.specs.Trees.{Tree, Forest, Nil, Then, Sections, NoSection, Sec
 use Rattle.jump_meaning.specs.Code.{entry_or}
 use Rattle.jump_meaning.specs.World.{no_slot}
 use Rattle.jump_meaning.specs.Step.{switch_kind}
-use Rattle.flat_looser_laws.specs.Pieces.{Aim, Stays, Becomes, Absent, mark_of, third_items, Names, is_number, test_for, tests_for, tests, tests_in, tests_among, case_marks, assigned_cells}
-use Rattle.flat_looser_laws.specs.Placed.{Has}
-use Rattle.flat_looser_laws.specs.Loose.{Setting, Arrivals, NoArrival, Arrives}
+use Rattle.flat_laws.specs.Pieces.{Aim, Stays, Becomes, Absent, mark_of, third_items, Names, is_number, test_for, tests_for, tests, tests_in, tests_among, case_marks, assigned_cells}
+use Rattle.flat_laws.specs.Placed.{Has}
+use Rattle.flat_laws.specs.Loose.{Setting, Arrivals, NoArrival, Arrives}
 use Rattle.flat_laws.specs.Parts.{is_some_number, arrivals, arrivals_in, section_labels, switch_labels, has_default, ends_some, leaves, Here}
 use Rattle.flat_laws.specs.FlatForm.{names_of, scatter_aim, otherwise_label, end_goto, exit, assigned, mark_if, arrival}
 use Rattle.flat_laws.specs.Source.{IsSourceItem}

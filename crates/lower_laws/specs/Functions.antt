@@ -4,9 +4,9 @@ use Rattle.c_tree.specs.Exits.{breaks, continues}
 use Rattle.c_tree.specs.TestTrees.{Source}
 use Rattle.c_tree.specs.Trees.{Tree, Forest, Nil, Then, Evaluate, Return, If, Local, Goto, Mark, Note, join}
 use Rattle.jump_meaning.specs.Code.{FunctionTree, items_of}
-use Rattle.flat_looser_laws.specs.Pieces.{Stays}
-use Rattle.flat_looser_laws.specs.Placed.{Has, IsOnce}
-use Rattle.flat_looser_laws.specs.Loose.{Setting, NoArrival, ExtendSlots}
+use Rattle.flat_laws.specs.Pieces.{Stays}
+use Rattle.flat_laws.specs.Placed.{Has, IsOnce}
+use Rattle.flat_laws.specs.Loose.{Setting, NoArrival, ExtendSlots}
 use Rattle.flat_laws.specs.Parts.{Here}
 use Rattle.lower_laws.specs.Lowered.{Layout, lowered, declarations}
 use Rattle.lower_laws.specs.Source.{IsSourceBody}

@@ -11,7 +11,7 @@ use Rattle.jump_meaning.specs.Laws.{HoldsNumbers, IsTopUnflat}
 use Rattle.jump_meaning.specs.Runs.{SameBehaviour, BehaveTheSame}
 use Rattle.jump_meaning.specs.Steady.{IsSteadyCode}
 use Rattle.core_laws.specs.Laws.{HasMadeBodies}
-use Rattle.flat_looser_laws.specs.Placed.{IsOnce}
+use Rattle.flat_laws.specs.Placed.{IsOnce}
 use Rattle.lower_laws.specs.Straight.{IsStraight}
 use Rattle.lower_laws.specs.Lowered.{lowered_body}
 use Rattle.lower_laws.specs.Source.{HasOwnLabels}

@@ -10,8 +10,8 @@ use Rattle.c_tree.specs.Everywhere.{total}
 use Rattle.c_tree.specs.Trees.{Tree, Forest, Nil, Then, Sections, NoSection, Section, If, While, Do, For, Switch, Block, Local, Break, Continue, Goto, Mark, Arrival, join}
 use Rattle.c_tree.specs.Changed.{one}
 use Rattle.jump_meaning.specs.Step.{switch_kind}
-use Rattle.flat_looser_laws.specs.Pieces.{Aim, Stays, Becomes, mark_of, with_third, Names, case_marks}
-use Rattle.flat_looser_laws.specs.Loose.{Arrivals, NoArrival, Arrives}
+use Rattle.flat_laws.specs.Pieces.{Aim, Stays, Becomes, mark_of, with_third, Names, case_marks}
+use Rattle.flat_laws.specs.Loose.{Arrivals, NoArrival, Arrives}
 use Rattle.flat_laws.specs.Parts.{switch_labels, cases_among, is_named, Here}
 use Rattle.flat_laws.specs.FlatForm.{Plan, names_of, scatter_aim, end_goto, aim, exit, initialised, mark_if, arrival, dissolved, marks, place_in, numbered, first_here}
 use Rattle.lower_laws.specs.Straight.{jump_if, if_items, while_items, do_items, ever_items}

@@ -14,8 +14,8 @@ use Rattle.c_tree.specs.Trees.{Tree, Forest, Nil, Then, Sections, NoSection, Sec
 use Rattle.c_copies.specs.Names.{with_name, names, file_names}
 use Rattle.c_fresh_names.specs.Fresh.{numbered, fresh}
 use Rattle.jump_meaning.specs.Step.{switch_kind}
-use Rattle.flat_looser_laws.specs.Pieces.{Stays}
-use Rattle.flat_looser_laws.specs.Loose.{NoArrival}
+use Rattle.flat_laws.specs.Pieces.{Stays}
+use Rattle.flat_laws.specs.Loose.{NoArrival}
 use Rattle.flat_laws.specs.FlatForm.{marks, first_here}
 use Rattle.lower_laws.specs.Lowered.{coded, lowered, lowered_body, gotos}
 use Rattle.flat_names.specs.declared.whole.FlatNames.{FlatNames}

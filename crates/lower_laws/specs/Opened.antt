@@ -5,8 +5,8 @@ use Rattle.c_tree.specs.TestTrees.{TestTree, Source}
 use Rattle.c_tree.specs.Trees.{Tree, Forest, Nil, Then, Sections, NoSection, Section, If, While, Do, For, Switch, Block, Local, Break, Continue, Goto, Mark, Arrival, join}
 use Rattle.c_tree.specs.Changed.{one}
 use Rattle.jump_meaning.specs.Step.{switch_kind}
-use Rattle.flat_looser_laws.specs.Pieces.{Aim, Becomes, mark_of, test_or_one, with_third, Names, case_marks}
-use Rattle.flat_looser_laws.specs.Loose.{Arrivals, NoArrival, Arrives}
+use Rattle.flat_laws.specs.Pieces.{Aim, Becomes, mark_of, test_or_one, with_third, Names, case_marks}
+use Rattle.flat_laws.specs.Loose.{Arrivals, NoArrival, Arrives}
 use Rattle.flat_laws.specs.Parts.{Here}
 use Rattle.flat_laws.specs.FlatForm.{names_of, scatter_aim, end_goto, exit, initialised, mark_if, arrival, dissolved}
 use Rattle.lower_laws.specs.Straight.{jump_if}

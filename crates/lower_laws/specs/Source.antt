@@ -7,7 +7,7 @@ use Rattle.c_tree.specs.Trees.{Tree, Forest, Nil, Then, Sections, NoSection, Sec
 use Rattle.jump_meaning.specs.Code.{entry_or}
 use Rattle.jump_meaning.specs.World.{no_slot}
 use Rattle.jump_meaning.specs.Step.{switch_kind}
-use Rattle.flat_looser_laws.specs.Loose.{Setting, slot_of, IsLocal}
+use Rattle.flat_laws.specs.Loose.{Setting, slot_of, IsLocal}
 use Rattle.flat_laws.specs.Parts.{arrivals, switch_labels, cases_among, Here}
 use Rattle.flat_laws.specs.Source.{IsSourceItem, IsVariable, mark_bit, nones, AreDifferent}
 use Rattle.lower_laws.specs.Lowered.{Layout, past, past_item, inside}

@@ -5,8 +5,8 @@ use Rattle.c_tree.specs.TestTrees.{TestTree, Source}
 use Rattle.c_tree.specs.Trees.{Tree, Forest, Nil, Then, Evaluate, Return, If, While, Do, Local, Goto, Mark, Note, join}
 use Rattle.c_tree.specs.Changed.{one}
 use Rattle.jump_meaning.specs.Code.{FunctionTree, items_of}
-use Rattle.flat_looser_laws.specs.Pieces.{test_or_one}
-use Rattle.flat_looser_laws.specs.Placed.{ArePlaced, Has}
+use Rattle.flat_laws.specs.Pieces.{test_or_one}
+use Rattle.flat_laws.specs.Placed.{ArePlaced, Has}
 
 -- `if (t) goto l`
 abbrev pub jump_if : TestTree → ℕ → Tree

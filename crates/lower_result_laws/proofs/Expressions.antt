@@ -29,7 +29,7 @@ use Rattle.flat_laws.specs.FlatForm.{assigned}
 use Rattle.flat_names.specs.FlatNames.{with_known}
 use Rattle.jump_meaning.specs.Code.{function_tree}
 use Rattle.jump_meaning.specs.Step.{switch_kind}
-use Rattle.flat_looser_laws.specs.Pieces.{assign_number, assigned_cells, is_number}
+use Rattle.flat_laws.specs.Pieces.{assign_number, assigned_cells, is_number}
 use Rattle.lower_laws.specs.Straight.{jump_if}
 use Rattle.lower_laws.specs.Functions.{AreFlat}
 use Rattle.lower_laws.proofs.LoweredPrograms.{lowered_laws}

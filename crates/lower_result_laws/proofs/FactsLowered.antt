@@ -14,8 +14,8 @@ use Rattle.c_tree.specs.Everywhere.{total, total_of, total_in, Everywhere, Every
 use Rattle.c_tree.proofs.KeptLemmas.{everywhere_join}
 use Rattle.c_resolved_defs.specs.Within.{TestExpression}
 use Rattle.jump_meaning.specs.Step.{switch_kind}
-use Rattle.flat_looser_laws.specs.Pieces.{Aim, Stays, Becomes, Absent, mark_of, third_items, with_third, assign_number, Names, is_number, test_for, tests_for, tests, tests_in, tests_among, case_marks}
-use Rattle.flat_looser_laws.specs.Loose.{Setting, Arrivals, NoArrival, Arrives}
+use Rattle.flat_laws.specs.Pieces.{Aim, Stays, Becomes, Absent, mark_of, third_items, with_third, assign_number, Names, is_number, test_for, tests_for, tests, tests_in, tests_among, case_marks}
+use Rattle.flat_laws.specs.Loose.{Setting, Arrivals, NoArrival, Arrives}
 use Rattle.flat_laws.specs.Parts.{Here}
 use Rattle.flat_laws.specs.FlatForm.{names_of, scatter_aim, otherwise_label, end_goto, exit, initialised, mark_if, arrival, dissolved}
 use Rattle.flat_laws.specs.Source.{IsVariable}

@@ -6,7 +6,7 @@ use Rattle.c_tree.specs.Changed.{one}
 use Rattle.c_tree.specs.Everywhere.{Everywhere}
 use Rattle.c_tree.proofs.KeptLemmas.{everywhere_join}
 use Rattle.jump_meaning.specs.Code.{FunctionTree, items_of}
-use Rattle.flat_looser_laws.specs.Placed.{Has, HasIn}
+use Rattle.flat_laws.specs.Placed.{Has, HasIn}
 use Rattle.lower_laws.specs.Straight.{jump_if, if_items, while_items, do_items, ever_items, StraightItem, st_evaluate, st_return, st_note, st_goto, st_mark, st_jump_if, st_if, st_do, st_ever, Straight, sl_nil, sl_end, sl_then, sl_declares, sl_while, IsStraight}
 use Rattle.lower_laws.specs.Functions.{IsLowered}
 use Rattle.lower_laws.proofs.Standing.{has_left, has_right}

@@ -13,10 +13,10 @@ use Rattle.c_tree.specs.Trees.{Forest, Nil, join, trees_of}
 use Rattle.c_tree.specs.Exits.{breaks, continues}
 use Rattle.jump_meaning.specs.Code.{function_tree, items_of, entry_or}
 use Rattle.jump_meaning.specs.World.{no_slot}
-use Rattle.flat_looser_laws.specs.Pieces.{Stays}
-use Rattle.flat_looser_laws.specs.Placed.{IsOnce, Has}
-use Rattle.flat_looser_laws.specs.Loose.{Setting, NoArrival, ExtendSlots}
-use Rattle.flat_looser_laws.proofs.Spelled.{spelled_numbers}
+use Rattle.flat_laws.specs.Pieces.{Stays}
+use Rattle.flat_laws.specs.Placed.{IsOnce, Has}
+use Rattle.flat_laws.specs.Loose.{Setting, NoArrival, ExtendSlots}
+use Rattle.flat_laws.proofs.Spelled.{spelled_numbers}
 use Rattle.flat_laws.specs.Parts.{arrivals, is_named}
 use Rattle.flat_laws.specs.FlatForm.{marks, first_here}
 use Rattle.flat_laws.specs.Source.{IsSourceItem}

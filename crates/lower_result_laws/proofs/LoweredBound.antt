@@ -20,7 +20,7 @@ use Rattle.c_tree.specs.Trees.{Tree, Forest, Nil, Then, Evaluate, Return, If, Wh
 use Rattle.c_tree.specs.Everywhere.{total, Everywhere, EverywhereOf}
 use Rattle.c_tree.proofs.WellMoved.{everywhere_map, everywhere_both}
 use Rattle.jump_meaning.specs.Step.{switch_kind}
-use Rattle.flat_looser_laws.specs.Pieces.{assign_number, assigned_cells}
+use Rattle.flat_laws.specs.Pieces.{assign_number, assigned_cells}
 use Rattle.flat_laws.specs.FlatForm.{assigned}
 use Rattle.flat_laws.specs.Source.{IsVariable}
 use Rattle.plain_laws.specs.Slotted.{variable, AreDeclarations, none, one_more}

@@ -7,8 +7,8 @@ use Rattle.c_tree.specs.Everywhere.{total, Everywhere}
 use Rattle.c_tree.specs.Trees.{Tree, Forest, join}
 use Rattle.c_tree.proofs.KeptLemmas.{everywhere_join}
 use Rattle.c_tree.proofs.WellMoved.{everywhere_map}
-use Rattle.flat_looser_laws.specs.Pieces.{Stays}
-use Rattle.flat_looser_laws.specs.Loose.{NoArrival}
+use Rattle.flat_laws.specs.Pieces.{Stays}
+use Rattle.flat_laws.specs.Loose.{NoArrival}
 use Rattle.flat_laws.specs.FlatForm.{first_here}
 use Rattle.lower_laws.specs.Lowered.{lowered, declarations, variables_of}
 use Rattle.lower_laws.specs.Lowering.{constructs, lowered_names}

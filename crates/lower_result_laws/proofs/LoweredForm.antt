@@ -12,7 +12,7 @@ use Rattle.c_tree.specs.InRange.{body_of}
 use Rattle.c_tree.specs.Numerals.{constant}
 use Rattle.c_tree.proofs.WellMoved.{everywhere_map}
 use Rattle.jump_meaning.specs.Code.{function_tree}
-use Rattle.flat_looser_laws.specs.Placed.{Has}
+use Rattle.flat_laws.specs.Placed.{Has}
 use Rattle.flat_laws.specs.FlatForm.{marks, first_here}
 use Rattle.lower_laws.specs.Lowered.{coded, lowered_body, declarations, variables_of}
 use Rattle.lower_laws.specs.Source.{HasOwnLabels}

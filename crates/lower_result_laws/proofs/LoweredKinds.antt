@@ -23,7 +23,7 @@ use Rattle.jump_meaning.specs.Code.{entry_or}
 use Rattle.jump_meaning.specs.World.{no_slot}
 use Rattle.jump_meaning.specs.Operations.{operand_kind}
 use Rattle.jump_meaning.specs.Step.{switch_kind}
-use Rattle.flat_looser_laws.specs.Pieces.{assigned_cells, assign_number}
+use Rattle.flat_laws.specs.Pieces.{assigned_cells, assign_number}
 use Rattle.flat_laws.specs.FlatForm.{assigned, initialised}
 use Rattle.flat_laws.specs.Source.{IsVariable}
 use Rattle.plain_laws.proofs.Statements.{promoted_twice}

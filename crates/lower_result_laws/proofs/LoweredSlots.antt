@@ -12,7 +12,7 @@ use Rattle.flat_laws.specs.Source.{IsVariable}
 use Rattle.c_resolved_defs.specs.Names.{Names}
 use Rattle.c_resolved_defs.specs.Files.{IsLength, IsParameterLength, AreLengths}
 use Rattle.c_resolved_defs.specs.Resolved.{HasLengths}
-use Rattle.flat_looser_laws.specs.Loose.{ExtendSlots}
+use Rattle.flat_laws.specs.Loose.{ExtendSlots}
 use Rattle.flat_function.proofs.Forms.{first_same}
 use Rattle.whole_laws.proofs.MadeKinds.{IsFreeNumber, IsFreeArray}
 use Rattle.whole_laws.proofs.NamesKept.{SameVariable, KeepsSlots, extended, Found, slot_over}

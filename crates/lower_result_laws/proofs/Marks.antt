@@ -13,8 +13,8 @@ use Rattle.c_tree.specs.Everywhere.{Everywhere, EverywhereOf, EverywhereIn}
 use Rattle.jump_meaning.specs.Code.{entry_or}
 use Rattle.jump_meaning.specs.World.{no_slot}
 use Rattle.jump_meaning.specs.Step.{switch_kind}
-use Rattle.flat_looser_laws.specs.Pieces.{Aim, Stays, Becomes, Absent, mark_of, third_items, with_third, assigned_cells, Names, is_number, test_for, tests_for, tests, tests_in, tests_among, case_marks}
-use Rattle.flat_looser_laws.specs.Loose.{Arrivals, NoArrival, Arrives}
+use Rattle.flat_laws.specs.Pieces.{Aim, Stays, Becomes, Absent, mark_of, third_items, with_third, assigned_cells, Names, is_number, test_for, tests_for, tests, tests_in, tests_among, case_marks}
+use Rattle.flat_laws.specs.Loose.{Arrivals, NoArrival, Arrives}
 use Rattle.flat_laws.specs.Parts.{leaves, Here}
 use Rattle.flat_laws.specs.FlatForm.{names_of, scatter_aim, otherwise_label, end_goto, aim, exit, assigned, mark_if, arrival, marks, marks_in, place_in}
 use Rattle.lower_laws.specs.Straight.{jump_if, while_items, do_items, ever_items}

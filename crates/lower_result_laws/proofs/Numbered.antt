@@ -4,7 +4,7 @@ use Rattle.std.proofs.lemmas.Bool.Decides.{Decides-eqb}
 use Rattle.c_tree.specs.TestTrees.{Source}
 use Rattle.c_tree.specs.ExpressionTrees.{ExpressionTree}
 use Rattle.c_tree.specs.Trees.{Tree, Forest, Nil, Then, Evaluate, Return, If, Local, Goto, Mark, Note}
-use Rattle.flat_looser_laws.specs.Placed.{places, Has}
+use Rattle.flat_laws.specs.Placed.{places, Has}
 use Rattle.flat_laws.specs.FlatForm.{marks, place_in}
 use Rattle.lower_laws.specs.Straight.{jump_if}
 use Rattle.lower_laws.specs.Functions.{IsFlatItem, AreFlat}

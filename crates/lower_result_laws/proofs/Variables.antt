@@ -13,7 +13,7 @@ use Rattle.c_fresh_names.specs.Fresh.{numbered, fresh}
 use Rattle.jump_meaning.specs.Code.{entry_or}
 use Rattle.jump_meaning.specs.World.{no_slot}
 use Rattle.jump_meaning.specs.Step.{switch_kind}
-use Rattle.flat_looser_laws.specs.Loose.{Setting, ExtendSlots}
+use Rattle.flat_laws.specs.Loose.{Setting, ExtendSlots}
 use Rattle.flat_laws.specs.Parts.{Here}
 use Rattle.flat_laws.specs.Source.{IsVariable}
 use Rattle.flat_names.specs.FlatNames.{Named, number_slot, slot_named, slot_taken, slot_used, named_slots}

@@ -16,8 +16,8 @@ use Rattle.c_resolved_defs.specs.Form.{gathered, gathered_of, gathered_in, marke
 use Rattle.jump_meaning.specs.Code.{entry_or}
 use Rattle.jump_meaning.specs.World.{no_slot}
 use Rattle.jump_meaning.specs.Step.{switch_kind}
-use Rattle.flat_looser_laws.specs.Pieces.{Aim, Stays, Becomes, Absent, mark_of, third_items, assigned_cells, Names, is_number, test_for, tests_for, tests, tests_in, tests_among, case_marks}
-use Rattle.flat_looser_laws.specs.Loose.{Arrivals, NoArrival, Arrives}
+use Rattle.flat_laws.specs.Pieces.{Aim, Stays, Becomes, Absent, mark_of, third_items, assigned_cells, Names, is_number, test_for, tests_for, tests, tests_in, tests_among, case_marks}
+use Rattle.flat_laws.specs.Loose.{Arrivals, NoArrival, Arrives}
 use Rattle.flat_laws.specs.Parts.{arrivals, arrivals_in, is_scattered, section_labels, switch_labels, holds_jump, kept_breaks, Here, past, past_item, inside, Ending, Gone, Breaks, Jumps, Otherwise, ending, is_gone}
 use Rattle.flat_laws.specs.FlatForm.{Plan, names_of, scatter_aim, otherwise_label, end_goto, aim, exit, is_jumpy_switch, assigned, mark_if, arrival, dissolved, if_breaks, flat_for, flat, flat_item, flat_last, flat_last_item, flat_sections, spread, coded, first_here}
 use Rattle.flat_laws.specs.FlatWellMadeLaws.{label_count}

@@ -7,8 +7,8 @@ use Rattle.c_tree.specs.Everywhere.{total, Everywhere}
 use Rattle.c_tree.specs.Numerals.{constant}
 use Rattle.c_tree.specs.Trees.{Forest}
 use Rattle.c_tree.proofs.WellMoved.{everywhere_both}
-use Rattle.flat_looser_laws.specs.Pieces.{Stays}
-use Rattle.flat_looser_laws.specs.Loose.{NoArrival}
+use Rattle.flat_laws.specs.Pieces.{Stays}
+use Rattle.flat_laws.specs.Loose.{NoArrival}
 use Rattle.flat_laws.specs.Parts.{cases_of}
 use Rattle.flat_laws.specs.FlatForm.{flat, coded, first_here}
 use Rattle.flat_laws.specs.Source.{HasOwnCases}

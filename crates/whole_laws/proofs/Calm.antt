@@ -6,7 +6,7 @@ use Rattle.c_tree.specs.TestTrees.{TestTree, Source, On, Off, AndOff, OrOn, Sele
 use Rattle.c_tree.specs.Trees.{Tree, Forest, Nil, Then, Sections, NoSection, Section, Evaluate, Return, If, While, Do, For, Switch, Block, Local, Break, Continue, Goto, Mark, Arm, Leap, Land, Arrival, Note}
 use Rattle.c_tree.specs.Everywhere.{total, total_of, total_in, Everywhere, EverywhereOf, EverywhereIn}
 use Rattle.c_tree.specs.InRange.{body_of}
-use Rattle.flat_looser_laws.specs.Loose.{Setting, AreIn}
+use Rattle.flat_laws.specs.Loose.{Setting, AreIn}
 use Rattle.c_tree.specs.TextItems.{is_empty}
 use Rattle.flat_laws.specs.Parts.{arrivals, arrivals_in, is_scattered, jumps_of, has_jumps, is_some_number}
 use Rattle.flat_laws.specs.Source.{InTest, InSelector, IsSourceItem}

@@ -17,8 +17,8 @@ use Rattle.c_tree.specs.Changed.{one}
 use Rattle.c_tree.specs.Everywhere.{total, total_of, total_in, Everywhere, EverywhereOf, EverywhereIn}
 use Rattle.c_tree.proofs.KeptLemmas.{everywhere_join}
 use Rattle.jump_meaning.specs.Step.{switch_kind}
-use Rattle.flat_looser_laws.specs.Pieces.{Aim, Stays, Becomes, Absent, mark_of, test_or_one, third_items, assign_number, Names, is_number, test_for, tests_for, tests, tests_in, tests_among, case_marks}
-use Rattle.flat_looser_laws.specs.Loose.{Setting, Arrivals, NoArrival, Arrives}
+use Rattle.flat_laws.specs.Pieces.{Aim, Stays, Becomes, Absent, mark_of, test_or_one, third_items, assign_number, Names, is_number, test_for, tests_for, tests, tests_in, tests_among, case_marks}
+use Rattle.flat_laws.specs.Loose.{Setting, Arrivals, NoArrival, Arrives}
 use Rattle.flat_laws.specs.Parts.{is_scattered, holds_jump, kept_breaks, variables_of, Here, past, past_item, inside, Ending, Gone, Breaks, Jumps, Otherwise, ending, is_gone}
 use Rattle.flat_laws.specs.FlatForm.{Plan, names_of, scatter_aim, otherwise_label, end_goto, aim, exit, is_jumpy_switch, initialised, mark_if, arrival, dissolved, if_breaks, flat_for, flat, flat_item, flat_last, flat_last_item, flat_sections, spread}
 use Rattle.flat_laws.specs.Source.{IsVariable, IfTrue, HaveVariables, HasVariables, HaveVariablesAmong}

@@ -17,8 +17,8 @@ use Rattle.c_tree.specs.WellMade.{HasSelectorKind, HasPicks}
 use Rattle.c_tree.proofs.WellMoved.{everywhere_map, everywhere_both}
 use Rattle.jump_meaning.specs.Operations.{operand_kind}
 use Rattle.jump_meaning.specs.Step.{switch_kind}
-use Rattle.flat_looser_laws.specs.Pieces.{Stays, assign_number}
-use Rattle.flat_looser_laws.specs.Loose.{NoArrival}
+use Rattle.flat_laws.specs.Pieces.{Stays, assign_number}
+use Rattle.flat_laws.specs.Loose.{NoArrival}
 use Rattle.flat_laws.specs.Parts.{variables_of}
 use Rattle.flat_laws.specs.FlatForm.{flat_body, first_here}
 use Rattle.flat_laws.specs.Source.{IsVariable, HaveVariables}

@@ -19,8 +19,8 @@ use Rattle.c_tree.proofs.WellMoved.{everywhere_map, everywhere_both}
 use Rattle.jump_meaning.specs.Code.{entry_or}
 use Rattle.jump_meaning.specs.World.{no_slot}
 use Rattle.jump_meaning.specs.Step.{switch_kind}
-use Rattle.flat_looser_laws.specs.Pieces.{Stays, assign_number, assigned_cells, is_number}
-use Rattle.flat_looser_laws.specs.Loose.{NoArrival}
+use Rattle.flat_laws.specs.Pieces.{Stays, assign_number, assigned_cells, is_number}
+use Rattle.flat_laws.specs.Loose.{NoArrival}
 use Rattle.flat_laws.specs.FlatForm.{assigned, coded, numbered, first_here, flat, flat_body, marks}
 use Rattle.flat_laws.specs.Source.{IsVariable}
 use Rattle.plain_laws.specs.GuardSlots.{truth, armed, plain_test, plain_item}

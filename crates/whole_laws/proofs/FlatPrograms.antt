@@ -18,8 +18,8 @@ use Rattle.jump_meaning.specs.Laws.{IsTopUnflat}
 use Rattle.jump_meaning.specs.Runs.{BehaveTheSame}
 use Rattle.jump_meaning.specs.Steady.{IsUnarmed, IsMadeWell, IsTopMadeWell, IsSteady}
 use Rattle.jump_meaning.proofs.UnguardedPrograms.{steady_laws}
-use Rattle.flat_looser_laws.specs.Loose.{LooserTop, lt_same, lt_function, LooserTops, lt_none, lt_more}
-use Rattle.flat_looser_laws.proofs.Lifted.{loose_laws}
+use Rattle.flat_laws.specs.Loose.{LooserTop, lt_same, lt_function, LooserTops, lt_none, lt_more}
+use Rattle.flat_laws.proofs.Lifted.{loose_laws}
 use Rattle.c_tree.specs.Conversions.{convert}
 use Rattle.move_order_laws.proofs.ConvertedTrees.{converted_trees}
 use Rattle.plain_laws.specs.Kinded.{Grown}

@@ -15,10 +15,10 @@ use Rattle.c_tree.specs.Slots.{ItemSlots}
 use Rattle.c_tree.proofs.WellMoved.{everywhere_map}
 use Rattle.jump_meaning.specs.Code.{Code, function_tree, items_of, entry_or}
 use Rattle.jump_meaning.specs.World.{no_slot}
-use Rattle.flat_looser_laws.specs.Pieces.{Stays}
+use Rattle.flat_laws.specs.Pieces.{Stays}
 use Rattle.c_tree.specs.Numerals.{constant}
-use Rattle.flat_looser_laws.specs.Placed.{IsOnce, Has}
-use Rattle.flat_looser_laws.specs.Loose.{Setting, AreIn, NoArrival, ExtendSlots, IsLooser}
+use Rattle.flat_laws.specs.Placed.{IsOnce, Has}
+use Rattle.flat_laws.specs.Loose.{Setting, AreIn, NoArrival, ExtendSlots, IsLooser}
 use Rattle.flat_laws.specs.Parts.{is_named, has_jumps, variables_of}
 use Rattle.flat_laws.specs.FlatForm.{flat, flat_body, first_here}
 use Rattle.flat_laws.specs.Source.{InTest, InSelector, AreInitialisers, IsSourceItem, HaveVariables}

@@ -7,8 +7,8 @@ use Rattle.c_tree.specs.Trees.{Tree, Forest, Nil, Then, Sections, NoSection, Sec
 use Rattle.c_tree.specs.Everywhere.{total, total_of, total_in, Everywhere, EverywhereOf, EverywhereIn}
 use Rattle.c_tree.proofs.KeptLemmas.{total-join}
 use Rattle.jump_meaning.specs.Step.{switch_kind}
-use Rattle.flat_looser_laws.specs.Pieces.{Aim, mark_of, third_items, Names, tests_among, case_marks}
-use Rattle.flat_looser_laws.specs.Loose.{Arrivals, NoArrival, Arrives}
+use Rattle.flat_laws.specs.Pieces.{Aim, mark_of, third_items, Names, tests_among, case_marks}
+use Rattle.flat_laws.specs.Loose.{Arrivals, NoArrival, Arrives}
 use Rattle.flat_laws.specs.Parts.{is_scattered, holds_jump, kept_breaks, jumps_of, Here, past, past_item, inside, Ending, Gone, Breaks, Jumps, Otherwise, later, if_jumps, ending, ending_of, is_gone}
 use Rattle.flat_laws.specs.FlatForm.{Plan, names_of, scatter_aim, otherwise_label, end_goto, aim, is_jumpy_switch, dissolved, if_breaks, flat_for, flat, flat_item, flat_last, flat_last_item, flat_sections, spread}
 use Rattle.flat_laws.proofs.SameCounts.{weight}

@@ -26,10 +26,10 @@ use Rattle.jump_meaning.specs.Code.{Code, entry_or}
 use Rattle.jump_meaning.specs.World.{no_slot}
 use Rattle.jump_meaning.specs.Step.{switch_kind}
 use Rattle.jump_meaning.specs.Operations.{operand_kind}
-use Rattle.flat_looser_laws.specs.Pieces.{Aim, Stays, Becomes, Absent, mark_of, test_or_one, third_items, assign_number, assign_cell, zero_tree, assigned_cells, Names, is_number, test_for, tests_for, tests, tests_in, tests_among, case_marks}
+use Rattle.flat_laws.specs.Pieces.{Aim, Stays, Becomes, Absent, mark_of, test_or_one, third_items, assign_number, assign_cell, zero_tree, assigned_cells, Names, is_number, test_for, tests_for, tests, tests_in, tests_among, case_marks}
 use Rattle.c_tree.specs.Numerals.{number, least_constant, constant}
 use Rattle.c_tree.proofs.NumeralLaws.{constant_pos}
-use Rattle.flat_looser_laws.specs.Loose.{Setting, Arrivals, NoArrival, Arrives}
+use Rattle.flat_laws.specs.Loose.{Setting, Arrivals, NoArrival, Arrives}
 use Rattle.flat_laws.specs.Parts.{is_scattered, holds_jump, kept_breaks, variables_of, Here, past, past_item, inside, Ending, Gone, Breaks, Jumps, Otherwise, ending, is_gone}
 use Rattle.flat_laws.specs.FlatForm.{Plan, names_of, scatter_aim, otherwise_label, end_goto, aim, exit, is_jumpy_switch, assigned, initialised, mark_if, arrival, dissolved, if_breaks, flat_for, flat, flat_item, flat_last, flat_last_item, flat_sections, spread}
 use Rattle.flat_laws.specs.Source.{IsVariable, IfTrue, HaveVariables, HasVariables, HaveVariablesAmong}
@@ -38,7 +38,7 @@ use Rattle.plain_laws.proofs.KindsKept.{item_kept}
 use Rattle.whole_laws.proofs.WholeKindsPrograms.{same_slots}
 use Rattle.c_tree.specs.InRange.{body_of}
 use Rattle.c_tree.proofs.WellMoved.{everywhere_map, everywhere_both}
-use Rattle.flat_looser_laws.specs.Loose.{ExtendSlots}
+use Rattle.flat_laws.specs.Loose.{ExtendSlots}
 use Rattle.whole_laws.specs.Rewritten.{plan_of, setting, IsFlatForm}
 use Rattle.whole_laws.proofs.Source.{HasForKind, HasFewCells, IsSourceFunction}
 use Rattle.whole_laws.proofs.Flattened.{body_is, grown, flat_trees}

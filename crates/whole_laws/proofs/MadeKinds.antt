@@ -14,7 +14,7 @@ use Rattle.c_tree.specs.Constants.{kind_of, HasKind}
 use Rattle.c_tree.specs.ExpressionTrees.{ExpressionTree, Typed, Var, Read, Unary, Binary}
 use Rattle.c_tree.specs.Numerals.{number, least_constant, constant}
 use Rattle.c_tree.proofs.NumeralLaws.{constant_pos}
-use Rattle.flat_looser_laws.specs.Pieces.{assign_number, assign_cell, is_number}
+use Rattle.flat_laws.specs.Pieces.{assign_number, assign_cell, is_number}
 use Rattle.plain_laws.specs.GuardSlots.{guard, guard_off, is_truth, unequal_zero, truth, picked}
 use Rattle.c_tree.specs.TestTrees.{SelectorTree, Selects, Pick}
 use Rattle.c_tree.specs.Cases.{selector_source, ArePicks}

@@ -9,8 +9,8 @@ use Rattle.c_tree.specs.InRange.{body_of}
 use Rattle.c_tree.specs.Numerals.{constant}
 use Rattle.c_tree.specs.Slots.{ItemSlots}
 use Rattle.c_tree.specs.Trees.{Forest}
-use Rattle.flat_looser_laws.specs.Pieces.{Stays}
-use Rattle.flat_looser_laws.specs.Loose.{NoArrival}
+use Rattle.flat_laws.specs.Pieces.{Stays}
+use Rattle.flat_laws.specs.Loose.{NoArrival}
 use Rattle.flat_laws.specs.Parts.{is_some_number, has_jumps, jumps_of}
 use Rattle.flat_laws.specs.FlatForm.{coded, numbered, first_here, flat, flat_body, marks}
 use Rattle.flat_laws.specs.FlatWellMadeLaws.{IsGoodSource, label_count}

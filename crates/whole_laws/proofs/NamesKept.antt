@@ -7,7 +7,7 @@ use Rattle.c_tree.specs.declared.tree.Slot.{Slot}
 use Rattle.c_tree.specs.declared.tree.Home.{Home}
 use Rattle.c_tree.specs.declared.tree.Home.TheVariants as H
 use Rattle.c_tree.specs.ExpressionTrees.{ExpressionTree, PlaceTree, Arguments, Typed, Var, Cell, Number, Character, EnumName, Text, Array, Read, Unary, Cast, Binary, Conditional, Assign, Update, Count, Comma, Call, NoArgument, Argument}
-use Rattle.flat_looser_laws.specs.Loose.{ExtendSlots}
+use Rattle.flat_laws.specs.Loose.{ExtendSlots}
 use Rattle.c_resolved_defs.specs.Within.{Each, Within}
 use Rattle.c_resolved_defs.specs.Names.{Names, Callee, Plain, Printf, Unknown, variable, home_of, callee}
 use Rattle.c_resolved_defs.specs.Kinds.{HasValue, IsNumber, IsArray, PlaceAgrees, KeepsConst, IsArrayFor, FitsCells, ArgumentsFit, CallFits, KindAgrees, KindsAgree, IsWritable, WritesNoConst}

@@ -24,7 +24,7 @@ use Rattle.c_tree.specs.WellMade.{IsConverted}
 use Rattle.c_tree.proofs.KeptLemmas.{everywhere_back}
 use Rattle.c_tree.proofs.WellMoved.{everywhere_map, everywhere_both}
 use Rattle.jump_meaning.specs.Step.{switch_kind}
-use Rattle.flat_looser_laws.specs.Pieces.{assign_number, assigned_cells}
+use Rattle.flat_laws.specs.Pieces.{assign_number, assigned_cells}
 use Rattle.flat_laws.specs.FlatForm.{assigned}
 use Rattle.flat_laws.specs.Source.{IsVariable}
 use Rattle.plain_laws.specs.GuardSlots.{is_truth, unequal_zero, truth, picked, plain_item}

@@ -18,7 +18,7 @@ use Rattle.c_tree.specs.WellMade as WellMade
 use Rattle.c_tree.proofs.WellMoved.{everywhere_map, everywhere_both}
 use Rattle.jump_meaning.specs.Operations.{operand_kind}
 use Rattle.jump_meaning.specs.Step.{switch_kind}
-use Rattle.flat_looser_laws.specs.Pieces.{assigned_cells}
+use Rattle.flat_laws.specs.Pieces.{assigned_cells}
 use Rattle.flat_laws.specs.Parts.{is_scattered}
 use Rattle.flat_laws.specs.FlatForm.{assigned}
 use Rattle.flat_laws.specs.Unlabelled.{unlabelled, unlabelled_item, unlabelled_among}

@@ -10,8 +10,8 @@ use Rattle.c_tree.specs.Numerals.{constant}
 use Rattle.c_tree.specs.Trees.{Tree, Forest, Nil, Then, Sections, NoSection, Section, Evaluate, Return, If, While, Do, For, Switch, Block, Local, Break, Continue, Goto, Mark, Arm, Leap, Land, Arrival, Note, join, trees_of}
 use Rattle.c_tree.specs.WellMade.{IsWellMade}
 use Rattle.move_order_laws.proofs.ConvertedTrees.{converted_trees}
-use Rattle.flat_looser_laws.specs.Pieces.{Stays}
-use Rattle.flat_looser_laws.specs.Loose.{NoArrival}
+use Rattle.flat_laws.specs.Pieces.{Stays}
+use Rattle.flat_laws.specs.Loose.{NoArrival}
 use Rattle.flat_laws.specs.FlatForm.{coded, numbered, first_here, flat, flat_body, marks}
 use Rattle.flat_laws.specs.FlatMade.{IsFlatItem}
 use Rattle.flat_laws.specs.FlatWellMadeLaws.{IsGoodSource}

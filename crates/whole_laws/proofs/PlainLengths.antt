@@ -12,7 +12,7 @@ use Rattle.c_tree.specs.WellMade.{IsConverted}
 use Rattle.c_tree.proofs.WellMoved.{everywhere_map, everywhere_both}
 use Rattle.jump_meaning.specs.Code.{entry_or}
 use Rattle.jump_meaning.specs.World.{no_slot}
-use Rattle.flat_looser_laws.specs.Loose.{ExtendSlots}
+use Rattle.flat_laws.specs.Loose.{ExtendSlots}
 use Rattle.flat_laws.specs.Parts.{has_jumps, jumps_of, is_some_number}
 use Rattle.flat_laws.specs.Unlabelled.{unlabelled}
 use Rattle.plain_laws.specs.GuardSlots.{plain_list, plain_item}

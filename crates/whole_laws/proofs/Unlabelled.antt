@@ -9,7 +9,7 @@ use Rattle.c_tree.proofs.KeptLemmas.{everywhere_join}
 use Rattle.jump_meaning.specs.Code.{Code}
 use Rattle.c_tree.specs.declared.tree.Slot.{Slot}
 use Rattle.struct_meaning.specs.Structured.{IsStructured}
-use Rattle.flat_looser_laws.specs.Loose.{Setting}
+use Rattle.flat_laws.specs.Loose.{Setting}
 use Rattle.flat_laws.specs.Unlabelled.{unlabelled, unlabelled_item, unlabelled_among, IsCalmItem}
 use Rattle.plain_laws.specs.Kinded.{KindedItem}
 

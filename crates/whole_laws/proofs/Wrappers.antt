@@ -11,7 +11,7 @@ use Rattle.c_tree.specs.Cases.{selector_source}
 use Rattle.c_tree.specs.Labels.{TestLabels, SelectorLabels}
 use Rattle.c_tree.specs.Numerals.{constant}
 use Rattle.c_tree.specs.TestTrees.{TestTree, Source, On, Off, AndOff, OrOn, SelectorTree, Selects, Pick}
-use Rattle.flat_looser_laws.specs.Pieces.{is_number}
+use Rattle.flat_laws.specs.Pieces.{is_number}
 use Rattle.guard_simplify.specs.declared.choice.Repeat.{Repeat}
 use Rattle.guard_simplify.specs.Choice.{has, is_off_of, inside, repeat, repeat_pick}
 use Rattle.plain_laws.specs.GuardSlots.{guard, guard_off, is_truth, truth, unequal_zero, plain_test, picked}

@@ -11,10 +11,10 @@ use Rattle.c_tree.specs.declared.tree.Program.{Program}
 use Rattle.c_tree.specs.Trees.{trees_of}
 use Rattle.c_tree.specs.Everywhere.{total}
 use Rattle.c_tree.specs.InRange.{body_of}
-use Rattle.flat_looser_laws.specs.Pieces.{Stays}
+use Rattle.flat_laws.specs.Pieces.{Stays}
 use Rattle.c_tree.specs.Numerals.{constant}
-use Rattle.flat_looser_laws.specs.Loose.{Setting, NoArrival, ExtendSlots}
-use Rattle.flat_looser_laws.proofs.Spelled.{spelled_numbers}
+use Rattle.flat_laws.specs.Loose.{Setting, NoArrival, ExtendSlots}
+use Rattle.flat_laws.proofs.Spelled.{spelled_numbers}
 use Rattle.flat_laws.specs.Parts.{has_jumps, variables_of}
 use Rattle.flat_laws.specs.FlatForm.{Plan, flat, marks, coded, numbered, first_here, flat_body}
 use Rattle.flat_laws.specs.Source.{HaveVariables}

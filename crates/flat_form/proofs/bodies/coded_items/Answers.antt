@@ -2,8 +2,8 @@ use Rattle.std.proofs.Common.{length, ap, ◌∙◌}
 use Rattle.std.proofs.lemmas.Result.{IfOk-weaker}
 use Rattle.c_tree.specs.Trees.{trees_of}
 use Rattle.c_tree.specs.Numerals.{constant}
-use Rattle.flat_looser_laws.specs.Loose.{NoArrival}
-use Rattle.flat_looser_laws.specs.Pieces.{Stays}
+use Rattle.flat_laws.specs.Loose.{NoArrival}
+use Rattle.flat_laws.specs.Pieces.{Stays}
 use Rattle.flat_laws.specs.FlatForm.{Plan, flat, coded, first_here}
 use Rattle.flat_form.proofs.PlanLaws.{IsCoded, coded_is}
 use Rattle.flat_form.proofs.bodies.coded_items.Goals as goal

@@ -4,7 +4,7 @@ use Rattle.c_tree.specs.ExpressionTrees.{expression_tree}
 use Rattle.c_tree.specs.Trees as Plain
 use Rattle.c_tree.specs.Trees.{Tree, Forest, Nil, Then, Sections, NoSection, trees_of, sections_of, expression_trees, join}
 use Rattle.c_tree.proofs.TreeLaws.{join-nil}
-use Rattle.flat_looser_laws.specs.Pieces.{case_marks}
+use Rattle.flat_laws.specs.Pieces.{case_marks}
 use Rattle.flat_items.proofs.cases.add_case_marks.Goals as goal
 use Rattle.flat_items.proofs.Joining.{one_more}
 use Rattle.flat_items.specs.Plans.{case_names}

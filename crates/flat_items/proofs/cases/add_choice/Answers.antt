@@ -6,7 +6,7 @@ use Rattle.c_tree.specs.ExpressionTrees.{expression_tree}
 use Rattle.c_tree.specs.TestTrees.{selector_tree}
 use Rattle.c_tree.specs.Trees as Plain
 use Rattle.c_tree.specs.Trees.{Tree, Forest, Nil, Then, Sections, NoSection, trees_of, sections_of, expression_trees, join}
-use Rattle.flat_looser_laws.specs.Pieces.{assign_number}
+use Rattle.flat_laws.specs.Pieces.{assign_number}
 use Rattle.flat_items.proofs.cases.add_choice.Goals as goal
 use Rattle.flat_items.proofs.Joining.{joined, one_more}
 use Rattle.flat_items.specs.Plans.{plan_of, number_label}

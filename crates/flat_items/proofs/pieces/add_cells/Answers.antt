@@ -2,7 +2,7 @@ use Rattle.std.proofs.Common.{◌-◌, length, arith, sym, ap, ◌∙◌}
 use Rattle.std.specs.Vec.Iter.{into_iter_items}
 use Rattle.c_tree.specs.Changed.{one}
 use Rattle.c_tree.specs.Trees.{trees_of, expression_trees, join}
-use Rattle.flat_looser_laws.specs.Pieces.{assigned_cells}
+use Rattle.flat_laws.specs.Pieces.{assigned_cells}
 use Rattle.flat_items.proofs.Joining.{cells_step}
 use Rattle.flat_items.proofs.pieces.add_cells.Goals as goal
 

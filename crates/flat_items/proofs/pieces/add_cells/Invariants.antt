@@ -1,7 +1,7 @@
 use Rattle.std.proofs.Common.{◌≡◌, ◌+◌, ◌-◌, length}
 use Rattle.std.specs.Vec.Iter.{into_iter_items}
 use Rattle.c_tree.specs.Trees.{trees_of, expression_trees, join}
-use Rattle.flat_looser_laws.specs.Pieces.{assigned_cells}
+use Rattle.flat_laws.specs.Pieces.{assigned_cells}
 use Rattle.flat_items.proofs.pieces.add_cells.Given as goal
 
 abbrev pub invariant-loop-e : goal.invariant-loop-e

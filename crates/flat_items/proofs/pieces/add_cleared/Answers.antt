@@ -3,7 +3,7 @@ use Rattle.c_tree.specs.Changed.{one}
 use Rattle.c_tree.specs.Trees as Plain
 use Rattle.c_tree.specs.Trees.{trees_of, join}
 use Rattle.c_tree.proofs.TreeLaws.{join-nil}
-use Rattle.flat_looser_laws.specs.Pieces.{assign_cell, assigned_cells, zero_tree}
+use Rattle.flat_laws.specs.Pieces.{assign_cell, assigned_cells, zero_tree}
 use Rattle.flat_items.proofs.pieces.add_cleared.Goals as goal
 use Rattle.flat_items.proofs.Joining.{one_more, cells_more, cells_end}
 

@@ -1,7 +1,7 @@
 use Rattle.std.proofs.Common.{◌≡◌, ◌-◌}
 use Rattle.c_tree.specs.Trees.{trees_of, join}
 use Rattle.std.proofs.Common.{[]}
-use Rattle.flat_looser_laws.specs.Pieces.{assigned_cells}
+use Rattle.flat_laws.specs.Pieces.{assigned_cells}
 use Rattle.flat_items.proofs.pieces.add_cleared.Given as goal
 
 abbrev pub invariant-loop-i : goal.invariant-loop-i

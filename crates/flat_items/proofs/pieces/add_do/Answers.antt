@@ -4,7 +4,7 @@ use Rattle.c_tree.specs.Changed.{one}
 use Rattle.c_tree.specs.TestTrees.{test_tree}
 use Rattle.c_tree.specs.Trees as Plain
 use Rattle.c_tree.specs.Trees.{Tree, Forest, Nil, Then, Sections, NoSection, trees_of, sections_of, expression_trees, join}
-use Rattle.flat_looser_laws.specs.Pieces.{mark_of}
+use Rattle.flat_laws.specs.Pieces.{mark_of}
 use Rattle.c_tree.specs.Views.{tree_at}
 use Rattle.c_tree.proofs.Views.{at-Do}
 use Rattle.flat_items.proofs.pieces.add_do.Goals as goal

@@ -3,7 +3,7 @@ use Rattle.std.proofs.lemmas.Result.{on_ok_weaker}
 use Rattle.c_tree.specs.Changed.{one}
 use Rattle.c_tree.specs.ExpressionTrees.{expression_tree}
 use Rattle.c_tree.specs.Trees.{trees_of, join}
-use Rattle.flat_looser_laws.specs.Pieces.{mark_of}
+use Rattle.flat_laws.specs.Pieces.{mark_of}
 use Rattle.flat_items.proofs.pieces.add_for.Goals as goal
 use Rattle.flat_items.proofs.Joining.{one_more, with_loop}
 use Rattle.flat_items.specs.Plans.{aim_of}

@@ -1,7 +1,7 @@
 use Rattle.std.proofs.Common.{sym, ap, ◌∙◌}
 use Rattle.c_tree.specs.Trees.{trees_of, join}
 use Rattle.c_tree.proofs.TreeLaws.{join-nil}
-use Rattle.flat_looser_laws.specs.Pieces.{mark_of}
+use Rattle.flat_laws.specs.Pieces.{mark_of}
 use Rattle.flat_items.proofs.pieces.add_mark.Goals as goal
 use Rattle.flat_items.specs.Plans.{aim_of}
 

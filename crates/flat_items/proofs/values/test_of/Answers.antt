@@ -4,7 +4,7 @@ use Rattle.c_tree.specs.ExpressionTrees.{expression_tree}
 use Rattle.c_tree.specs.TestTrees as PT
 use Rattle.c_tree.specs.TestTrees.{TestTree, SelectorTree, test_tree, selector_tree}
 use Rattle.c_tree.proofs.ExpressionLaws.{test-Source}
-use Rattle.flat_looser_laws.specs.Pieces.{test_or_one}
+use Rattle.flat_laws.specs.Pieces.{test_or_one}
 use Rattle.flat_items.proofs.Spelling.{typed-Number}
 use Rattle.flat_items.proofs.values.test_of.Goals as goal
 

@@ -7,7 +7,7 @@ use Rattle.c_tree.specs.TestTrees.{test_tree, selector_tree}
 use Rattle.c_tree.specs.Trees as Plain
 use Rattle.c_tree.specs.Trees.{Tree, Forest, Nil, Then, Sections, NoSection, trees_of, sections_of, expression_trees, join}
 use Rattle.c_tree.proofs.TreeLaws.{trees-none}
-use Rattle.flat_looser_laws.specs.Pieces.{mark_of, case_marks, assign_number}
+use Rattle.flat_laws.specs.Pieces.{mark_of, case_marks, assign_number}
 use Rattle.c_tree.specs.Views.{tree_at}
 use Rattle.c_tree.proofs.Views.{at-If, at-While, at-Do, at-For, at-Switch, at-Block, at-Goto, at-Mark, at-Break, at-Continue, at-Local, at-Arrival}
 use Rattle.flat_items.proofs.walk.+write.Goals as goal
@@ -15,7 +15,7 @@ use Rattle.flat_laws.specs.Parts.{past, past_item, ending, is_scattered, holds_j
 use Rattle.c_tree.specs.Exits.{breaks, continues}
 use Rattle.c_tree.specs.declared.tree.Section.{out-Section}
 use Rattle.flat_laws.specs.FlatForm.{aim, flat, flat_item, flat_sections, spread, flat_loop, flat_for, if_breaks, end_goto}
-use Rattle.flat_looser_laws.specs.Loose.{NoArrival}
+use Rattle.flat_laws.specs.Loose.{NoArrival}
 use Rattle.flat_questions.specs.Reading.{is_flagged, ending_as}
 use Rattle.flat_items.specs.Forms.{entered_of, past_among, kept_form, scattered_form, section_form, with_parts, but_last, loop_breaks}
 use Rattle.flat_items.specs.Pieces.{behind}

@@ -4,8 +4,8 @@ use Rattle.c_tree.specs.Everywhere.{total}
 use Rattle.c_tree.specs.Numerals.{constant}
 use Rattle.c_tree.specs.Trees.{trees_of, join}
 use Rattle.c_tree.proofs.TreeLaws.{trees-none}
-use Rattle.flat_looser_laws.specs.Loose.{NoArrival}
-use Rattle.flat_looser_laws.specs.Pieces.{Stays}
+use Rattle.flat_laws.specs.Loose.{NoArrival}
+use Rattle.flat_laws.specs.Pieces.{Stays}
 use Rattle.flat_laws.specs.FlatForm.{first_here, marks, place_in}
 use Rattle.lower_laws.specs.Lowered.{Layout, coded, placed, lowered, declarations, variables_of}
 use Rattle.goto_lowering.specs.Codes.{codes_of}

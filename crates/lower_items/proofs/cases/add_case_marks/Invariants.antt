@@ -1,6 +1,6 @@
 use Rattle.std.proofs.Common.{◌≡◌, drop}
 use Rattle.c_tree.specs.Trees.{trees_of, expression_trees, join}
-use Rattle.flat_looser_laws.specs.Pieces.{case_marks}
+use Rattle.flat_laws.specs.Pieces.{case_marks}
 use Rattle.lower_items.specs.Plans.{case_names}
 use Rattle.lower_items.proofs.cases.add_case_marks.Given as goal
 

@@ -6,7 +6,7 @@ use Rattle.c_tree.specs.Changed.{one}
 use Rattle.c_tree.specs.TestTrees.{selector_tree}
 use Rattle.c_tree.specs.Trees as Plain
 use Rattle.c_tree.specs.Trees.{Then, trees_of, sections_of, join}
-use Rattle.flat_looser_laws.specs.Pieces.{assign_number}
+use Rattle.flat_laws.specs.Pieces.{assign_number}
 use Rattle.flat_items.specs.Pieces.{number_tests}
 use Rattle.flat_items.proofs.Joining.{joined, one_more}
 use Rattle.flat_items.specs.Plans.{here_of}

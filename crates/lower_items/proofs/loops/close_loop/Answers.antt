@@ -1,6 +1,6 @@
 use Rattle.std.proofs.lemmas.Result.{on_ok_weaker}
 use Rattle.c_tree.specs.Trees.{trees_of}
-use Rattle.flat_looser_laws.specs.Pieces.{mark_of}
+use Rattle.flat_laws.specs.Pieces.{mark_of}
 use Rattle.flat_items.specs.Plans.{aim_of}
 use Rattle.lower_items.proofs.Shapes.{closed_is}
 use Rattle.lower_items.proofs.loops.close_loop.Goals as goal

@@ -7,8 +7,8 @@ use Rattle.c_tree.specs.Trees as Plain
 use Rattle.c_tree.specs.Trees.{trees_of, sections_of, expression_trees, join}
 use Rattle.c_tree.specs.declared.tree.Section.{out-Section}
 use Rattle.c_tree.proofs.TreeLaws.{trees-none}
-use Rattle.flat_looser_laws.specs.Pieces.{Stays, mark_of, case_marks}
-use Rattle.flat_looser_laws.specs.Loose.{NoArrival, Arrives}
+use Rattle.flat_laws.specs.Pieces.{Stays, mark_of, case_marks}
+use Rattle.flat_laws.specs.Loose.{NoArrival, Arrives}
 use Rattle.flat_laws.specs.Parts.{switch_labels, cases_among}
 use Rattle.flat_laws.specs.FlatForm.{end_goto}
 use Rattle.jump_meaning.specs.Step.{switch_kind}

@@ -1,6 +1,6 @@
 use Rattle.std.proofs.Common.{ap, ◌∙◌}
 use Rattle.c_tree.specs.Trees.{trees_of, join}
-use Rattle.flat_looser_laws.specs.Pieces.{Stays}
+use Rattle.flat_laws.specs.Pieces.{Stays}
 use Rattle.flat_laws.specs.FlatForm.{first_here}
 use Rattle.flat_items.specs.Plans.{arrivals_if}
 use Rattle.lower_laws.specs.Lowered.{lowered}

@@ -5,11 +5,11 @@ use Rattle.c_tree.specs.Trees.{Tree, Forest, Nil, Then, Sections, While, For, Bl
 use Rattle.jump_meaning.specs.Tasks.{Task, Runs, Loops, WhileLoop, DoLoop, ForLoop, Out}
 use Rattle.jump_meaning.specs.Search.{find}
 use Rattle.jump_meaning.proofs.TaskFacts.{cut_tail}
-use Rattle.flat_looser_laws.specs.Pieces.{Aim, mark_of, IsMoved, test_or_one, third_items, with_third, Names, case_marks, tests_among}
-use Rattle.flat_looser_laws.specs.Placed.{ArePlaced, IsPlaced, ArePlacedAmong, Has, HasIn, HasAmong}
-use Rattle.flat_looser_laws.specs.Loose.{Setting, AreGone, IsGone, Mode, Open, Inner, in_open, in_last, Arrivals, NoArrival, LooserItem, lo_evaluate, lo_return, lo_return_none, lo_note, lo_if, lo_while, lo_do, lo_for, lo_for_while, lo_block, lo_keep_block, lo_keep_for, lo_keep_declares, lo_keep_local, lo_declares, lo_number, lo_array, lo_break, lo_break_to, lo_break_end, lo_continue, lo_continue_to, lo_goto, lo_mark, lo_drop, lo_arrival, lo_switch, lo_scatter, Looser, la_nil, la_then, la_last, LooserSections, lc_none, lc_section, lc_ended, Spread, ls_none, ls_last, ls_falls, ls_ends}
-use Rattle.flat_looser_laws.proofs.Controls.{behind_mark, Control, ct_item, ct_while, ct_do, ct_for, ct_out, ct_jumped, ct_leaves, Still, st_control}
-use Rattle.flat_looser_laws.proofs.ControlFacts.{placed_join, ended_more, behind_mark_lo, items_lo, third_lo, end_lo, ended_lo, tail_lo, last_mark, spread_lo}
+use Rattle.flat_laws.specs.Pieces.{Aim, mark_of, IsMoved, test_or_one, third_items, with_third, Names, case_marks, tests_among}
+use Rattle.flat_laws.specs.Placed.{ArePlaced, IsPlaced, ArePlacedAmong, Has, HasIn, HasAmong}
+use Rattle.flat_laws.specs.Loose.{Setting, AreGone, IsGone, Mode, Open, Inner, in_open, in_last, Arrivals, NoArrival, LooserItem, lo_evaluate, lo_return, lo_return_none, lo_note, lo_if, lo_while, lo_do, lo_for, lo_for_while, lo_block, lo_keep_block, lo_keep_for, lo_keep_declares, lo_keep_local, lo_declares, lo_number, lo_array, lo_break, lo_break_to, lo_break_end, lo_continue, lo_continue_to, lo_goto, lo_mark, lo_drop, lo_arrival, lo_switch, lo_scatter, Looser, la_nil, la_then, la_last, LooserSections, lc_none, lc_section, lc_ended, Spread, ls_none, ls_last, ls_falls, ls_ends}
+use Rattle.flat_laws.proofs.Controls.{behind_mark, Control, ct_item, ct_while, ct_do, ct_for, ct_out, ct_jumped, ct_leaves, Still, st_control}
+use Rattle.flat_laws.proofs.ControlFacts.{placed_join, ended_more, behind_mark_lo, items_lo, third_lo, end_lo, ended_lo, tail_lo, last_mark, spread_lo}
 
 abbrev or_zero : Option ℕ → ℕ
 or_zero (Some n) = n

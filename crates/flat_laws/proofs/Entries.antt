@@ -10,11 +10,11 @@ use Rattle.std.specs.Option.{option_map_or}
 use Rattle.jump_meaning.specs.Tasks.{Task, Runs, Loops, WhileLoop, DoLoop, ForLoop, EndsSection, Out, items, end_of, tail_tasks}
 use Rattle.jump_meaning.specs.Search.{Goal, ToLabel, ToCase, ToDefault, is_goal, is_section_goal, enters_switches, or_else, seek, seek_in, seek_sections, first_of_three, entry}
 use Rattle.core_laws.proofs.Lookup.{no_goal}
-use Rattle.flat_looser_laws.specs.Pieces.{Aim, Stays, Becomes, Absent, mark_of, test_or_one, third_items, with_third, assigned_cells, Names, case_marks, tests_among, is_number, test_for, tests_for, tests, tests_in}
-use Rattle.flat_looser_laws.specs.Placed.{ArePlacedAmong}
-use Rattle.flat_looser_laws.specs.Loose.{Setting, AreGone, IsGone, Mode, Open, Arrivals, NoArrival, LooserItem, lo_evaluate, lo_return, lo_return_none, lo_note, lo_if, lo_while, lo_do, lo_for, lo_for_while, lo_block, lo_keep_block, lo_keep_for, lo_keep_declares, lo_keep_local, lo_declares, lo_number, lo_array, lo_break, lo_break_to, lo_break_end, lo_continue, lo_continue_to, lo_goto, lo_mark, lo_drop, lo_arrival, lo_switch, lo_scatter, Looser, la_nil, la_then, la_last, LooserSections, lc_none, lc_section, lc_ended, Spread, ls_none, ls_last, ls_falls, ls_ends}
-use Rattle.flat_looser_laws.proofs.Controls.{Control, Still, st_control}
-use Rattle.flat_looser_laws.proofs.ControlFacts.{tail_lo}
+use Rattle.flat_laws.specs.Pieces.{Aim, Stays, Becomes, Absent, mark_of, test_or_one, third_items, with_third, assigned_cells, Names, case_marks, tests_among, is_number, test_for, tests_for, tests, tests_in}
+use Rattle.flat_laws.specs.Placed.{ArePlacedAmong}
+use Rattle.flat_laws.specs.Loose.{Setting, AreGone, IsGone, Mode, Open, Arrivals, NoArrival, LooserItem, lo_evaluate, lo_return, lo_return_none, lo_note, lo_if, lo_while, lo_do, lo_for, lo_for_while, lo_block, lo_keep_block, lo_keep_for, lo_keep_declares, lo_keep_local, lo_declares, lo_number, lo_array, lo_break, lo_break_to, lo_break_end, lo_continue, lo_continue_to, lo_goto, lo_mark, lo_drop, lo_arrival, lo_switch, lo_scatter, Looser, la_nil, la_then, la_last, LooserSections, lc_none, lc_section, lc_ended, Spread, ls_none, ls_last, ls_falls, ls_ends}
+use Rattle.flat_laws.proofs.Controls.{Control, Still, st_control}
+use Rattle.flat_laws.proofs.ControlFacts.{tail_lo}
 
 -- no Arrival of a list is bound to a switch around it
 abbrev mutual

@@ -13,8 +13,8 @@ use Rattle.jump_meaning.specs.Code.{FunctionTree}
 use Rattle.jump_meaning.specs.World.{World, Outcome, with_number, with_zeros, emit}
 use Rattle.jump_meaning.specs.Known.{next, printed_bytes, read_byte, converted_arguments, answered, call_without_body}
 use Rattle.jump_meaning.specs.Effects.{Op, Computes, Finds, Indexes, Ands, Ors, Decides, Begins, Sets, Clears}
-use Rattle.flat_looser_laws.proofs.Worlds.{over, Alike}
-use Rattle.flat_looser_laws.proofs.Effects.{OpSlots, EachSlots, OutcomeAlike, oa_gives, oa_traps, oa_exits}
+use Rattle.flat_laws.proofs.Worlds.{over, Alike}
+use Rattle.flat_laws.proofs.Effects.{OpSlots, EachSlots, OutcomeAlike, oa_gives, oa_traps, oa_exits}
 
 -- ---- all slots
 

@@ -5,7 +5,7 @@ use Rattle.jump_meaning.specs.Tasks.{Task, Runs, Loops, WhileLoop, DoLoop, ForLo
 use Rattle.jump_meaning.specs.Search.{ToLabel, or_else, seek, seek_sections, first_of_three, find}
 use Rattle.core_laws.proofs.Lookup.{seek_of, or_none}
 use Rattle.core_laws.proofs.Places.{both_none}
-use Rattle.flat_looser_laws.specs.Placed.{ArePlaced, IsPlaced, ArePlacedAmong, places, places_of, places_among, IsOnce}
+use Rattle.flat_laws.specs.Placed.{ArePlaced, IsPlaced, ArePlacedAmong, places, places_of, places_among, IsOnce}
 
 abbrev one_if : Bool → ℕ
 one_if b = cond b 1 0

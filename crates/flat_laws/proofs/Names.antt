@@ -8,8 +8,8 @@ use Rattle.jump_meaning.specs.Values.{Owner, OfFile, OfCall, Variable, Holds, Le
 use Rattle.jump_meaning.specs.Code.{FunctionTree, Code, entry_or, cell_count, cells_of}
 use Rattle.jump_meaning.specs.World.{World, with_number, with_zeros, no_slot, zeros, parameter, slot_at_start, put_call, enter_call, push, pop, most_calls, most_cells}
 use Rattle.jump_meaning.proofs.Memory.{chosen}
-use Rattle.flat_looser_laws.specs.Loose.{slot_of, ExtendSlots, LooserFunction, lf_same, lf_looser, LooserCode}
-use Rattle.flat_looser_laws.proofs.Worlds.{over, call_of, Seen, RefersTo, Refers, RefersAll, Alike, seen_more}
+use Rattle.flat_laws.specs.Loose.{slot_of, ExtendSlots, LooserFunction, lf_same, lf_looser, LooserCode}
+use Rattle.flat_laws.proofs.Worlds.{over, call_of, Seen, RefersTo, Refers, RefersAll, Alike, seen_more}
 
 -- a variable of its own, with the kind and the cells of the slot
 abbrev pub HasShape : Slot → Variable → Type 0

@@ -20,21 +20,21 @@ use Rattle.jump_meaning.proofs.Scheme.{Joint}
 use Rattle.core_laws.proofs.Reach.{Reach, stay, more}
 use Rattle.core_laws.proofs.Pairs.{count, ends, each}
 use Rattle.core_laws.proofs.Match.{IsNoArm, SafeAt}
-use Rattle.flat_looser_laws.specs.Pieces.{Aim, mark_of, IsMoved, test_or_one, third_items, with_third, assign_number, assigned_cells, Names, wanted_among, tests_among}
-use Rattle.flat_looser_laws.specs.Placed.{ArePlaced}
-use Rattle.flat_looser_laws.specs.Loose.{Setting, In, AreIn, slot_of, IsLocal, IsNew, Mode, Open, Ended, Inner, Arrivals, IsOtherwise, LooserItem, lo_evaluate, lo_return, lo_return_none, lo_note, lo_if, lo_while, lo_do, lo_for, lo_for_while, lo_block, lo_keep_block, lo_keep_for, lo_keep_declares, lo_keep_local, lo_declares, lo_number, lo_array, lo_break, lo_break_to, lo_break_end, lo_continue, lo_continue_to, lo_goto, lo_mark, lo_drop, lo_arrival, lo_switch, lo_scatter, Looser, Spread, IsLooser, lf_looser, LooserCode}
-use Rattle.flat_looser_laws.proofs.Worlds.{over, Seen, owner_alike, owner_seen, array_alike, changed_alike}
-use Rattle.flat_looser_laws.proofs.Effects.{OpSlots, zeros}
-use Rattle.flat_looser_laws.proofs.SlotsMore.{expression_more}
-use Rattle.flat_looser_laws.proofs.Controls.{behind_mark, Control, ct_nil, ct_item, ct_skip, ct_while, ct_do, ct_for, ct_heads, ct_starts, ct_while_starts, ct_third, ct_out, ct_ends, ct_ended, ct_behind, ct_leaves, Still, st_control, st_turns, st_clears, st_keep_clears, Waiting, wt_drops, wt_ends, wt_takes, wt_number, wt_cell, wt_sets, wt_selects}
-use Rattle.flat_looser_laws.proofs.ControlFacts.{placed_join, unlabelled_placed, behind_mark_lo, items_lo, list_lo, third_lo, Jump, break_lo, cont_lo}
-use Rattle.flat_looser_laws.proofs.Locate.{locate}
-use Rattle.flat_looser_laws.proofs.Entries.{entry_lo}
-use Rattle.flat_looser_laws.proofs.Tests as tests
-use Rattle.flat_looser_laws.proofs.Tests.{turned, GoesTo, goes_among}
-use Rattle.flat_looser_laws.proofs.Stores.{of_shape, number_place, cell_place, zero_cells}
-use Rattle.flat_looser_laws.proofs.Names.{HasShape, opens_of, IsShapedFor, open_below, opens, Shapes, AlikeIn, RefersIn, RefersAllIn, number_shaped, zeros_shaped}
-use Rattle.flat_looser_laws.proofs.Running.{body, rn_still, rn_evaluates, Stack, Related, rl_at, falls}
+use Rattle.flat_laws.specs.Pieces.{Aim, mark_of, IsMoved, test_or_one, third_items, with_third, assign_number, assigned_cells, Names, wanted_among, tests_among}
+use Rattle.flat_laws.specs.Placed.{ArePlaced}
+use Rattle.flat_laws.specs.Loose.{Setting, In, AreIn, slot_of, IsLocal, IsNew, Mode, Open, Ended, Inner, Arrivals, IsOtherwise, LooserItem, lo_evaluate, lo_return, lo_return_none, lo_note, lo_if, lo_while, lo_do, lo_for, lo_for_while, lo_block, lo_keep_block, lo_keep_for, lo_keep_declares, lo_keep_local, lo_declares, lo_number, lo_array, lo_break, lo_break_to, lo_break_end, lo_continue, lo_continue_to, lo_goto, lo_mark, lo_drop, lo_arrival, lo_switch, lo_scatter, Looser, Spread, IsLooser, lf_looser, LooserCode}
+use Rattle.flat_laws.proofs.Worlds.{over, Seen, owner_alike, owner_seen, array_alike, changed_alike}
+use Rattle.flat_laws.proofs.Effects.{OpSlots, zeros}
+use Rattle.flat_laws.proofs.SlotsMore.{expression_more}
+use Rattle.flat_laws.proofs.Controls.{behind_mark, Control, ct_nil, ct_item, ct_skip, ct_while, ct_do, ct_for, ct_heads, ct_starts, ct_while_starts, ct_third, ct_out, ct_ends, ct_ended, ct_behind, ct_leaves, Still, st_control, st_turns, st_clears, st_keep_clears, Waiting, wt_drops, wt_ends, wt_takes, wt_number, wt_cell, wt_sets, wt_selects}
+use Rattle.flat_laws.proofs.ControlFacts.{placed_join, unlabelled_placed, behind_mark_lo, items_lo, list_lo, third_lo, Jump, break_lo, cont_lo}
+use Rattle.flat_laws.proofs.Locate.{locate}
+use Rattle.flat_laws.proofs.Entries.{entry_lo}
+use Rattle.flat_laws.proofs.Tests as tests
+use Rattle.flat_laws.proofs.Tests.{turned, GoesTo, goes_among}
+use Rattle.flat_laws.proofs.Stores.{of_shape, number_place, cell_place, zero_cells}
+use Rattle.flat_laws.proofs.Names.{HasShape, opens_of, IsShapedFor, open_below, opens, Shapes, AlikeIn, RefersIn, RefersAllIn, number_shaped, zeros_shaped}
+use Rattle.flat_laws.proofs.Running.{body, rn_still, rn_evaluates, Stack, Related, rl_at, falls}
 
 -- what bounds the steps of items that are gone in the second
 abbrev mutual

@@ -5,7 +5,7 @@ use Rattle.c_tree.specs.declared.tree.Home.TheVariants as H
 use Rattle.c_tree.specs.ExpressionTrees.{ExpressionTree, PlaceTree, NodeTree, Arguments, Typed, Var, Cell, Array, Read, Unary, Cast, Binary, Conditional, Assign, Update, Count, Comma, Call, NoArgument, Argument}
 use Rattle.c_tree.specs.Slots.{HomeSlots, ExpressionSlots, PlaceSlots, NodeSlots, ArgumentSlots}
 use Rattle.jump_meaning.specs.Effects.{Op, Computes, Finds, Indexes, Ands, Ors, Decides, Begins, Sets, Clears}
-use Rattle.flat_looser_laws.proofs.Effects.{OpSlots, EachSlots}
+use Rattle.flat_laws.proofs.Effects.{OpSlots, EachSlots}
 
 module _ (P Q : ℕ → Type 0) (more : (x : ℕ) → P x → Q x) where
   home_more : (h : Home) → HomeSlots P h → HomeSlots Q h

@@ -10,8 +10,8 @@ use Rattle.jump_meaning.specs.Runs.{SameBehaviour, BehaveTheSame}
 use Rattle.jump_meaning.specs.Laws.{HoldsNumbers}
 use Rattle.jump_meaning.specs.Steady.{IsTopMadeWell, IsSteadyCode, IsSteady}
 use Rattle.core_laws.specs.Laws.{HasMadeBodies}
-use Rattle.flat_looser_laws.specs.Pieces.{IsNumber}
-use Rattle.flat_looser_laws.specs.Loose.{LooserCode, LooserTops}
+use Rattle.flat_laws.specs.Pieces.{IsNumber}
+use Rattle.flat_laws.specs.Loose.{LooserCode, LooserTops}
 
 -- where a program is steady, one of which each function is the same or looser is steady too and behaves the same
 pub record LooseLaws : Type 0 where

@@ -13,14 +13,14 @@ use Rattle.jump_meaning.specs.Calls.{is_missing, returned, fallen}
 use Rattle.jump_meaning.specs.Effects.{Op, Drops, Effect, effect}
 use Rattle.jump_meaning.specs.Tasks.{Task, Works, items, works}
 use Rattle.jump_meaning.specs.Step.{Guards, no_guards, with_guard, Frame, Waits, State, At, HasEnded, HasTrapped, View, Finishes, Goes, Guarding, Yields, Takes, Arming, Acts, is_dropped, settle, leave, begin_call, invoke, perform, move}
-use Rattle.flat_looser_laws.specs.Loose.{Setting, IsLooser, LooserFunction, lf_same, lf_looser, LooserCode}
-use Rattle.flat_looser_laws.proofs.Worlds.{over}
-use Rattle.flat_looser_laws.proofs.Effects.{OpSlots, OpsSlots, OutcomeAlike, oa_gives, oa_traps, oa_exits, EffectAlike, ea_does, ea_fails, ea_stops, ea_invokes, ea_leaves, effect_alike}
-use Rattle.flat_looser_laws.proofs.Heights.{Fits, framed, frame, FitsEffect, fits}
-use Rattle.flat_looser_laws.proofs.Controls.{ct_nil, Still, st_control, Waiting, wt_drops, wt_ends, wt_takes, wt_number, wt_cell, wt_sets, wt_selects}
-use Rattle.flat_looser_laws.proofs.ControlFacts.{items_lo}
-use Rattle.flat_looser_laws.proofs.Names.{opens_of, same_result, opens, Shapes, AlikeIn, RefersIn, RefersAllIn, number_shaped, zeros_shaped, calling, calling_here, calling_earlier, refers_all_kept, Pushed, ps_ok, ps_err, push_alike, pop_alike, pop_over}
-use Rattle.flat_looser_laws.proofs.Outside.{op_all, outside_alike}
+use Rattle.flat_laws.specs.Loose.{Setting, IsLooser, LooserFunction, lf_same, lf_looser, LooserCode}
+use Rattle.flat_laws.proofs.Worlds.{over}
+use Rattle.flat_laws.proofs.Effects.{OpSlots, OpsSlots, OutcomeAlike, oa_gives, oa_traps, oa_exits, EffectAlike, ea_does, ea_fails, ea_stops, ea_invokes, ea_leaves, effect_alike}
+use Rattle.flat_laws.proofs.Heights.{Fits, framed, frame, FitsEffect, fits}
+use Rattle.flat_laws.proofs.Controls.{ct_nil, Still, st_control, Waiting, wt_drops, wt_ends, wt_takes, wt_number, wt_cell, wt_sets, wt_selects}
+use Rattle.flat_laws.proofs.ControlFacts.{items_lo}
+use Rattle.flat_laws.proofs.Names.{opens_of, same_result, opens, Shapes, AlikeIn, RefersIn, RefersAllIn, number_shaped, zeros_shaped, calling, calling_here, calling_earlier, refers_all_kept, Pushed, ps_ok, ps_err, push_alike, pop_alike, pop_over}
+use Rattle.flat_laws.proofs.Outside.{op_all, outside_alike}
 
 works_append : (os ps : List Op) (k : List Task) → works (os ++ ps) k ≡ works os (works ps k)
 works_append [] ps k = refl

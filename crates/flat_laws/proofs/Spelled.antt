@@ -13,7 +13,7 @@ use Rattle.c_tree.specs.Operators.{unary_result, binary_result}
 use mathlib.Core.Path.{ap₂}
 use Rattle.c_tree.specs.declared.tree.BinaryOp.TheVariants.{Arith}
 use Rattle.c_tree.specs.ExpressionTrees.{Typed, Unary}
-use Rattle.flat_looser_laws.specs.Pieces.{sp_number, sp_unary, sp_binary, IsNumber}
+use Rattle.flat_laws.specs.Pieces.{sp_number, sp_unary, sp_binary, IsNumber}
 use Rattle.c_tree.specs.Numerals.{number, least_constant, constant}
 use Rattle.c_tree.proofs.NumeralLaws.{constant_pos}
 

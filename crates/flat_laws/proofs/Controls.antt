@@ -10,9 +10,9 @@ use Rattle.jump_meaning.specs.Effects.{Drops, Converts, Stores, Ends, Sets, Clea
 use Rattle.jump_meaning.specs.Tasks.{Task, Runs, Works, Heads, Loops, WhileLoop, DoLoop, ForLoop, Enters, EndsSection, Out, items, cut, cut_to}
 use Rattle.jump_meaning.specs.Search.{ToDefault, find}
 use Rattle.jump_meaning.specs.Step.{Guards, Takes, view, is_dropped}
-use Rattle.flat_looser_laws.specs.Pieces.{Aim, Stays, Becomes, Absent, mark_of, IsMoved, test_or_one, third_items, with_third, assigned_cells, Names, wanted_among, tests_among}
-use Rattle.flat_looser_laws.specs.Placed.{ArePlaced}
-use Rattle.flat_looser_laws.specs.Loose.{Setting, In, AreIn, slot_of, IsLocal, IsNew, Mode, Open, Ended, Jumped, IsLast, Inner, Arrivals, IsOtherwise, LooserItem, Looser, Spread}
+use Rattle.flat_laws.specs.Pieces.{Aim, Stays, Becomes, Absent, mark_of, IsMoved, test_or_one, third_items, with_third, assigned_cells, Names, wanted_among, tests_among}
+use Rattle.flat_laws.specs.Placed.{ArePlaced}
+use Rattle.flat_laws.specs.Loose.{Setting, In, AreIn, slot_of, IsLocal, IsNew, Mode, Open, Ended, Jumped, IsLast, Inner, Arrivals, IsOtherwise, LooserItem, Looser, Spread}
 
 -- tasks with the label of a construct before them
 abbrev pub behind_mark : Aim → List Task → List Task

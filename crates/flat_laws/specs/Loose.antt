@@ -15,8 +15,8 @@ use Rattle.jump_meaning.specs.Code.{FunctionTree, Code, items_of, entry_or, func
 use Rattle.jump_meaning.specs.World.{no_slot}
 use Rattle.jump_meaning.specs.Search.{ToDefault}
 use Rattle.jump_meaning.specs.Step.{switch_kind}
-use Rattle.flat_looser_laws.specs.Pieces.{Aim, Stays, Becomes, Absent, mark_of, IsMoved, test_or_one, with_third, assign_number, assigned_cells, Names, wanted_among, tests_among, IsNumber, case_marks}
-use Rattle.flat_looser_laws.specs.Placed.{ArePlaced, IsUnlabelled, Has}
+use Rattle.flat_laws.specs.Pieces.{Aim, Stays, Becomes, Absent, mark_of, IsMoved, test_or_one, with_third, assign_number, assigned_cells, Names, wanted_among, tests_among, IsNumber, case_marks}
+use Rattle.flat_laws.specs.Placed.{ArePlaced, IsUnlabelled, Has}
 
 -- what the two bodies of a function have in common
 pub record Setting : Type 0 where

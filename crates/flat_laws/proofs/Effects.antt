@@ -15,7 +15,7 @@ use Rattle.jump_meaning.specs.World.{World, Outcome, Gives, Traps, Exits, put, o
 use Rattle.jump_meaning.specs.Operations.{operand_kind, holds, truth_value, converted_value, outcome, loaded, stored_value, assign, counted, count_mark, count}
 use Rattle.jump_meaning.specs.Calls.{last_values, without_last, slot_cell, is_array_slot}
 use Rattle.jump_meaning.specs.Effects.{Op, Computes, Finds, Drops, Indexes, Loads, Fetches, AppliesUnary, AppliesBinary, Converts, LeavesNothing, Ands, Ors, Judges, Decides, Stores, Counts, Calls, Ends, Begins, Sets, Clears, Effect, Does, Fails, Stops, Invokes, Leaves, top, rest, left, conversion, binary_tasks, cast_tasks, argument_count, argument_tasks, node_effect, initialise, effect}
-use Rattle.flat_looser_laws.proofs.Worlds.{over, Seen, RefersTo, Refers, RefersAll, Alike, owner_seen, owner_alike, array_alike, kind_alike, load_alike, Changes, changed_alike}
+use Rattle.flat_laws.proofs.Worlds.{over, Seen, RefersTo, Refers, RefersAll, Alike, owner_seen, owner_alike, array_alike, kind_alike, load_alike, Changes, changed_alike}
 
 abbrev pub EachSlots : (ℕ → Type 0) → List ExpressionTree → Type 0
 EachSlots P [] = Unit {0}

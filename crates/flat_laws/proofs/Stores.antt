@@ -18,10 +18,10 @@ use Rattle.jump_meaning.specs.Step.{Guards, Frame, At, perform}
 use Rattle.jump_meaning.proofs.Memory.{same_owner_decides}
 use Rattle.core_laws.proofs.Reach.{Reach, stay, more, reach_on}
 use Rattle.core_laws.proofs.Match.{SafeAt}
-use Rattle.flat_looser_laws.specs.Pieces.{assign_number, assign_cell, zero_tree, assigned_cells}
-use Rattle.flat_looser_laws.proofs.Worlds.{over}
-use Rattle.flat_looser_laws.proofs.Names.{HasShape}
-use Rattle.flat_looser_laws.proofs.Tests.{turn, turned}
+use Rattle.flat_laws.specs.Pieces.{assign_number, assign_cell, zero_tree, assigned_cells}
+use Rattle.flat_laws.proofs.Worlds.{over}
+use Rattle.flat_laws.proofs.Names.{HasShape}
+use Rattle.flat_laws.proofs.Tests.{turn, turned}
 
 -- ---- memory
 

@@ -15,22 +15,22 @@ use Rattle.jump_meaning.specs.Step.{Guards, Frame, State, At, perform}
 use Rattle.jump_meaning.proofs.TaskFacts.{items_join}
 use Rattle.core_laws.proofs.Reach.{Reach, stay, more, reach_on}
 use Rattle.core_laws.proofs.Match.{SafeAt}
-use Rattle.flat_looser_laws.specs.Pieces.{Aim, Becomes, IsMoved, assigned_cells, Names, wanted_among, tests_among}
-use Rattle.flat_looser_laws.specs.Placed.{ArePlaced}
-use Rattle.flat_looser_laws.specs.Loose.{Setting, AreIn, slot_of, IsLocal, IsNew, Mode, Open, Jumped, Inner, in_open, in_last, IsOtherwise, Spread, ls_falls, IsLooser, lf_looser, LooserCode}
-use Rattle.flat_looser_laws.proofs.Worlds.{over, Seen, changed_alike, hidden_alike}
-use Rattle.flat_looser_laws.proofs.Effects.{numbers}
-use Rattle.flat_looser_laws.proofs.Controls.{Control, ct_skip, Still, st_control, st_clears, wt_cell}
-use Rattle.flat_looser_laws.proofs.ControlFacts.{last_mark}
-use Rattle.flat_looser_laws.proofs.Scatter.{Where, hit, miss, where_among}
-use Rattle.flat_looser_laws.proofs.Tests as tests
-use Rattle.flat_looser_laws.proofs.Tests.{turned, GoesTo, goes_among}
-use Rattle.flat_looser_laws.proofs.Stores.{put_here, cell_place}
-use Rattle.flat_looser_laws.proofs.Names.{opens_of, opens, Shapes, AlikeIn, RefersIn, number_shaped, zeros_shaped}
-use Rattle.flat_looser_laws.proofs.Running.{body, rn_still, Stack, Related, rl_at}
+use Rattle.flat_laws.specs.Pieces.{Aim, Becomes, IsMoved, assigned_cells, Names, wanted_among, tests_among}
+use Rattle.flat_laws.specs.Placed.{ArePlaced}
+use Rattle.flat_laws.specs.Loose.{Setting, AreIn, slot_of, IsLocal, IsNew, Mode, Open, Jumped, Inner, in_open, in_last, IsOtherwise, Spread, ls_falls, IsLooser, lf_looser, LooserCode}
+use Rattle.flat_laws.proofs.Worlds.{over, Seen, changed_alike, hidden_alike}
+use Rattle.flat_laws.proofs.Effects.{numbers}
+use Rattle.flat_laws.proofs.Controls.{Control, ct_skip, Still, st_control, st_clears, wt_cell}
+use Rattle.flat_laws.proofs.ControlFacts.{last_mark}
+use Rattle.flat_laws.proofs.Scatter.{Where, hit, miss, where_among}
+use Rattle.flat_laws.proofs.Tests as tests
+use Rattle.flat_laws.proofs.Tests.{turned, GoesTo, goes_among}
+use Rattle.flat_laws.proofs.Stores.{put_here, cell_place}
+use Rattle.flat_laws.proofs.Names.{opens_of, opens, Shapes, AlikeIn, RefersIn, number_shaped, zeros_shaped}
+use Rattle.flat_laws.proofs.Running.{body, rn_still, Stack, Related, rl_at}
 use Rattle.std.proofs.Common.{eqb}
-use Rattle.flat_looser_laws.proofs.Names.{number_shaped, zeros_shaped}
-use Rattle.flat_looser_laws.proofs.Joints.{J, go, go_two, initialised, still, held_new, agree_here, open_here, owner_here, asks}
+use Rattle.flat_laws.proofs.Names.{number_shaped, zeros_shaped}
+use Rattle.flat_laws.proofs.Joints.{J, go, go_two, initialised, still, held_new, agree_here, open_here, owner_here, asks}
 
 module _ (p q : Code) (lo : LooserCode p q) where
   module _ (names : ℕ → List ℕ) (f : List ℕ) (g : Guards) (d : ℕ) (l : IsLooser (p.functions f) (q.functions f)) (eq : lo.functions f ≡ lf_looser l)

@@ -17,11 +17,11 @@ use Rattle.core_laws.specs.Laws.{HasMadeBodies}
 use Rattle.core_laws.proofs.Made.{placed}
 use Rattle.core_laws.proofs.Programs.{made_bodies}
 use Rattle.core_laws.proofs.Theorem.{between}
-use Rattle.flat_looser_laws.specs.Loose.{IsLooser, LooserFunction, lf_same, lf_looser, LooserCode, lt_same, lt_function, LooserTops, lt_none, lt_more}
-use Rattle.flat_looser_laws.specs.Laws.{LooseLaws}
-use Rattle.flat_looser_laws.proofs.Behave.{loosened, still_no_arm}
-use Rattle.flat_looser_laws.proofs.Plain.{core_before, core_after}
-use Rattle.flat_looser_laws.proofs.Spelled.{spelled_numbers}
+use Rattle.flat_laws.specs.Loose.{IsLooser, LooserFunction, lf_same, lf_looser, LooserCode, lt_same, lt_function, LooserTops, lt_none, lt_more}
+use Rattle.flat_laws.specs.LooserLaws.{LooseLaws}
+use Rattle.flat_laws.proofs.Behave.{loosened, still_no_arm}
+use Rattle.flat_laws.proofs.Plain.{core_before, core_after}
+use Rattle.flat_laws.proofs.Spelled.{spelled_numbers}
 
 -- the cores of looser programs are looser
 cores : {f h : FunctionTree} → LooserFunction f h → LooserFunction (core_function f) (core_function h)

@@ -12,15 +12,15 @@ use Rattle.jump_meaning.specs.Step.{Guards, Frame, State, At, view, move, step}
 use Rattle.jump_meaning.specs.Runs.{iterate}
 use Rattle.core_laws.proofs.Reach.{stay}
 use Rattle.core_laws.proofs.Match.{IsNoArm, SafeAt}
-use Rattle.flat_looser_laws.specs.Pieces.{tests_among}
-use Rattle.flat_looser_laws.specs.Loose.{IsLooser, LooserFunction, lf_same, lf_looser, LooserCode}
-use Rattle.flat_looser_laws.proofs.Worlds.{over, Seen}
-use Rattle.flat_looser_laws.proofs.Heights.{Fits}
-use Rattle.flat_looser_laws.proofs.Controls.{Waiting, wt_drops, wt_ends, wt_takes, wt_number, wt_cell, wt_sets, wt_selects}
-use Rattle.flat_looser_laws.proofs.Tests as tests
-use Rattle.flat_looser_laws.proofs.Tests.{turned, GoesTo, goes_among}
-use Rattle.flat_looser_laws.proofs.Names.{opens, Shapes, AlikeIn, RefersAllIn}
-use Rattle.flat_looser_laws.proofs.Running.{body, InBoth, Running, rn_same, rn_still, rn_evaluates, Stack, Related, rl_at, rl_ended, rl_trapped, returns, evaluates}
+use Rattle.flat_laws.specs.Pieces.{tests_among}
+use Rattle.flat_laws.specs.Loose.{IsLooser, LooserFunction, lf_same, lf_looser, LooserCode}
+use Rattle.flat_laws.proofs.Worlds.{over, Seen}
+use Rattle.flat_laws.proofs.Heights.{Fits}
+use Rattle.flat_laws.proofs.Controls.{Waiting, wt_drops, wt_ends, wt_takes, wt_number, wt_cell, wt_sets, wt_selects}
+use Rattle.flat_laws.proofs.Tests as tests
+use Rattle.flat_laws.proofs.Tests.{turned, GoesTo, goes_among}
+use Rattle.flat_laws.proofs.Names.{opens, Shapes, AlikeIn, RefersAllIn}
+use Rattle.flat_laws.proofs.Running.{body, InBoth, Running, rn_same, rn_still, rn_evaluates, Stack, Related, rl_at, rl_ended, rl_trapped, returns, evaluates}
 use Rattle.std.proofs.Common.{map, All, take, IsSome, IsNone, ◌↔◌}
 use Rattle.jump_meaning.specs.World.{push, world_at_start}
 use Rattle.jump_meaning.specs.Step.{begin_call}
@@ -29,15 +29,15 @@ use Rattle.jump_meaning.specs.Runs.{shows, IsEntry, start, SameBehaviour}
 use Rattle.jump_meaning.proofs.Growth.{step_covers}
 use Rattle.jump_meaning.proofs.Scheme.{same, all_safe}
 use Rattle.core_laws.proofs.Same.{same_world}
-use Rattle.flat_looser_laws.proofs.Names.{push_alike}
-use Rattle.flat_looser_laws.proofs.Running.{begins, same_moves, sk_none}
-use Rattle.flat_looser_laws.proofs.Joints.{weight, J, go, takes_no_arm, still, joint_still}
+use Rattle.flat_laws.proofs.Names.{push_alike}
+use Rattle.flat_laws.proofs.Running.{begins, same_moves, sk_none}
+use Rattle.flat_laws.proofs.Joints.{weight, J, go, takes_no_arm, still, joint_still}
 use Rattle.std.specs.List.{AllByRecursion}
 use Rattle.std.proofs.lemmas.List.Elements.{All-from_recursion, recursion_from_All}
 use Rattle.core_laws.proofs.Theorem.{MeetsNoArm}
-use Rattle.flat_looser_laws.specs.Loose.{ExtendSlots}
-use Rattle.flat_looser_laws.proofs.Worlds.{RefersTo, call_of}
-use Rattle.flat_looser_laws.proofs.Loosened.{ends_number, ends_cell, sets, selects}
+use Rattle.flat_laws.specs.Loose.{ExtendSlots}
+use Rattle.flat_laws.proofs.Worlds.{RefersTo, call_of}
+use Rattle.flat_laws.proofs.Loosened.{ends_number, ends_cell, sets, selects}
 
 module _ (p q : Code) (lo : LooserCode p q) where
   module _ (names : ℕ → List ℕ) (f : List ℕ) (g : Guards) (d : ℕ) (here : names (suc d) ≡ f) {cs cs' : List Frame} (t : Stack p q lo names d cs cs')

@@ -6,12 +6,12 @@ use Rattle.c_tree.specs.Trees.{Tree, Forest, Nil, Then, Sections, Evaluate, Retu
 use Rattle.jump_meaning.specs.Tasks.{Task, Runs, Loops, WhileLoop, DoLoop, ForLoop, items}
 use Rattle.jump_meaning.specs.Search.{Goal, ToLabel, ToCase, ToDefault, is_goal, is_section_goal, enters_switches, or_else, seek, seek_in, seek_sections, find}
 use Rattle.jump_meaning.proofs.TaskFacts.{cut_tail}
-use Rattle.flat_looser_laws.specs.Pieces.{Aim, mark_of, IsMoved, test_or_one, third_items, with_third, Names, label_if, wanted_case, wanted, wanted_in, wanted_among, case_marks}
-use Rattle.flat_looser_laws.specs.Placed.{ArePlaced}
-use Rattle.flat_looser_laws.specs.Loose.{Setting, Mode, Open, Inner, in_open, in_last, Arrives, LooserItem, lo_evaluate, lo_return, lo_return_none, lo_note, lo_if, lo_while, lo_do, lo_for, lo_for_while, lo_block, lo_keep_block, lo_keep_for, lo_keep_declares, lo_keep_local, lo_declares, lo_number, lo_array, lo_break, lo_break_to, lo_break_end, lo_continue, lo_continue_to, lo_goto, lo_mark, lo_drop, lo_arrival, lo_switch, lo_scatter, Looser, la_nil, la_then, la_last, Spread, ls_none, ls_last, ls_falls, ls_ends}
-use Rattle.flat_looser_laws.proofs.Controls.{behind_mark, Control, ct_item, ct_while, ct_do, ct_for, ct_jumped, ct_leaves, Still, st_control}
-use Rattle.flat_looser_laws.proofs.ControlFacts.{placed_join, ended_more, behind_mark_lo, items_lo, list_lo, third_lo, skip_marks, last_mark, spread_lo}
-use Rattle.flat_looser_laws.proofs.Entries.{Caseless, IsCaseless, IsNoArrival, no_arrival, caseless_seek, gone_caseless}
+use Rattle.flat_laws.specs.Pieces.{Aim, mark_of, IsMoved, test_or_one, third_items, with_third, Names, label_if, wanted_case, wanted, wanted_in, wanted_among, case_marks}
+use Rattle.flat_laws.specs.Placed.{ArePlaced}
+use Rattle.flat_laws.specs.Loose.{Setting, Mode, Open, Inner, in_open, in_last, Arrives, LooserItem, lo_evaluate, lo_return, lo_return_none, lo_note, lo_if, lo_while, lo_do, lo_for, lo_for_while, lo_block, lo_keep_block, lo_keep_for, lo_keep_declares, lo_keep_local, lo_declares, lo_number, lo_array, lo_break, lo_break_to, lo_break_end, lo_continue, lo_continue_to, lo_goto, lo_mark, lo_drop, lo_arrival, lo_switch, lo_scatter, Looser, la_nil, la_then, la_last, Spread, ls_none, ls_last, ls_falls, ls_ends}
+use Rattle.flat_laws.proofs.Controls.{behind_mark, Control, ct_item, ct_while, ct_do, ct_for, ct_jumped, ct_leaves, Still, st_control}
+use Rattle.flat_laws.proofs.ControlFacts.{placed_join, ended_more, behind_mark_lo, items_lo, list_lo, third_lo, skip_marks, last_mark, spread_lo}
+use Rattle.flat_laws.proofs.Entries.{Caseless, IsCaseless, IsNoArrival, no_arrival, caseless_seek, gone_caseless}
 
 -- no label is wanted in a list without Arrivals
 mutual

@@ -27,7 +27,7 @@ use Rattle.jump_meaning.specs.Step.{Guards, Frame, State, At, perform}
 use Rattle.jump_meaning.proofs.TaskFacts.{items_join}
 use Rattle.core_laws.proofs.Reach.{Reach, stay, more, reach_on}
 use Rattle.core_laws.proofs.Match.{SafeAt}
-use Rattle.flat_looser_laws.specs.Pieces.{Names, label_if, wanted_case, wanted, wanted_in, wanted_among, Spells, sp_number, sp_unary, sp_binary, IsNumber, is_number, test_for, tests_for, tests, tests_in, tests_among}
+use Rattle.flat_laws.specs.Pieces.{Names, label_if, wanted_case, wanted, wanted_in, wanted_among, Spells, sp_number, sp_unary, sp_binary, IsNumber, is_number, test_for, tests_for, tests, tests_in, tests_among}
 
 pub converted_twice : (k : IntKind) (z : ℤ) → converted k (converted k z) ≡ converted k z
 converted_twice k z = converted-in_kind k (converted k z) (converted-in_range k z)

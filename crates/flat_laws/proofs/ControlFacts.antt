@@ -7,10 +7,10 @@ use Rattle.c_tree.specs.Changed.{one}
 use Rattle.jump_meaning.specs.Tasks.{Task, Runs, Loops, WhileLoop, DoLoop, ForLoop, EndsSection, Out, items, end_of, tail_tasks, cut, cut_to}
 use Rattle.jump_meaning.specs.Search.{find}
 use Rattle.jump_meaning.proofs.TaskFacts.{items_join, cut_items, cut_end, cut_tail, cut_to_items, cut_to_end}
-use Rattle.flat_looser_laws.specs.Pieces.{Aim, Stays, Becomes, Absent, mark_of, IsMoved, test_or_one, third_items, with_third, Names, case_marks}
-use Rattle.flat_looser_laws.specs.Placed.{ArePlaced, IsPlaced, ArePlacedAmong, IsUnlabelled, IsUnlabelledItem, IsUnlabelledAmong}
-use Rattle.flat_looser_laws.specs.Loose.{Setting, In, Mode, Open, Ended, Jumped, IsLast, Inner, in_open, in_last, Arrivals, Looser, la_nil, la_then, la_last, LooserSections, lc_none, lc_section, lc_ended, Spread, ls_none, ls_last, ls_falls, ls_ends}
-use Rattle.flat_looser_laws.proofs.Controls.{behind_mark, Control, ct_nil, ct_item, ct_skip, ct_while, ct_do, ct_for, ct_heads, ct_starts, ct_while_starts, ct_third, ct_out, ct_ends, ct_ended, ct_jumped, ct_behind, ct_leaves, Still, st_control}
+use Rattle.flat_laws.specs.Pieces.{Aim, Stays, Becomes, Absent, mark_of, IsMoved, test_or_one, third_items, with_third, Names, case_marks}
+use Rattle.flat_laws.specs.Placed.{ArePlaced, IsPlaced, ArePlacedAmong, IsUnlabelled, IsUnlabelledItem, IsUnlabelledAmong}
+use Rattle.flat_laws.specs.Loose.{Setting, In, Mode, Open, Ended, Jumped, IsLast, Inner, in_open, in_last, Arrivals, Looser, la_nil, la_then, la_last, LooserSections, lc_none, lc_section, lc_ended, Spread, ls_none, ls_last, ls_falls, ls_ends}
+use Rattle.flat_laws.proofs.Controls.{behind_mark, Control, ct_nil, ct_item, ct_skip, ct_while, ct_do, ct_for, ct_heads, ct_starts, ct_while_starts, ct_third, ct_out, ct_ends, ct_ended, ct_jumped, ct_behind, ct_leaves, Still, st_control}
 
 pub placed_join : (B : Forest) (xs ys : Forest) (k : List Task) → ArePlaced B (join xs ys) k → ArePlaced B xs (items ys k) × ArePlaced B ys k
 placed_join B Nil ys k h = (tt, h)
