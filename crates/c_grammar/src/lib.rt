@@ -1,5 +1,5 @@
-//! The grammar: classes of tokens, derivations, the syntax of a derivation with its places, and what the limits count;
-//! and a file as it is written: its expressions, statements and declarations, by the numbers of their tokens.
+//! The grammar: classes of tokens, derivations, the syntax of a derivation, and what the limits count; and what a syntax
+//! writes: expressions, statements and declarations, by the numbers of their tokens.
 #![tactic(auto)]
 
 mod class;

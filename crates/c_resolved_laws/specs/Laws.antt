@@ -1,4 +1,4 @@
--- What the functions of this crate state: what a resolved program is known to be.
+-- What `resolved_laws` states: what a resolved program is known to be.
 use Rattle.std.specs.Prelude.{ℕ, ◌≡◌, ◌≢◌, ◌<◌, true, List, ◌∷◌, length, Some, All}
 use Rattle.c_tree.specs.declared.tree.Function.{Function}
 use Rattle.c_tree.specs.declared.tree.Slot.{Slot}

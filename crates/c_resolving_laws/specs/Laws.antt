@@ -1,4 +1,4 @@
--- What the functions of this crate state: the program that resolving answers is a resolved program.
+-- What `resolving_laws` states: the program that resolving answers is a resolved program.
 use Rattle.std.specs.Prelude.{ℕ, ◌≡◌, negsuc, List, Ok, option_map, None}
 use Rattle.c_lexer.specs.declared.token.Token.{Token}
 use Rattle.c_lexer.specs.declared.token.Span.{Span}

@@ -1,5 +1,5 @@
-//! What every other crate stands on: lists, boxes, names and bytes that contracts see as what they
-//! hold, the refusal of a text, and the kinds of integers.
+//! What the other crates stand on: lists, boxes, names and bytes that contracts see as what they hold, refusals with their
+//! reasons, and the kinds of integers.
 #![tactic(auto)]
 
 mod boxed;

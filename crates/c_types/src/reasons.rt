@@ -1,7 +1,7 @@
-//! The numbers of the reasons for which a text is refused (docs/SUBSET.md, Reasons), and a report
-//! (docs/REWRITING.md). What is said of each stands in cmd_words.
+//! The numbers of the reasons for which a text or a report is refused (docs/SUBSET.md, docs/COMMANDS.md). What is
+//! said of each stands in cmd_words.
 
-/// The text has more than 67,108,864 bytes.
+/// The text has too many bytes: more than 1,048,576, or for `run` and of a report more than 67,108,864.
 pub const TEXT_TOO_LONG: u32 = 1;
 /// A byte begins no token.
 pub const NO_TOKEN: u32 = 2;

@@ -1,4 +1,4 @@
--- What the function of this crate states: what walks over expressions find.
+-- What `expression_laws` states: what walks over expressions find.
 use Rattle.std.specs.Prelude.{◌≡◌, ℕ, List, Some, None}
 use Rattle.c_grammar.specs.Terms.{Term}
 use Rattle.c_kinds.specs.declared.binding.Binding.{Binding}

@@ -1,4 +1,4 @@
--- What the function of this crate states: what the walk reports is the least of the violations by places.
+-- What `file_laws` states: what the walk reports is the least of the violations by places.
 use Rattle.std.specs.Prelude.{◌≡◌, List, Some, None}
 use Rattle.c_grammar.specs.Tops.{Top}
 use Rattle.c_kinds.specs.declared.typed.Fault.{Fault}

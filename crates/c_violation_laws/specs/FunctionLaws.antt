@@ -1,4 +1,4 @@
--- What the function of this crate states: the walk over a function finds the rules that are broken in it.
+-- What `function_laws` states: the walk over a function finds the rules that are broken in it.
 use Rattle.std.specs.Prelude.{◌≡◌, ◌≤◌, ◌<◌, ℕ, List}
 use Rattle.c_grammar.specs.Tops.{Function}
 use Rattle.c_kinds.specs.Scopes.{Scope}

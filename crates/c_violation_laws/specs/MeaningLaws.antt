@@ -1,4 +1,4 @@
--- What the function of this crate states.
+-- What `meaning_laws` states.
 use Rattle.std.specs.Prelude.{◌≡◌, ◌≢◌, ℕ, ℤ, List, Some, None}
 use Rattle.c_tree.specs.declared.tree.Expression.{Expression}
 use Rattle.c_grammar.specs.Terms.{Term}

@@ -1,4 +1,4 @@
--- What the function of this crate states.
+-- What `program_laws` states.
 use Rattle.std.specs.Prelude.{◌≡◌, ℕ, List}
 use Rattle.c_lexer.specs.declared.token.Token.{Token}
 use Rattle.c_lexer.specs.declared.token.Span.{Span}

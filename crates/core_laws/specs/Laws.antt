@@ -1,4 +1,4 @@
--- The law of cores, which the function of this crate states.
+-- The law of cores, which `core_laws` states.
 use Rattle.std.specs.Prelude.{ℕ, ◌⊎◌, List, All}
 use Rattle.c_tree.specs.declared.tree.Program.{Program}
 use Rattle.c_tree.specs.Trees.{Forest}

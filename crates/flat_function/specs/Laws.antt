@@ -1,4 +1,4 @@
--- What the function of this crate states.
+-- What `flat_names_make_forms` and `flattened_are_forms` state.
 use Rattle.std.specs.Prelude.{ℕ, ◌≡◌, ◌≤◌, true, false, List, length, Some}
 use Rattle.c_tree.specs.declared.tree.Function.{Function}
 use Rattle.c_tree.specs.declared.tree.Item.{Item}

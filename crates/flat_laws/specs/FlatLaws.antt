@@ -1,4 +1,4 @@
--- The laws of the flat form, which the function of this crate states.
+-- The laws of the flat form, which `flat_laws` states.
 use Rattle.std.specs.Prelude.{ℕ, ℤ, List, true, cond, Some, None, IsSome, ◌≡◌}
 use Rattle.c_types.specs.declared.kinds.IntKind.{IntKind}
 use Rattle.c_tree.specs.declared.tree.Slot.{Slot}

@@ -1,4 +1,4 @@
--- What the function of this crate states: the flat form of a source body is made well, before and after its conversion.
+-- What `made_laws` states: the flat form of a source body is made well, before and after its conversion.
 use Rattle.std.specs.Prelude.{ℕ, ℤ, List, length, true, false, ◌+◌, ◌<◌, ◌≤◌, ◌≡◌}
 use Rattle.c_types.specs.declared.kinds.IntKind.{IntKind}
 use Rattle.c_tree.specs.declared.tree.Function.{Function}

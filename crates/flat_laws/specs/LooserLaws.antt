@@ -1,4 +1,4 @@
--- The laws of looser bodies, which the functions of this crate state.
+-- The laws of looser bodies, which `loose_laws` states.
 use Rattle.std.specs.Prelude.{ℕ, ℤ, List, All}
 use Rattle.c_types.specs.declared.kinds.IntKind.{IntKind}
 use Rattle.c_types.specs.Numbers.{converted}

@@ -1,6 +1,6 @@
-//! Theorems on the flat form of a source body: it is a looser body, and it is made well, before its conversion
-//! and after it. A body and a looser one: blocks, declarations, exits and scattered switches as items, assignments,
-//! gotos and labels; a program behaves as one with looser bodies does.
+//! Theorems on looser bodies, which behave the same, and on the flat form of a source body, which is one and is made well,
+//! before its conversion and after it. Of a looser body, items, assignments, gotos and labels stand in the place of
+//! blocks, declarations, exits and scattered switches.
 //!
 //! The definitions stand in specs/. The functions here run no code: the contract of each is a law.
 #![tactic(auto)]

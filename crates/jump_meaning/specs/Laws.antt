@@ -1,4 +1,4 @@
--- The laws of runs and of same behaviour, which the functions of this crate state.
+-- The laws of runs and of same behaviour, which `memory_laws`, `search_laws`, `run_laws`, `sameness_laws` and `steady_laws` state.
 use Rattle.std.specs.Prelude.{ℕ, suc, ◌+◌, ◌≤◌, ◌<◌, ◌≡◌, ◌≢◌, ◌⊎◌, ℤ, pos, false, List, [], ◌++◌, All, Some, IsSome, option_map}
 use Rattle.c_types.specs.Numbers.{converted}
 use Rattle.c_tree.specs.declared.tree.Home.{Home}

@@ -1,4 +1,4 @@
--- The laws of flat lists of gotos, which the functions of this crate state.
+-- The laws of flat lists of gotos, which `lowered_laws` states.
 use Rattle.std.specs.Prelude.{ℕ, ℤ, List, All}
 use Rattle.c_types.specs.declared.kinds.IntKind.{IntKind}
 use Rattle.c_tree.specs.declared.tree.Slot.{Slot}

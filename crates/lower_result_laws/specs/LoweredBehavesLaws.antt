@@ -1,4 +1,4 @@
--- What the function of this crate states.
+-- What `lowered_program_laws` states.
 use Rattle.c_tree.specs.declared.tree.Program.{Program}
 use Rattle.jump_meaning.specs.Runs.{BehaveTheSame}
 use Rattle.lower_laws.specs.Rewritten.{RewrittenTops}

@@ -1,4 +1,4 @@
--- What the function of this crate states.
+-- What `lowered_reading_laws` states.
 use Rattle.std.specs.Prelude.{ℕ, ◌≡◌, ◌⊎◌, List, Ok, Err}
 use Rattle.c_types.specs.declared.refusal.Refusal.{Refusal}
 use Rattle.c_tree.specs.declared.tree.Program.{Program}

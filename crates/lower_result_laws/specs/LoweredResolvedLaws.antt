@@ -1,4 +1,4 @@
--- What the function of this crate states.
+-- What `lowered_resolved_laws` states.
 use Rattle.c_tree.specs.declared.tree.Program.{Program}
 use Rattle.c_tree.specs.declared.tree.Top.{Top}
 use Rattle.c_tree.specs.declared.tree.Top.TheVariants as T

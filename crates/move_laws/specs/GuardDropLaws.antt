@@ -1,4 +1,4 @@
--- What the function of this crate states: a guard that nothing reads can go.
+-- What `unread_laws` states: a guard that nothing reads can go.
 use Rattle.std.specs.Prelude.{ℕ, ◌≡◌, eqb, List}
 use Rattle.c_tree.specs.declared.tree.Item.{Item}
 use Rattle.c_tree.specs.declared.tree.Program.{Program}

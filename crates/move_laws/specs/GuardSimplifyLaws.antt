@@ -1,4 +1,4 @@
--- What the function of this crate states: the simplifications of made tests keep a program steady, and its behaviour.
+-- What `simplification_laws` states: the simplifications of made tests keep a program steady, and its behaviour.
 use Rattle.std.specs.Prelude.{List}
 use Rattle.c_tree.specs.declared.tree.Item.{Item}
 use Rattle.c_tree.specs.declared.tree.Program.{Program}

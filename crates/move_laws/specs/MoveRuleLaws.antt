@@ -1,4 +1,4 @@
--- What the functions of this crate state: to be at least as good is kept in every context, each of the four rules
+-- What `better_laws`, `move_laws`, `program_laws` and `behaviour_laws` state: to be at least as good is kept in every context, each of the four rules
 -- makes a well made body at least as good, and so a steady program with it behaves the same.
 use Rattle.std.specs.Prelude.{ℕ, ℤ, List, All}
 use Rattle.c_tree.specs.declared.tree.Item.{Item}

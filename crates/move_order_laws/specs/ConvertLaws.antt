@@ -1,4 +1,4 @@
--- What the function of this crate states: the conversion of a flat function keeps a program steady, and its behaviour.
+-- What `conversion_laws` states: the conversion of a flat function keeps a program steady, and its behaviour.
 use Rattle.std.specs.Prelude.{◌≡◌, true, List, ◌∷◌, Some}
 use Rattle.c_tree.specs.declared.tree.Item.{Item}
 use Rattle.c_tree.specs.declared.tree.Function.{Function}

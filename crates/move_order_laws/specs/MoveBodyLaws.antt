@@ -1,4 +1,4 @@
--- What the functions of this crate state: behaviour and nesting along the derivation of a body.
+-- What `derived_laws` and `depth_laws` state: behaviour and nesting along the derivation of a body.
 use Rattle.std.specs.Prelude.{◌≡◌, ℕ, ◌+◌, ◌*◌, ◌≤◌, Bool, List}
 use Rattle.c_tree.specs.declared.tree.Item.{Item}
 use Rattle.c_tree.specs.Trees.{Tree, Forest, Goto, trees_of}

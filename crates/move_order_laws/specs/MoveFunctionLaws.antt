@@ -1,4 +1,4 @@
--- What the function of this crate states.
+-- What `moved_laws` states.
 use Rattle.std.specs.Prelude.{◌≡◌, List, Some, All}
 use Rattle.c_tree.specs.declared.tree.Item.{Item}
 use Rattle.c_tree.specs.declared.tree.Function.{Function}

@@ -1,4 +1,4 @@
--- What the functions of this crate state.
+-- What `next_move_laws`, `count_laws`, `nesting_laws` and `derivation_laws` state.
 use Rattle.std.specs.Prelude.{◌≡◌, ◌⊎◌, ℕ, ◌+◌, ◌*◌, ◌≤◌, ◌<◌, List, Some, None, length}
 use Rattle.c_tree.specs.declared.tree.Item.{Item, Leap, Land}
 use Rattle.c_tree.specs.declared.tree.Path.{Path}

@@ -1,4 +1,4 @@
--- What the function of this crate states: moves, simplifications and the conversion keep the skeleton of a body.
+-- What `skeleton_laws` states: moves, simplifications and the conversion keep the skeleton of a body.
 use Rattle.std.specs.Prelude.{◌≡◌, ℕ, Bool, List}
 use Rattle.c_tree.specs.declared.tree.Item.{Item}
 use Rattle.c_tree.specs.Trees.{Forest, trees_of}

@@ -22,7 +22,7 @@ use Rattle.print_limits.specs.Limits.{IsWithinLimits}
 use Rattle.restructure_laws.specs.Lawful.{Moves}
 use Rattle.restructure_laws.specs.Replayed.{converted_tops, IsTopLeapless, IsReplayed}
 use Rattle.restructure_laws.proofs.Whole.{replayed_laws}
-use Rattle.restructure_laws.specs.ReplayLaws.{IsReplayedWithNames, IsNamed}
+use Rattle.restructure_laws.specs.ReplayedProgramLaws.{IsReplayedWithNames, IsNamed}
 use Rattle.restructure_laws.proofs.Laws.{replayed_program_laws}
 use Rattle.move_replay.specs.Replay.{IsStart, IsReached, IsReplay, IsAt, IsRefusal, Stops}
 use Rattle.move_replay.proofs.Starts.{flat_tops}

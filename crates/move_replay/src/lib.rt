@@ -1,5 +1,5 @@
-//! A program after the moves of a report, in whatever order they were chosen (docs/REWRITING.md). They are made in
-//! place, as far as each of them is lawful, where the flat functions are found by their names.
+//! A program after the moves of a report, in whatever order they were chosen (docs/REWRITING.md). The moves are made
+//! in place, as far as each is lawful. Functions are found by their names.
 #![tactic(auto)]
 
 mod all_moves;

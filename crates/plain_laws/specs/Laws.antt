@@ -1,4 +1,4 @@
--- What the functions of this crate state: the plain form keeps behaviour.
+-- What `plain_laws` states: the plain form keeps behaviour.
 use Rattle.std.specs.Prelude.{ℕ, ◌≡◌, ◌≤◌, ◌↔◌, true, ℤ, List, length, All}
 use Rattle.c_tree.specs.declared.tree.Item.{Item}
 use Rattle.c_tree.specs.declared.tree.Slot.{Slot}

@@ -1,4 +1,4 @@
-//! The commands: the one public call that the program makes, and what it does with texts, one call for each.
+//! The commands: what each does with texts and files, and the one call that the program makes.
 #![tactic(auto)]
 
 mod alone;

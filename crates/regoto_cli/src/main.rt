@@ -1,4 +1,4 @@
-//! The program `regoto`: hands the system's files, streams and words to the one public call.
+//! The program `regoto`: hands the system's files, streams and words to `regoto::regoto`.
 #![tactic(auto)]
 
 use regoto::{Status, regoto};

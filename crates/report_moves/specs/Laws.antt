@@ -1,4 +1,4 @@
--- What the function of this crate states: a report is the text of one list of moves.
+-- What `report_laws` states: a report is the text of one list of moves.
 use Rattle.std.specs.Prelude.{◌≡◌, ◌≢◌, ℕ, List}
 use Rattle.report_moves.specs.declared.moves.Move.{Move}
 use Rattle.report_moves.specs.Report.{report_text, AreReportable, IsBadLine}

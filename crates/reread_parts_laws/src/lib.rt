@@ -1,4 +1,4 @@
-//! Printed text reads back as its program.
+//! The parts of a printed text read back as what was printed: expressions, statements, functions, variables and enums.
 //!
 //! The function here runs no code: its contract is the laws.
 #![tactic(auto)]

@@ -34,7 +34,7 @@ use Rattle.print_laws.proofs.Parsing.{printed_text_parses}
 use Rattle.reread_program_laws.proofs.ReadingBack.{reading_back_laws}
 use Rattle.restructure_laws.specs.RereadPlainLaws.{ReadsBack}
 use Rattle.restructure_laws.proofs.NamedTops.{named_program_laws}
-use Rattle.restructure_laws.specs.ReplayLaws.{IsReplayedWithNames, IsNamed, ReplayedProgramLaws}
+use Rattle.restructure_laws.specs.ReplayedProgramLaws.{IsReplayedWithNames, IsNamed, ReplayedProgramLaws}
 use Rattle.restructure_laws.proofs.PlainForms.{flat_converted, unflat_converted, other_converted, plain_resolved}
 use Rattle.restructure_laws.proofs.ReplayedTops.{start_names, have_names}
 use Rattle.restructure_laws.proofs.MoveNames.{IsTopNamedInText, one_named, all_named}

@@ -26,7 +26,7 @@ use Rattle.c_resolved_defs.specs.Within.{Each}
 use Rattle.whole_laws.proofs.Flattened.{body_is}
 use Rattle.restructure_laws.specs.Lawful.{IsLeapMoved, IsMovedBy, OneMoved, this_function, later_function}
 use Rattle.restructure_laws.proofs.OneBody.{moved_leap}
-use Rattle.restructure_laws.specs.ReplayLaws.{IsNamed}
+use Rattle.restructure_laws.specs.ReplayedProgramLaws.{IsNamed}
 use Rattle.restructure_laws.proofs.ChoiceLabels.{Labelled, list_labelled, one_labelled}
 
 -- ---- names

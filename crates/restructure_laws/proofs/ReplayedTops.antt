@@ -19,7 +19,7 @@ use Rattle.whole_laws.specs.Guards.{HasNames, TopHasNames}
 use Rattle.restructure_laws.specs.Flattened.{most_held, FlattenedTop, fd_function, fd_other, FlattenedTops, fd_none, fd_more}
 use Rattle.restructure_laws.proofs.NamedFlat.{AreAmong, among_left, among_right, flattened_has_names}
 use Rattle.restructure_laws.proofs.NamedTops.{other_has}
-use Rattle.restructure_laws.specs.ReplayLaws.{IsReplayedWithNames}
+use Rattle.restructure_laws.specs.ReplayedProgramLaws.{IsReplayedWithNames}
 use Rattle.restructure_laws.proofs.Later.{LaterTop, same_top, rewritten_top, LaterTops, no_more, one_more, moves_later}
 use Rattle.restructure_laws.proofs.PlainForms.{flat_converted, unflat_converted, other_converted}
 

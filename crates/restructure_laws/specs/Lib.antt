@@ -12,4 +12,4 @@ pub mod WholeIdempotentLaws
 pub mod Lawful
 pub mod Replayed
 pub mod ReplayMovesLaws
-pub mod ReplayLaws
+pub mod ReplayedProgramLaws

@@ -1,4 +1,4 @@
--- What the functions of this crate state.
+-- What `lawful_move_laws` and `replay_laws` state.
 use Rattle.std.specs.Prelude.{◌≡◌, ◌+◌, ℕ, true, List, Some, slice_get, sum_by, All}
 use Rattle.c_tree.specs.declared.tree.Item.{Item, Leap, Land}
 use Rattle.c_tree.specs.declared.tree.Function.{Function}

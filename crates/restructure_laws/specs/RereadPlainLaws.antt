@@ -1,4 +1,4 @@
--- What the function of this crate states.
+-- What `plain_form_reads_back` states.
 use Rattle.std.specs.Prelude.{◌≡◌, true, List, All, Ok}
 use Rattle.c_copies.specs.Names.{names}
 use Rattle.c_tree.specs.declared.tree.Program.{Program}

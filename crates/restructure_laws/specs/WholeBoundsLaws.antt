@@ -1,4 +1,4 @@
--- What the functions of this crate state.
+-- What `skeletons_kept`, `guards_few`, `jumps_within_levels` and `sizes_bounded` state.
 use Rattle.std.specs.Prelude.{ℕ, List, All}
 use Rattle.c_tree.specs.declared.tree.Function.{Function}
 use Rattle.c_tree.specs.declared.tree.Program.{Program}

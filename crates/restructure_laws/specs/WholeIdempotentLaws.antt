@@ -1,4 +1,4 @@
--- What the function of this crate states.
+-- What `settled_program_laws` states.
 use Rattle.std.specs.Prelude.{◌≡◌, ℕ, true, List, []}
 use Rattle.c_tree.specs.declared.tree.Function.{Function}
 use Rattle.c_tree.specs.declared.tree.Program.{Program}

@@ -1,4 +1,4 @@
--- What the function of this crate states.
+-- What `named_program_laws` states.
 use Rattle.std.specs.Prelude.{ℕ, ◌≤◌, List, length, All}
 use Rattle.c_copies.specs.Names.{names, file_names}
 use Rattle.c_tree.specs.declared.tree.Top.{Top}

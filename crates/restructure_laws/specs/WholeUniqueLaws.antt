@@ -1,4 +1,4 @@
--- What the function of this crate states.
+-- What `one_rewriting_laws` states.
 use Rattle.std.specs.Prelude.{◌≡◌, ℕ, List}
 use Rattle.c_tree.specs.declared.tree.Item.{Item}
 use Rattle.c_tree.specs.declared.tree.Top.{Top}

@@ -1,6 +1,6 @@
-//! What a rewriting keeps of a program besides its behaviour: its bounds, its names, and that its printed text reads
-//! back. A program is rewritten in one way, and one without jumps to itself. A list of lawful moves in any order keeps its
-//! behaviour, too, and what such moves reach reads back, with names that a report can write.
+//! What a rewriting keeps of a program besides its behaviour: its bounds, its names, and that its text reads back; and
+//! that lawful moves in any order keep behaviour. A program is rewritten in one way, and one without jumps to itself.
+//! What lawful moves reach reads back, too, with names that a report can write.
 //!
 //! The definitions stand in specs/. The functions here run no code: their contracts are the laws.
 #![tactic(auto)]
@@ -11,7 +11,7 @@ ghost use Rattle.restructure_laws.specs.WholeNamesLaws.{NamedProgramLaws};
 ghost use Rattle.restructure_laws.specs.WholeUniqueLaws.{OneRewritingLaws};
 ghost use Rattle.restructure_laws.specs.WholeIdempotentLaws.{SettledLaws};
 ghost use Rattle.restructure_laws.specs.ReplayMovesLaws.{LawfulMoveLaws, ReplayLaws};
-ghost use Rattle.restructure_laws.specs.ReplayLaws.{ReplayedProgramLaws};
+ghost use Rattle.restructure_laws.specs.ReplayedProgramLaws.{ReplayedProgramLaws};
 
 /// A function with jumps keeps the skeleton of its flat form, one without jumps all but its labels.
 pub fn skeletons_kept()
@@ -61,13 +61,13 @@ pub fn lawful_move_laws()
     ensures { LawfulMoveLaws }
 {}
 
-/// What a resolved program is made by lawful moves behaves as it does, and so does its plain form once no Leap is left.
+/// What lawful moves make of a resolved program behaves as it does, and so does its plain form once no Leap is left.
 /// The moves of the rewriting are such.
 pub fn replay_laws()
     ensures { ReplayLaws }
 {}
 
-/// What a resolved program is made by lawful moves until no Leap is left has a plain form that is resolved and reads as
+/// What lawful moves make of a resolved program, until no Leap is left, has a plain form that is resolved and reads as
 /// itself, where it is within the limits of a text. Each of the moves names a function and, where its kind has one, a label.
 pub fn replayed_program_laws()
     ensures { ReplayedProgramLaws }

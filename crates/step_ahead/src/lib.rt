@@ -1,5 +1,4 @@
-//! Several steps of a run made at once: those of an expression without calls, which is computed at once, and
-//! of the statement that it stands in.
+//! Several steps of a run made together: those of an expression without calls, and of the statement that it stands in.
 #![tactic(auto)]
 
 mod asking;

@@ -1,4 +1,4 @@
--- The law of this crate.
+-- The law `leaving_laws`.
 use Rattle.std.proofs.Common.{ℕ, zero, suc, Bool, true, false, ◌≡◌, ap, sym, subst}
 use Rattle.c_tree.specs.TestTrees.{TestTree}
 use Rattle.c_tree.specs.Trees.{Forest, While}

@@ -1,4 +1,4 @@
--- What the function of this crate states: changes keep the behaviour, by the structural meaning.
+-- What `tidy_laws` states: changes keep the behaviour, by the structural meaning.
 use Rattle.std.specs.Prelude.{ℕ, suc, ◌≡◌, ◌≤◌, ◌<◌, ◌⊎◌, ◌↔◌, ℤ, List, [], ◌∷◌, length, is_some, All, Contains}
 use Rattle.c_tree.specs.declared.tree.Function.{Function}
 use Rattle.c_tree.specs.declared.tree.Top.{Top}

@@ -1,4 +1,4 @@
--- What the function of this crate states: changes come to an end.
+-- What `change_laws` states: changes come to an end.
 use Rattle.std.specs.Prelude.{ℕ, suc, ◌+◌, ◌≡◌, [], length, Contains}
 use Rattle.c_tree.specs.Trees.{Forest}
 use Rattle.jump_meaning.specs.Code.{FunctionTree}

@@ -1,4 +1,4 @@
--- What the function of this crate states.
+-- What `settled_laws` states.
 use Rattle.jump_meaning.specs.Code.{Code}
 use Rattle.tidy_laws.specs.TidyExitLaws.{RunTheSame}
 use Rattle.tidy_laws.specs.Settled.{SettledCode}

@@ -1,4 +1,4 @@
--- What the function of this crate states.
+-- What `jumpless_sources` states.
 use Rattle.std.specs.Prelude.{◌≡◌, false, List, None, All}
 use Rattle.c_tree.specs.declared.tree.Top.{Top}
 use Rattle.c_tree.specs.declared.tree.Top.TheVariants as T

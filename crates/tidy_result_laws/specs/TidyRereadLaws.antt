@@ -1,4 +1,4 @@
--- What the function of this crate states.
+-- What `ends_read_back` and `one_end` state.
 use Rattle.std.specs.Prelude.{ℕ, ◌+◌, ◌≡◌, true}
 use Rattle.c_tree.specs.declared.tree.Program.{Program}
 use Rattle.c_tree.specs.Jumps.{is_plain_program}

@@ -1,4 +1,4 @@
--- What the function of this crate states: what is made of a resolved program without jumps is resolved again.
+-- What `end_laws` states: what is made of a resolved program without jumps is resolved again.
 use Rattle.std.specs.Prelude.{ℕ, ◌+◌, ◌≡◌, true}
 use Rattle.c_tree.specs.declared.tree.Program.{Program}
 use Rattle.c_tree.specs.Jumps.{is_jump_free_program, is_plain_program}

@@ -1,4 +1,4 @@
--- What the function of this crate states.
+-- What `notes_laws` states.
 use Rattle.std.specs.Prelude.{◌≡◌, ℕ, ℤ, List}
 use Rattle.c_types.specs.declared.kinds.IntKind.{IntKind}
 use Rattle.c_tree.specs.declared.tree.Function.{Function}

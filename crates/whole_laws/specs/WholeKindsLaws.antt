@@ -1,4 +1,4 @@
--- What the function of this crate states: kinds that agree stay so where one body changes.
+-- What `kind_laws` states: kinds that agree stay so where one body changes.
 use Rattle.std.specs.Prelude.{All}
 use Rattle.c_tree.specs.declared.tree.Top.{Top}
 use Rattle.c_tree.specs.declared.tree.Top.TheVariants as T

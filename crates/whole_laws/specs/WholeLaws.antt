@@ -1,4 +1,4 @@
--- What the function of this crate states.
+-- What `whole_laws` states.
 use Rattle.std.specs.Prelude.{ℕ, ◌≡◌, true, List, length, All}
 use Rattle.c_tree.specs.declared.tree.Function.{Function}
 use Rattle.c_tree.specs.declared.tree.Top.{Top}

@@ -1,6 +1,6 @@
-//! The whole of a rewriting: the flat forms, conversions, moves and simplifications of all functions of a program.
-//! The plain form of what they reach behaves as the program does, with the same comments in the same order and
-//! kinds that agree. The plain form of a resolved program is resolved again.
+//! The whole of a rewriting, up to the plain form: it behaves as the program does, keeps its comments, and is resolved again.
+//! These are the flat forms, conversions, moves and simplifications of all functions of a program. Kinds agree all
+//! along, and the plain form is resolved where its variables have names of their own.
 //!
 //! The definitions stand in specs/. Each function here runs no code: its contract is a law of them.
 #![tactic(auto)]

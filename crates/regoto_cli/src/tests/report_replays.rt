@@ -1,4 +1,4 @@
-//! Texts and reports through the one public call.
+//! Texts and reports through `move_replay::replay`.
 
 use crate::tests::replayed_texts::{REPLAYED, SEVERAL_FUNCTIONS};
 use c_printer::print;

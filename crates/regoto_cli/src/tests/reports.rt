@@ -1,4 +1,4 @@
-//! Texts, and what their reading gives.
+//! Reports that are written, and texts that are read as reports.
 ghost use Rattle.rg_ports.specs.Written.{Untold};
 
 use c_tree::{Path, Step};

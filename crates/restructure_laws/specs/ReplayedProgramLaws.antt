@@ -1,4 +1,4 @@
--- What the function of this crate states.
+-- What `replayed_program_laws` states.
 use Rattle.std.specs.Prelude.{◌≡◌, ◌≤◌, true, List, length, All}
 use Rattle.std.specs.List.{AllByRecursion}
 use Rattle.c_copies.specs.Names.{names, file_names}
