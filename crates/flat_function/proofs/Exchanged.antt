@@ -48,10 +48,7 @@ conversion_made g new e h = subst IsWellMade (ap convert (body_is g new e) ∙ s
 
 no_conversion : (t : Top) → IsNoFunction t → IsConversionMade t
 no_conversion (T.Function f) n = absurd n
-no_conversion (T.Include bytes) n = tt
-no_conversion (T.Enum es) n = tt
-no_conversion (T.Global g) n = tt
-no_conversion (T.Note bytes) n = tt
+no_conversion _ n = tt
 
 good_exchange : {t u : Top} → IsSourceTop t → FlatTop t u → IsGoodExchange t u
 good_exchange s (ft_flat {f = f} {g = g} jumps w) = record {

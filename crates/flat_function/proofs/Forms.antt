@@ -9,7 +9,7 @@ use Rattle.c_tree.specs.declared.tree.Function.{Function}
 use Rattle.c_tree.specs.declared.tree.Item.{Item}
 use Rattle.c_tree.specs.declared.tree.Slot.{Slot}
 use Rattle.c_tree.specs.Everywhere.{total, total_of, total_in}
-use Rattle.c_tree.specs.Trees.{Tree, Forest, Nil, Then, Sections, NoSection, Section, Evaluate, Return, If, While, Do, For, Switch, Block, Local, Break, Continue, Goto, Mark, Arm, Leap, Land, Arrival, Note, trees_of}
+use Rattle.c_tree.specs.Trees.{Tree, Forest, Nil, Then, Sections, NoSection, Section, Evaluate, If, While, Do, For, Switch, Block, trees_of}
 use Rattle.jump_meaning.specs.Code.{entry_or}
 use Rattle.jump_meaning.specs.World.{no_slot}
 use Rattle.jump_meaning.specs.Step.{switch_kind}
@@ -112,17 +112,7 @@ mutual
       let i = counted_among d in
       omega (arith, e, i)
   counted_in (Evaluate e) = refl
-  counted_in (Return e) = refl
-  counted_in (Local x es) = refl
-  counted_in Break = refl
-  counted_in Continue = refl
-  counted_in (Goto l) = refl
-  counted_in (Mark l) = refl
-  counted_in (Arm l e) = refl
-  counted_in (Leap l) = refl
-  counted_in (Land l) = refl
-  counted_in (Arrival e) = refl
-  counted_in (Note bs) = refl
+  counted_in _ = refl
 
   counted_among : (d : Sections) → length (kinds (constructs_among d)) ≡ total_in variables_of d
   counted_among NoSection = refl
@@ -181,17 +171,7 @@ module _ (s : Setting) where
           have_among (inside (Switch t d) h) (v + cond (is_scattered d) 1 0) d (omega (arith, e)) j.1,
         )
     has h v (Evaluate x) e i = tt
-    has h v (Return x) e i = tt
-    has h v (Local x es) e i = tt
-    has h v Break e i = tt
-    has h v Continue e i = tt
-    has h v (Goto l) e i = tt
-    has h v (Mark l) e i = tt
-    has h v (Arm l x) e i = tt
-    has h v (Leap l) e i = tt
-    has h v (Land l) e i = tt
-    has h v (Arrival x) e i = tt
-    has h v (Note bs) e i = tt
+    has h v _ e i = tt
 
     have_among : (h : Here) (v : ℕ) (d : Sections) → h.variable ≡ v → At v (kinds (constructs_among d)) → HaveVariablesAmong s h d
     have_among h v NoSection e i = tt

@@ -8,7 +8,7 @@ use Rattle.c_tree.specs.Changed.{one}
 use Rattle.c_tree.specs.Exits.{breaks, continues}
 use Rattle.c_tree.specs.ExpressionTrees.{ExpressionTree}
 use Rattle.c_tree.specs.TestTrees.{TestTree, Source, SelectorTree}
-use Rattle.c_tree.specs.Trees.{Tree, Forest, Nil, Then, Sections, NoSection, Section, Evaluate, Return, If, While, Do, For, Switch, Block, Local, Break, Continue, Goto, Mark, Arm, Leap, Land, Arrival, Note, join}
+use Rattle.c_tree.specs.Trees.{Tree, Forest, Nil, Then, Sections, NoSection, Section, Evaluate, If, While, Do, For, Switch, Block, Local, Break, Continue, Goto, Mark, Arrival, join}
 use Rattle.jump_meaning.specs.Code.{entry_or}
 use Rattle.jump_meaning.specs.World.{no_slot}
 use Rattle.jump_meaning.specs.Step.{switch_kind}
@@ -88,9 +88,7 @@ module _ (f : ℕ → ℕ) where
   ended true (Becomes l) = refl
   ended true Stays = refl
   ended true Absent = refl
-  ended false (Becomes l) = refl
-  ended false Stays = refl
-  ended false Absent = refl
+  ended false _ = refl
 
   -- ---- declarations
 
@@ -265,11 +263,7 @@ module _ (f : ℕ → ℕ) where
         ∙ ap (λ z. lowered_among (moved p) i z (aim_moved c) (λ e. f (ns e)) d) (scattered p h d)
         ∙ ap (λ n. lowered_among (moved p) i (scatter_aim (moved p).plan h d) (aim_moved c) n d) (named p h (switch_kind s) d))
     moves_in p h b c r (Evaluate e) = refl
-    moves_in p h b c r (Return e) = refl
-    moves_in p h b c r (Arm l e) = refl
-    moves_in p h b c r (Leap l) = refl
-    moves_in p h b c r (Land l) = refl
-    moves_in p h b c r (Note bs) = refl
+    moves_in p h b c r _ = refl
 
     moves_among : (p : Layout) (h : Here) (b c : Aim) (names : Names) (d : Sections) →
         renumbered f (lowered_among p h b c names d) ≡ lowered_among (moved p) h (aim_moved b) (aim_moved c) (λ e. f (names e)) d

@@ -19,7 +19,7 @@ use Rattle.c_tree.specs.declared.tree.UnaryOp.TheVariants.{Minus}
 use Rattle.c_tree.specs.InRange.{body_of}
 use Rattle.c_tree.specs.Numerals.{number, least_constant, constant}
 use Rattle.c_tree.specs.TestTrees.{TestTree, Source, On, Off, AndOff, OrOn, SelectorTree}
-use Rattle.c_tree.specs.Trees.{Tree, Forest, Nil, Then, Sections, NoSection, Section, Evaluate, Return, If, While, Do, For, Switch, Block, Local, Break, Continue, Goto, Mark, Arm, Leap, Land, Arrival, Note, join, trees_of}
+use Rattle.c_tree.specs.Trees.{Tree, Forest, Nil, Then, Sections, NoSection, Section, Evaluate, Return, If, While, Do, For, Switch, Block, Local, Goto, Mark, Arm, Note, join, trees_of}
 use Rattle.c_tree.proofs.WellMoved.{everywhere_map, everywhere_both}
 use Rattle.c_resolved_defs.specs.Limits.{FlatCounts}
 use Rattle.c_resolved_defs.specs.PrintableExpressions.{level_of, counted, counted_at}
@@ -64,18 +64,7 @@ module _ (P : ExpressionTree → Tree → Type 0) where
     item_some Q (For first t u a) k = (λ e s. k e (inl s), everywhere_some Q first (λ e s. k e (inr (inl s))), everywhere_some Q a (λ e s. k e (inr (inr s))))
     item_some Q (Switch s c) k = (λ e s. k e (inl s), sections_some Q c (λ e s. k e (inr s)))
     item_some Q (Block a) k = (λ e s. k e (inl s), everywhere_some Q a (λ e s. k e (inr s)))
-    item_some Q (Evaluate d) k = k
-    item_some Q (Return d) k = k
-    item_some Q (Local x es) k = k
-    item_some Q Break k = k
-    item_some Q Continue k = k
-    item_some Q (Goto l) k = k
-    item_some Q (Mark l) k = k
-    item_some Q (Arm l d) k = k
-    item_some Q (Leap l) k = k
-    item_some Q (Land l) k = k
-    item_some Q (Arrival d) k = k
-    item_some Q (Note bs) k = k
+    item_some Q _ k = k
 
     sections_some : (Q : ExpressionTree → Type 0) (c : Sections) → ((e : ExpressionTree) → SomewhereIn (P e) c → Q e) → EverywhereIn (Implies Q) c
     sections_some Q NoSection k = tt
@@ -175,15 +164,7 @@ module _ (a : Forest) where
         let w = all_initialisers es g.1.0 in
         (each_map OfInitialiser V (λ d i. i d (omega arith)) es w, assigned_have _ x _ es w)
     from_given (Arm l e) g = (optional e g.0, tt)
-    from_given (Block x) g = (tt, tt)
-    from_given Break g = (tt, tt)
-    from_given Continue g = (tt, tt)
-    from_given (Goto l) g = (tt, tt)
-    from_given (Mark l) g = (tt, tt)
-    from_given (Leap l) g = (tt, tt)
-    from_given (Land l) g = (tt, tt)
-    from_given (Arrival e) g = (tt, tt)
-    from_given (Note bs) g = (tt, tt)
+    from_given _ g = (tt, tt)
 
     have : Everywhere (ItemHas V V C R AnyNote) (join (front f params used taken a) (list f params used taken a))
     have = facts_lowered f params used taken a V V C R AnyNote (everywhere_map Given FromSource from_given a given)

@@ -165,9 +165,7 @@ module _ (counts : FlatCounts) (p : Program) (few : length (names p) ≤ most_he
   top_spelled (T.Function f) (T.Global g) w k = absurd w
   top_spelled (T.Function f) (T.Note bytes) w k = absurd w
   top_spelled (T.Include bytes) u w k = subst TopIsSpelled (sym w) k.spelled
-  top_spelled (T.Enum xs) u w k = subst TopIsSpelled (sym w) k.spelled
-  top_spelled (T.Global g) u w k = subst TopIsSpelled (sym w) k.spelled
-  top_spelled (T.Note bytes) u w k = subst TopIsSpelled (sym w) k.spelled
+  top_spelled _ u w k = subst TopIsSpelled (sym w) k.spelled
 
   tops_spelled : {ts vs : List Top} → LoweredTops (names p) (file_names p) ts vs → Each Known ts → Each TopIsSpelled vs
   tops_spelled lt_none k = tt
@@ -196,9 +194,7 @@ module _ (counts : FlatCounts) (p : Program) (few : length (names p) ≤ most_he
     top_bound (T.Function f) (T.Global g) w k d b = absurd w
     top_bound (T.Function f) (T.Note bytes) w k d b = absurd w
     top_bound (T.Include bytes) u w k d b = subst (TopIsBound ss) (sym w) b
-    top_bound (T.Enum xs) u w k d b = subst (TopIsBound ss) (sym w) b
-    top_bound (T.Global g) u w k d b = subst (TopIsBound ss) (sym w) b
-    top_bound (T.Note bytes) u w k d b = subst (TopIsBound ss) (sym w) b
+    top_bound _ u w k d b = subst (TopIsBound ss) (sym w) b
 
     same_behind : (t u : Top) → IsTopLowered (names p) (file_names p) t u → Known t → behind_top ss u ≡ behind_top ss t
     same_behind (T.Function f) (T.Function h) w k = let d = function_declared f h w k in ap (λ n. bind n AFunction ss) d.name
@@ -207,9 +203,7 @@ module _ (counts : FlatCounts) (p : Program) (few : length (names p) ≤ most_he
     same_behind (T.Function f) (T.Global g) w k = absurd w
     same_behind (T.Function f) (T.Note bytes) w k = absurd w
     same_behind (T.Include bytes) u w k = ap (behind_top ss) w
-    same_behind (T.Enum xs) u w k = ap (behind_top ss) w
-    same_behind (T.Global g) u w k = ap (behind_top ss) w
-    same_behind (T.Note bytes) u w k = ap (behind_top ss) w
+    same_behind _ u w k = ap (behind_top ss) w
 
   tops_bound : {ts us : List Top} (ss : List Scope) → AreOfFile p.tops ss → LoweredTops (names p) (file_names p) ts us → Each Known ts →
       ((n : List ℕ) → IsFree p.tops n → IsFreeIn ts n) → TopsAreBound ss ts → TopsAreBound ss us

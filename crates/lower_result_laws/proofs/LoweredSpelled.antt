@@ -18,7 +18,7 @@ use Rattle.c_tree.specs.Numerals.{constant}
 use Rattle.c_tree.specs.TestTrees.{SelectorTree}
 use Rattle.c_tree.specs.TextExpressions.{slot_name}
 use Rattle.c_tree.specs.TextItems.{label_name}
-use Rattle.c_tree.specs.Trees.{Tree, Forest, Nil, Then, Evaluate, Return, If, While, Do, For, Switch, Block, Local, Break, Continue, Goto, Mark, Arm, Leap, Land, Arrival, Note, join}
+use Rattle.c_tree.specs.Trees.{Tree, Forest, Nil, Then, Switch, Local, join}
 use Rattle.c_tree.specs.Everywhere.{total, Everywhere, EverywhereOf}
 use Rattle.c_tree.proofs.WellMoved.{everywhere_map, everywhere_both}
 use Rattle.jump_meaning.specs.Code.{entry_or}
@@ -220,22 +220,7 @@ module _ (f : Function) (params : f.params ≤ length f.slots) (used taken : Lis
   from_source (Local x None) g = (g.0.0, tt)
   from_source (Local x (Some es)) g = (g.0.0, local_prints x es g.1.0 g.1.1.0 g.1.1.1 g.0.0 g.0.1)
   from_source (Switch s c) g = (g.0.0, selects s g.0.0.0 g.0.1)
-  from_source (Evaluate e) g = (g.0.0, tt)
-  from_source (Return e) g = (g.0.0, tt)
-  from_source (If t x y) g = (g.0.0, tt)
-  from_source (While t x) g = (g.0.0, tt)
-  from_source (Do x t) g = (g.0.0, tt)
-  from_source (For first t u x) g = (g.0.0, tt)
-  from_source (Block x) g = (g.0.0, tt)
-  from_source Break g = (g.0.0, tt)
-  from_source Continue g = (g.0.0, tt)
-  from_source (Goto l) g = (g.0.0, tt)
-  from_source (Mark l) g = (g.0.0, tt)
-  from_source (Arm l e) g = (g.0.0, tt)
-  from_source (Leap l) g = (g.0.0, tt)
-  from_source (Land l) g = (g.0.0, tt)
-  from_source (Arrival e) g = (g.0.0, tt)
-  from_source (Note bs) g = (g.0.0, tt)
+  from_source _ g = (g.0.0, tt)
 
   -- ---- the whole, with these labels
 

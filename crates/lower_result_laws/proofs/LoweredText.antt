@@ -55,9 +55,7 @@ module _ (counts : FlatCounts) (ts : List Top) (names file : List (List ℕ)) wh
   top_text (T.Function f) (T.Global g) r w = tt
   top_text (T.Function f) (T.Note bytes) r w = tt
   top_text (T.Include bytes) u r w = subst TopHasText (sym w) tt
-  top_text (T.Enum xs) u r w = subst TopHasText (sym w) tt
-  top_text (T.Global g) u r w = subst TopHasText (sym w) tt
-  top_text (T.Note bytes) u r w = subst TopHasText (sym w) tt
+  top_text _ u r w = subst TopHasText (sym w) tt
 
   tops_text : {us vs : List Top} → Each (IsResolvedTop counts ts) us → LoweredTops names file us vs → Each TopHasText vs
   tops_text r lt_none = tt

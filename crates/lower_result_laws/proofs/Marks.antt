@@ -7,7 +7,7 @@ use Rattle.c_tree.specs.Exits.{breaks, continues}
 use Rattle.c_tree.specs.ExpressionTrees.{ExpressionTree}
 use Rattle.c_tree.specs.TestTrees.{TestTree, Source}
 use Rattle.c_tree.specs.Labels.{ItemLabels}
-use Rattle.c_tree.specs.Trees.{Tree, Forest, Nil, Then, Sections, NoSection, Section, Evaluate, Return, If, While, Do, For, Switch, Block, Local, Break, Continue, Goto, Mark, Arm, Leap, Land, Arrival, Note, join}
+use Rattle.c_tree.specs.Trees.{Tree, Forest, Nil, Then, Sections, NoSection, Section, Evaluate, If, While, Do, For, Switch, Block, Local, Break, Continue, Goto, Mark, Arrival, join}
 use Rattle.c_tree.specs.Changed.{one}
 use Rattle.c_tree.specs.Everywhere.{Everywhere, EverywhereOf, EverywhereIn}
 use Rattle.jump_meaning.specs.Code.{entry_or}
@@ -300,11 +300,7 @@ module _ (ls : List ℕ) (p : Layout) (Known Q : ℕ → Type 0) (makes : Makes 
         (none_tests_among p'.plan.number j v m d))
         (among_both i B B' (scatter_both (leaves d) (p.plan.break_label h.construct) (makes.breaks h.construct)) c c' n m (names_both h j d) d k.1)
     item_both h b b' c c' s (Evaluate e) k = tt
-    item_both h b b' c c' s (Return e) k = tt
-    item_both h b b' c c' s (Arm l e) k = tt
-    item_both h b b' c c' s (Leap l) k = tt
-    item_both h b b' c c' s (Land l) k = tt
-    item_both h b b' c c' s (Note bs) k = tt
+    item_both h b b' c c' s _ k = tt
 
     among_both : (h : Here) (b b' : Aim) → Both (mark_of b) (mark_of b') → (c c' : Aim) (n m : Names) → AreNames n m → (d : Sections) →
         EverywhereIn IsKnown d → Both (lowered_among p h b c n d) (lowered_among p' h b' c' m d)

@@ -7,9 +7,9 @@ use Rattle.c_tree.specs.declared.tree.Function.{Function}
 use Rattle.c_tree.specs.declared.tree.Slot.{Slot}
 use Rattle.c_tree.specs.Cases.{selector_source, all_cases}
 use Rattle.c_tree.specs.ExpressionTrees.{ExpressionTree}
-use Rattle.c_tree.specs.TestTrees.{TestTree, Source, On, Off, AndOff, OrOn, SelectorTree, Selects, Pick}
+use Rattle.c_tree.specs.TestTrees.{TestTree, Source, SelectorTree, Selects, Pick}
 use Rattle.c_tree.specs.TextExpressions.{slot_name}
-use Rattle.c_tree.specs.Trees.{Tree, Forest, Nil, Then, Sections, NoSection, Section, Evaluate, Return, If, While, Do, For, Switch, Block, Local, Break, Continue, Goto, Mark, Arm, Leap, Land, Arrival, Note}
+use Rattle.c_tree.specs.Trees.{Tree, Forest, Nil, Then, Sections, NoSection, Section, Evaluate, Return, If, While, Do, For, Switch, Block, Local, Break, Continue, Goto, Mark, Arm, Note}
 use Rattle.c_tree.specs.Everywhere.{Everywhere, EverywhereOf, EverywhereIn}
 use Rattle.c_resolved_defs.specs.Within.{TestExpression}
 use Rattle.c_resolved_defs.specs.PrintableExpressions.{IsName, bracket_count, level_of}
@@ -65,10 +65,7 @@ module _ (old new : List Slot) (name : (k : ℕ) → IsName (slot_name old k) �
 
   test_over : (t : TestTree) → TestPrints old t → TestExpression A t
   test_over (Source e) h = full_over 1 (omega arith) e h
-  test_over (On l) h = absurd h
-  test_over (Off l) h = absurd h
-  test_over (AndOff l t) h = absurd h
-  test_over (OrOn l t) h = absurd h
+  test_over _ h = absurd h
 
   selector_over : (s : SelectorTree) → SelectorPrints old s → A (selector_source s)
   selector_over (Selects e) h = full_over 1 (omega arith) e h
@@ -121,9 +118,7 @@ module _ (f : Function) (new : List Slot) (name : (k : ℕ) → IsName (slot_nam
     item_prints (Goto l) h = tt
     item_prints (Mark l) h = tt
     item_prints (Arm l e) h = absurd h
-    item_prints (Leap l) h = tt
-    item_prints (Land l) h = tt
-    item_prints (Arrival e) h = tt
+    item_prints _ h = tt
 
     sections_print : (c : Sections) → SectionsAreSpelled f c → EverywhereIn Q c
     sections_print NoSection h = tt

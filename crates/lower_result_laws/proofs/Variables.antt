@@ -7,7 +7,7 @@ use Rattle.std.proofs.lemmas.List.{append-nil}
 use Rattle.c_types.specs.declared.kinds.IntKind.{IntKind}
 use Rattle.c_tree.specs.declared.tree.Slot.{Slot}
 use Rattle.c_tree.specs.Everywhere.{total, total_of, total_in}
-use Rattle.c_tree.specs.Trees.{Tree, Forest, Nil, Then, Sections, NoSection, Section, Evaluate, Return, If, While, Do, For, Switch, Block, Local, Break, Continue, Goto, Mark, Arm, Leap, Land, Arrival, Note}
+use Rattle.c_tree.specs.Trees.{Tree, Forest, Nil, Then, Sections, NoSection, Section, Evaluate, If, While, Do, For, Switch, Block}
 use Rattle.c_copies.specs.Names.{with_name}
 use Rattle.c_fresh_names.specs.Fresh.{numbered, fresh}
 use Rattle.jump_meaning.specs.Code.{entry_or}
@@ -82,17 +82,7 @@ mutual
   counted_in (Block a) = let i = counted a in omega (arith, i)
   counted_in (Switch s d) = let i = counted_among d in omega (arith, i)
   counted_in (Evaluate e) = refl
-  counted_in (Return e) = refl
-  counted_in (Local x es) = refl
-  counted_in Break = refl
-  counted_in Continue = refl
-  counted_in (Goto l) = refl
-  counted_in (Mark l) = refl
-  counted_in (Arm l e) = refl
-  counted_in (Leap l) = refl
-  counted_in (Land l) = refl
-  counted_in (Arrival e) = refl
-  counted_in (Note bs) = refl
+  counted_in _ = refl
 
   counted_among : (d : Sections) → length (kinds (constructs_among d)) ≡ total_in variables_of d
   counted_among NoSection = refl
@@ -141,18 +131,7 @@ module _ (s : Setting) where
         (have s v first (omega (arith, e)) j.0, have (past first s) (v + length (kinds (constructs first))) a (omega (arith, e, n)) j.1)
     has h v (Block a) e i = have h v a e i
     has h v (Switch t d) e i = (subst (λ w. IsVariable s w (switch_kind t)) (sym e) i.0, have_among (inside (Switch t d) h) (suc v) d (omega (arith, e)) i.1)
-    has h v (Evaluate x) e i = tt
-    has h v (Return x) e i = tt
-    has h v (Local x es) e i = tt
-    has h v Break e i = tt
-    has h v Continue e i = tt
-    has h v (Goto l) e i = tt
-    has h v (Mark l) e i = tt
-    has h v (Arm l x) e i = tt
-    has h v (Leap l) e i = tt
-    has h v (Land l) e i = tt
-    has h v (Arrival x) e i = tt
-    has h v (Note bs) e i = tt
+    has h v _ e i = tt
 
     have_among : (h : Here) (v : ℕ) (d : Sections) → h.variable ≡ v → At v (kinds (constructs_among d)) → HaveVariablesAmong s h d
     have_among h v NoSection e i = tt

@@ -68,10 +68,7 @@ not_flat g e = λ t. absurd (true≢false (sym t ∙ e))
 
 other_movable : (t : Top) → IsNoFunction t → IsTopMovable t
 other_movable (T.Function f) n = absurd n
-other_movable (T.Include b) n = tt
-other_movable (T.Enum es) n = tt
-other_movable (T.Global g) n = tt
-other_movable (T.Note b) n = tt
+other_movable _ n = tt
 
 movable_top : {t u : Top} → IsTopUnflat t → FlatTop t u → IsConvertible u → IsTopMovable u
 movable_top s (ft_flat {f} {g} e w) c = with_flat_form f g w c

@@ -63,10 +63,7 @@ module _ (t : List ℕ) (p : Program) (reads : IsProgramOf t p) (q : Program) (m
 
 no_guards : (t : Top) → guards_between t t ≡ 0
 no_guards (T.Function f) = omega arith
-no_guards (T.Include bytes) = refl
-no_guards (T.Enum xs) = refl
-no_guards (T.Global g) = refl
-no_guards (T.Note bytes) = refl
+no_guards _ = refl
 
 none_from : (ts : List Top) → guards_from ts ts ≡ 0
 none_from [] = refl

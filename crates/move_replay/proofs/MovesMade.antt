@@ -9,7 +9,7 @@ use Rattle.c_tree.proofs.MoveLemmas.{some_same}
 use Rattle.move_order_laws.specs.Leaps.{leaps}
 use Rattle.report_moves.specs.declared.moves.Move.{Move}
 use Rattle.restructure_laws.specs.Lawful as L
-use Rattle.restructure_laws.specs.Lawful.{IsOther, IsMovedBy, OneMoved, Moves, none, more}
+use Rattle.restructure_laws.specs.Lawful.{IsOther, OneMoved, Moves, none, more}
 use Rattle.restructure_laws.specs.Replayed.{IsTopWellMade, IsTopLeapless}
 use Rattle.restructure_laws.proofs.Rewriting.{moves_both}
 use Rattle.restructure_laws.proofs.Whole.{lawful_laws}
@@ -57,9 +57,7 @@ top_made m (T.Function f) (T.Enum x) ts h = absurd h
 top_made m (T.Function f) (T.Global x) ts h = absurd h
 top_made m (T.Function f) (T.Note x) ts h = absurd h
 top_made m (T.Include x) u ts h = absurd h
-top_made m (T.Enum x) u ts h = absurd h
-top_made m (T.Global x) u ts h = absurd h
-top_made m (T.Note x) u ts h = absurd h
+top_made m _ u ts h = absurd h
 
 made_there : (m : Move) (ts : List Top) (i : ℕ) (t u : Top) → slice_get ts i ≡ Some t → All (IsOther m.function) (take i ts) → IsTopMoved m t u →
     OneMoved m ts (slice_set ts i u)
@@ -70,10 +68,7 @@ made_there m (x ∷ xs) (suc i) t u e a h =
 
 not_both : (name : List ℕ) (t : Top) → IsFlatOf name t → IsOther name t → ⊥
 not_both name (T.Function f) h o = o h.0 h.1
-not_both name (T.Include x) h o = h
-not_both name (T.Enum x) h o = h
-not_both name (T.Global x) h o = h
-not_both name (T.Note x) h o = h
+not_both name _ h o = h
 
 not_there : (m : Move) (ts us : List Top) (i : ℕ) (t : Top) → slice_get ts i ≡ Some t → IsFlatOf m.function t → All (IsOther m.function) (take i ts) →
     ((u : Top) → IsTopMoved m t u → ⊥) → OneMoved m ts us → ⊥

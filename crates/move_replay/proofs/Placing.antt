@@ -9,7 +9,7 @@ use Rattle.c_tree.specs.declared.tree.Function.{Function}
 use Rattle.c_tree.proofs.MoveLemmas.{some_same}
 use Rattle.report_moves.specs.declared.moves.Move.{Move}
 use Rattle.restructure_laws.specs.Lawful as L
-use Rattle.restructure_laws.specs.Lawful.{IsOther, IsMovedBy, OneMoved}
+use Rattle.restructure_laws.specs.Lawful.{IsOther, OneMoved}
 use Rattle.move_replay.specs.declared.places.Places.{Places}
 use Rattle.move_replay.specs.Places.{found_at, place_from, place_in, Finds}
 use Rattle.move_replay.specs.Steps.{IsFlatOf, IsPlaceOf}
@@ -36,10 +36,7 @@ flat_cases m k f o false c e g = inr ((λ h. let i : true ≡ false = sym h ∙ 
 
 cases : (m : List ℕ) (k : ℕ) (t : Top) (o : Option ℕ) → Cases m k t o
 cases m k (T.Function f) o = flat_cases m k f o f.flat (bytes_eq f.name m) refl refl
-cases m k (T.Include x) o = inr (tt, refl)
-cases m k (T.Enum x) o = inr (tt, refl)
-cases m k (T.Global x) o = inr (tt, refl)
-cases m k (T.Note x) o = inr (tt, refl)
+cases m k _ o = inr (tt, refl)
 
 none_is : (m : List ℕ) (k : ℕ) (ts : List Top) → place_from k m ts ≡ None → All (IsOther m) ts
 none_is m k [] e = no_elements (IsOther m)

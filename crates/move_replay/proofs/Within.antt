@@ -14,9 +14,9 @@ use Rattle.c_tree.specs.declared.tree.Top.{Top}
 use Rattle.c_tree.specs.declared.tree.Top.TheVariants as T
 use Rattle.c_tree.specs.ExpressionTrees.{ExpressionTree, expression_tree}
 use Rattle.c_tree.specs.InRange.{body_of}
-use Rattle.c_tree.specs.TestTrees.{TestTree, Source, On, Off, AndOff, OrOn, SelectorTree, Selects, Pick}
+use Rattle.c_tree.specs.TestTrees.{TestTree, Source, SelectorTree, Selects, Pick}
 use Rattle.c_tree.specs.Cases.{selector_source}
-use Rattle.c_tree.specs.Trees.{Tree, Forest, Nil, Then, Sections, NoSection, Section, Evaluate, Return, If, While, Do, For, Switch, Block, Local, Break, Continue, Goto, Mark, Arm, Leap, Land, Arrival, Note, trees_of, expression_trees}
+use Rattle.c_tree.specs.Trees.{Tree, Forest, Nil, Then, Sections, NoSection, Section, Evaluate, Return, If, While, Do, For, Switch, Block, Local, Arrival, trees_of, expression_trees}
 use Rattle.c_resolved_defs.specs.Limits.{most_of, most_if, most_case, most_listed, most_tested, most_counted, most_counted_of, most_counted_in}
 use Rattle.c_resolved_defs.specs.PrintableExpressions.{counted, counted_at}
 use Rattle.c_resolved_defs.specs.PrintableStatements.{most, FullPrints, OptionPrints, ListPrints, ValuesPrint, SlotPrints, TestPrints, SelectorPrints, StartPrints, FurtherPrint, depth}
@@ -57,10 +57,7 @@ slot slots (Some s) given h = values slots s.cells given h.values
 
 test : (slots : List Slot) (t : TestTree) → TestPrints slots t → most_tested t ≤ most
 test slots (Source x) h = full slots 1 x h
-test slots (On l) h = absurd h
-test slots (Off l) h = absurd h
-test slots (AndOff l t) h = absurd h
-test slots (OrOn l t) h = absurd h
+test slots _ h = absurd h
 
 selector : (slots : List Slot) (s : SelectorTree) → SelectorPrints slots s → counted (selector_source s) ≤ most
 selector slots (Selects x) h = full slots 1 x h
@@ -104,14 +101,7 @@ module _ (f : Function) where
     item (Block a) h = items a h
     item (Local k given) h = slot f.slots _ given h
     item (Arrival e) h = arrival f.slots e h
-    item Break h = omega arith
-    item Continue h = omega arith
-    item (Goto l) h = omega arith
-    item (Mark l) h = omega arith
-    item (Arm l e) h = omega arith
-    item (Leap l) h = omega arith
-    item (Land l) h = omega arith
-    item (Note bs) h = omega arith
+    item _ h = omega arith
 
     sections : (c : Sections) → SectionsAreSpelled f c → most_counted_in c ≤ most
     sections NoSection h = omega arith

@@ -88,9 +88,7 @@ plain_one : (name : Function → List (List ℕ)) (t : Top) → IsTopUnflat t �
     (guards_between t (plain_top name t) ≡ 0) × (variables_in (plain_top name t) ≡ variables_in t)
 plain_one name (T.Function f) s = let k = ap length (plain_slots (name f) f s) in (none_more (length f.slots) (length (plain_function (name f) f).slots) k, k)
 plain_one name (T.Include bytes) s = (refl, refl)
-plain_one name (T.Enum xs) s = (refl, refl)
-plain_one name (T.Global g) s = (refl, refl)
-plain_one name (T.Note bytes) s = (refl, refl)
+plain_one name _ s = (refl, refl)
 
 plain_all : (name : Function → List (List ℕ)) (ts : List Top) → AllByRecursion IsTopUnflat ts →
     (guards_from ts (map (plain_top name) ts) ≡ 0) × (variables (map (plain_top name) ts) ≡ variables ts)

@@ -4,7 +4,7 @@ use Rattle.std.proofs.lemmas.List.{length-map}
 use Rattle.std.proofs.lemmas.Bool.{le-leb, lt-leb, lt-ltb, le-ltb}
 use Rattle.c_lexer.specs.declared.token.Token.{Token}
 use Rattle.c_lexer.specs.declared.token.Span.{Span}
-use Rattle.c_lexer.specs.Pieces.{Piece, Fits, behind, bare, token_of, comment_of, tokens_of, comments_of, Spells}
+use Rattle.c_lexer.specs.Pieces.{Piece, behind, bare, token_of, comment_of, tokens_of, comments_of, Spells}
 use Rattle.c_lexer.specs.PieceSteps.{Good, all_of}
 use Rattle.c_lexer.specs.Pieces as l
 use Rattle.c_lexer.proofs.Later.{has_byte}
@@ -40,12 +40,7 @@ token_from : (p : Piece) (at place : ℕ) → place ≤ at → AllFrom place (to
 token_from (l.Space b) at place h = tt
 token_from (l.Line w) at place h = tt
 token_from (l.Block w) at place h = tt
-token_from (l.Word w) at place h = (h, tt)
-token_from (l.Number w) at place h = (h, tt)
-token_from (l.Char x) at place h = (h, tt)
-token_from (l.Text w) at place h = (h, tt)
-token_from (l.Sign m) at place h = (h, tt)
-token_from (l.Directive w) at place h = (h, tt)
+token_from _ at place h = (h, tt)
 
 all_from : (ps : List Piece) (at place : ℕ) → place ≤ at → AllFrom place (all_of token_of ps at)
 all_from [] at place h = tt
@@ -56,12 +51,7 @@ token_before : (p : Piece) (at : ℕ) → at < behind p at → AllBefore (behind
 token_before (l.Space b) at h = tt
 token_before (l.Line w) at h = tt
 token_before (l.Block w) at h = tt
-token_before (l.Word w) at h = (h, tt)
-token_before (l.Number w) at h = (h, tt)
-token_before (l.Char x) at h = (h, tt)
-token_before (l.Text w) at h = (h, tt)
-token_before (l.Sign m) at h = (h, tt)
-token_before (l.Directive w) at h = (h, tt)
+token_before _ at h = (h, tt)
 
 none_next : (ts : List Token) (place : ℕ) → AllFrom place ts → next_token ts place ≡ 0
 none_next [] place h = refl
@@ -116,12 +106,7 @@ comment_here (l.Block w) ps front at b = (
   tt,
 )
 comment_here (l.Space d) ps front at b = tt
-comment_here (l.Word w) ps front at b = tt
-comment_here (l.Number w) ps front at b = tt
-comment_here (l.Char x) ps front at b = tt
-comment_here (l.Text w) ps front at b = tt
-comment_here (l.Sign m) ps front at b = tt
-comment_here (l.Directive w) ps front at b = tt
+comment_here _ ps front at b = tt
 
 spans_both : (P : Span → Type 0) (xs ys : List Span) → Each P xs → Each P ys → Each P (xs ++ ys)
 spans_both P [] ys h k = k

@@ -2,13 +2,13 @@
 use Rattle.std.proofs.Common.{◌≡◌, ◌+◌, ◌<◌, ℕ, Bool, true, false, List, [], ◌∷◌, length, Option, Some, None, refl, arith}
 use Rattle.c_grammar.specs.declared.class.Class.{Class}
 use Rattle.c_grammar.specs.declared.class.Class.TheVariants as c
-use Rattle.c_grammar.specs.Expressions.{Base, CharBase, IntBase, LongBase, LongIntBase, NumberType, OfBase, Signed, SignedOf, Unsigned, UnsignedOf, Expression, One, More, Assignment, To, Value, Conditional, Choose, Only, Binary, Single, Both, Unary, Prefixed, StepTo, CastTo, CastVoid, Place, StepAfter, CallNone, CallWith, Number, Character, Within, Target, Variable, Cell, Round, Arguments, Last, Then, Argument, Given, Written, Texts, OneText, MoreTexts, base_tokens, type_tokens, expression_tokens, assignment_tokens, conditional_tokens, binary_tokens, unary_tokens, target_tokens, arguments_tokens, argument_tokens, texts_tokens}
+use Rattle.c_grammar.specs.Expressions.{Base, CharBase, NumberType, OfBase, Signed, SignedOf, Unsigned, UnsignedOf, Expression, One, More, Assignment, To, Value, Conditional, Choose, Only, Binary, Single, Both, Unary, Prefixed, StepTo, CastTo, CastVoid, Place, StepAfter, CallNone, CallWith, Number, Character, Within, Target, Variable, Cell, Round, Arguments, Last, Then, Argument, Given, Written, Texts, OneText, MoreTexts, base_tokens, type_tokens, expression_tokens, assignment_tokens, conditional_tokens, binary_tokens, unary_tokens, target_tokens, arguments_tokens, argument_tokens, texts_tokens}
 use Rattle.c_grammar.specs.ExpressionSyntax.{base_end, type_end, expression_end, assignment_end, conditional_end, binary_end, unary_end, target_end, arguments_end, argument_end, texts_end}
 use Rattle.c_grammar.specs.Statements as s
 use Rattle.c_grammar.specs.Statements.{word_tokens, more_tokens, rest_tokens, optional_tokens, size_tokens, initialiser_tokens, value_tokens, declarator_tokens, local_tokens, label_tokens, for_start_tokens, block_tokens, items_tokens, statement_tokens, plain_tokens}
 use Rattle.c_grammar.specs.StatementSyntax.{word_end, more_end, rest_end, optional_end, size_end, initialiser_end, value_end, declarator_end, local_end, label_end, for_start_end, block_end, items_end, statement_end, plain_end}
 use Rattle.c_grammar.specs.Files as f
-use Rattle.c_grammar.specs.Files.{parameter_tokens, parameters_tokens, constant_tokens, enumerator_tokens, enumeration_tokens, declaration_tokens, result_tokens, body_tokens, function_tokens, top_tokens}
+use Rattle.c_grammar.specs.Files.{parameter_tokens, parameters_tokens, enumerator_tokens, enumeration_tokens, declaration_tokens, result_tokens, body_tokens, function_tokens, top_tokens}
 use Rattle.c_grammar.specs.FileSyntax.{parameter_end, parameters_end, enumerator_end, enumeration_end, declaration_end, result_end, body_end, function_end, top_end}
 
 -- the tokens of a derivation that begins with this number, in front of these
@@ -19,9 +19,7 @@ Reaches at end tokens = (r : List Class) → at + length (tokens r) ≡ end + le
 
 base_reaches : (at : ℕ) (b : Base) → Reaches at (base_end at b) (base_tokens b)
 base_reaches at CharBase r = omega arith
-base_reaches at IntBase r = omega arith
-base_reaches at LongBase r = omega arith
-base_reaches at LongIntBase r = omega arith
+base_reaches at _ r = omega arith
 
 type_reaches : (at : ℕ) (n : NumberType) → Reaches at (type_end at n) (type_tokens n)
 type_reaches at (OfBase b) r = base_reaches at b r

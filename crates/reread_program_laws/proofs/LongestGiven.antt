@@ -3,7 +3,7 @@ use Rattle.std.proofs.Common.{◌≡◌, ◌≤◌, ℕ, Bool, true, false, cond
 use Rattle.std.proofs.lemmas.List.{append-nil}
 use Rattle.c_tree.specs.declared.tree.Slot.{Slot}
 use Rattle.c_tree.specs.declared.tree.Function as tree
-use Rattle.c_grammar.specs.Items.{Declarator, Label, Named, Case, Default, Start, NoStart, StartValue, StartNames, Item, Declares, States, Plain, From, Statement, Null, Evaluate, If, IfElse, While, DoWhile, For, Switch, Block, Goto, Break, Continue, Return, Unread, Body, Braces, Lone, Items, NoItem, Then}
+use Rattle.c_grammar.specs.Items.{Declarator, Label, Named, Case, Default, Start, NoStart, StartValue, StartNames, Item, Declares, States, Plain, From, Statement, If, IfElse, While, DoWhile, For, Switch, Block, Body, Braces, Lone, Items, NoItem, Then}
 use Rattle.c_grammar.specs.Tops.{Function}
 use Rattle.c_kinds.specs.Scopes.{Names, Scope, found, with_entry}
 use Rattle.c_statements.specs.declared.anchors.Anchor.{Anchor}
@@ -106,13 +106,7 @@ module _ (ctx : Context) where
         (body_longest ctx.word b) (starts start (enter w) (body_labels b rest)) (body_bound b v rest)
     statement_bound (Switch t b) w rest = body_bound b w rest
     statement_bound (Block b) w rest = body_bound b w rest
-    statement_bound Null w rest = none w.slots rest
-    statement_bound (Evaluate t) w rest = none w.slots rest
-    statement_bound (Goto at) w rest = none w.slots rest
-    statement_bound Break w rest = none w.slots rest
-    statement_bound Continue w rest = none w.slots rest
-    statement_bound (Return t) w rest = none w.slots rest
-    statement_bound Unread w rest = none w.slots rest
+    statement_bound _ w rest = none w.slots rest
 
     body_bound : (b : Body) (w : Walk) (rest : List ℕ) → Bound w.slots (behind_body ctx b w).slots (body_labels b rest) rest (body_longest ctx.word b)
     body_bound (Braces first after xs) w rest = list_bound xs (enter w) rest

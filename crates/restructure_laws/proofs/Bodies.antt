@@ -2,7 +2,7 @@
 use Rattle.std.proofs.Common.{◌≡◌, Bool, true, false, cond, true≢false, List, refl, sym, ap, ◌∙◌}
 use Rattle.c_tree.specs.declared.tree.Function.{Function}
 use Rattle.c_tree.specs.ExpressionTrees.{ExpressionTree}
-use Rattle.c_tree.specs.Trees.{Tree, Forest, Nil, Then, Sections, NoSection, Section, Evaluate, Return, If, While, Do, For, Switch, Block, Local, Break, Continue, Goto, Mark, Arm, Leap, Land, Arrival, Note}
+use Rattle.c_tree.specs.Trees.{Tree, Forest, Nil, Then, Sections, NoSection, Section, If, While, Do, For, Switch, Block, Break, Goto, Mark, Arrival}
 use Rattle.c_tree.specs.Everywhere.{Everywhere, EverywhereOf, EverywhereIn}
 use Rattle.c_tree.proofs.WellMoved.{everywhere_map, everywhere_both}
 use Rattle.c_resolved_defs.specs.Form.{ends_with_break, IsKept, AreSections, HasSourceForm}
@@ -70,19 +70,7 @@ plain_of f (Mark l) h = absurd h.0
 plain_of f (Arrival e) h = absurd h.0
 plain_of f (For first t u a) h = tt
 plain_of f (Switch s c) h = h.1.1
-plain_of f (If t a b) h = h.1
-plain_of f (While t a) h = h.1
-plain_of f (Do a t) h = h.1
-plain_of f (Block a) h = h.1
-plain_of f (Evaluate e) h = h.1
-plain_of f (Return e) h = h.1
-plain_of f (Local x es) h = h.1
-plain_of f Break h = h.1
-plain_of f Continue h = h.1
-plain_of f (Arm l e) h = h.1
-plain_of f (Leap l) h = h.1
-plain_of f (Land l) h = h.1
-plain_of f (Note bs) h = h.1
+plain_of f _ h = h.1
 
 pub plain_items : (f : Function) (a : Forest) → Everywhere IsStructured a → Everywhere (HasSourceForm f) a → Everywhere IsPlainItem a
 plain_items f a h k = everywhere_map (λ x. IsStructured x × HasSourceForm f x) IsPlainItem (plain_of f) a (everywhere_both IsStructured (HasSourceForm f) a h k)

@@ -6,8 +6,8 @@ use Rattle.c_tree.specs.declared.tree.Branch.{Branch}
 use Rattle.c_tree.specs.declared.tree.Branch.TheVariants as B
 use Rattle.c_tree.specs.Everywhere.{Everywhere, EverywhereOf, EverywhereIn}
 use Rattle.c_tree.specs.Labels.{TestLabels, SelectorLabels, ItemLabels}
-use Rattle.c_tree.specs.TestTrees.{TestTree, Source, On, Off, AndOff, OrOn, SelectorTree, Selects, Pick}
-use Rattle.c_tree.specs.Trees.{Tree, Forest, Nil, Then, Sections, NoSection, Section, Evaluate, Return, If, While, Do, For, Switch, Block, Local, Break, Continue, Goto, Mark, Arm, Leap, Land, Arrival, Note}
+use Rattle.c_tree.specs.TestTrees.{TestTree, Off, AndOff, OrOn, SelectorTree, Selects, Pick}
+use Rattle.c_tree.specs.Trees.{Tree, Forest, Nil, Then, Sections, NoSection, Section, If, While, Do, For, Switch, Block, Arm, Land}
 use Rattle.report_moves.specs.declared.moves.MoveKind.{MoveKind}
 use Rattle.report_moves.specs.declared.moves.MoveKind.TheVariants.{Z1, Z2, Z3, Z4, Z5}
 use Rattle.report_moves.specs.Report.{names_label}
@@ -43,9 +43,7 @@ module _ (P : ℕ → Type 0) where
       (of_inside (repeat (ands ++ l ∷ []) ors t) (of_repeat (ands ++ l ∷ []) ors t h.1))
   of_repeat ands ors (OrOn l t) h = of_either (has l ors) l (inside (repeat ands (ors ++ l ∷ []) t)) h.0
       (of_inside (repeat ands (ors ++ l ∷ []) t) (of_repeat ands (ors ++ l ∷ []) t h.1))
-  of_repeat ands ors (Source e) h = tt
-  of_repeat ands ors (On l) h = tt
-  of_repeat ands ors (Off l) h = tt
+  of_repeat ands ors _ h = tt
 
   of_pick : (picks : List ℕ) (s : SelectorTree) → SelectorLabels P s → OfRepeat (repeat_pick picks s)
   of_pick picks (Selects e) h = tt
@@ -57,20 +55,7 @@ module _ (P : ℕ → Type 0) where
   of_item (While t a) h = of_repeat [] [] t h
   of_item (Do a t) h = of_repeat [] [] t h
   of_item (Switch s c) h = of_pick [] s h
-  of_item (For first t u a) h = tt
-  of_item (Block a) h = tt
-  of_item (Evaluate e) h = tt
-  of_item (Return e) h = tt
-  of_item (Local x e) h = tt
-  of_item Break h = tt
-  of_item Continue h = tt
-  of_item (Goto l) h = tt
-  of_item (Mark l) h = tt
-  of_item (Arm l e) h = tt
-  of_item (Leap l) h = tt
-  of_item (Land l) h = tt
-  of_item (Arrival e) h = tt
-  of_item (Note bs) h = tt
+  of_item _ h = tt
 
   abbrev LabelOf : Option ℕ → Type 0
   LabelOf o = IfSome o P
@@ -111,18 +96,7 @@ module _ (P : ℕ → Type 0) where
   self (For first t u a) h = h.0
   self (Switch s c) h = h.0
   self (Block a) h = h.0
-  self (Evaluate e) h = h
-  self (Return e) h = h
-  self (Local x e) h = h
-  self Break h = h
-  self Continue h = h
-  self (Goto l) h = h
-  self (Mark l) h = h
-  self (Arm l e) h = h
-  self (Leap l) h = h
-  self (Land l) h = h
-  self (Arrival e) h = h
-  self (Note bs) h = h
+  self _ h = h
 
   abbrev AllLabelled : List Choice → Type 0
   AllLabelled cs = AllByRecursion IsLabelled cs
@@ -165,18 +139,7 @@ module _ (P : ℕ → Type 0) where
     item_labelled bar i (For first t u a) h = under_labelled i B.Body (choices_from bar 0 a) (list_labelled bar 0 a h.2)
     item_labelled bar i (Switch s c) h = sections_labelled bar i 0 c h.1
     item_labelled bar i (Block a) h = under_labelled i B.Body (choices_from bar 0 a) (list_labelled bar 0 a h.1)
-    item_labelled bar i (Evaluate e) h = tt
-    item_labelled bar i (Return e) h = tt
-    item_labelled bar i (Local x e) h = tt
-    item_labelled bar i Break h = tt
-    item_labelled bar i Continue h = tt
-    item_labelled bar i (Goto l) h = tt
-    item_labelled bar i (Mark l) h = tt
-    item_labelled bar i (Arm l e) h = tt
-    item_labelled bar i (Leap l) h = tt
-    item_labelled bar i (Land l) h = tt
-    item_labelled bar i (Arrival e) h = tt
-    item_labelled bar i (Note bs) h = tt
+    item_labelled bar i _ h = tt
 
     sections_labelled : (bar : ℕ → Bool) (i k : ℕ) (c : Sections) → EverywhereIn (ItemLabels P) c → AllLabelled (choices_of_sections bar i k c)
     sections_labelled bar i k NoSection h = tt

@@ -68,10 +68,7 @@ left_guards n ns f g w = no_guards n g (plain_function ns g) (ap (λ (j : Functi
 module _ (counts : FlatCounts) (tops : List Top) (names : Function → List (List ℕ)) where
   other_guards : (t u : Top) → IsNoFunction t → HasFewGuards t t u
   other_guards (T.Function f) u n = absurd n
-  other_guards (T.Include bytes) u n = tt
-  other_guards (T.Enum xs) u n = tt
-  other_guards (T.Global g) u n = tt
-  other_guards (T.Note bytes) u n = tt
+  other_guards _ u n = tt
 
   few_in_top : {t u v : Top} {ms : List Move} → Placed counts tops t u v ms → IsTopNamed names v → HasFewGuards t v (plain_top names v)
   few_in_top (is_moved {f = f} {g = g} {k = k} {ms = ms} n jumps w m) named = moved_guards (names k) f g k ms n.resolved.form jumps w m named

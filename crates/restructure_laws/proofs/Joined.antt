@@ -8,7 +8,7 @@ use Rattle.c_tree.specs.declared.tree.Path.{Path}
 use Rattle.c_tree.specs.declared.tree.Top.{Top}
 use Rattle.c_tree.specs.declared.tree.Top.TheVariants as T
 use Rattle.c_tree.specs.InRange.{body_of}
-use Rattle.c_tree.specs.Trees.{Tree, Forest, Nil, Then, Sections, NoSection, Section, Evaluate, Return, If, While, Do, For, Switch, Block, Local, Break, Continue, Goto, Mark, Arm, Leap, Land, Arrival, Note, trees_of}
+use Rattle.c_tree.specs.Trees.{Tree, Forest, Nil, Then, Sections, NoSection, Section, If, While, Do, For, Switch, Block, Leap, trees_of}
 use Rattle.c_tree.specs.Everywhere.{total_of, total_in, Everywhere, EverywhereOf, EverywhereIn}
 use Rattle.move_laws.proofs.Kept.{simplified_kept}
 use Rattle.move_laws.proofs.DroppedItems.{becomes}
@@ -30,7 +30,7 @@ use Rattle.guard_simplify.proofs.Members.{located}
 use Rattle.guard_simplify.proofs.Applied.{IsSimplified, chosen_simplified}
 use Rattle.whole_laws.proofs.Flattened.{body_is}
 use Rattle.restructure_laws.specs.Lawful as L
-use Rattle.restructure_laws.specs.Lawful.{IsLeapMoved, IsSimplifiedBy, IsMovedBy, OneMoved, Moves, none, more}
+use Rattle.restructure_laws.specs.Lawful.{IsMovedBy, OneMoved, Moves, none, more}
 use Rattle.restructure_laws.specs.Replayed.{top_leaps}
 use Rattle.restructure_laws.proofs.ReplayedBodies.{IsChanged}
 use Rattle.whole_laws.proofs.Ended.{no_leap, leapless_stable, leapless_become}
@@ -50,17 +50,7 @@ mutual
   none_counted_of (Switch s c) h = let i = none_counted_in c h.1 in omega (arith, i)
   none_counted_of (Block a) h = let i = none_counted a h.1 in omega (arith, i)
   none_counted_of (Leap l) h = absurd h
-  none_counted_of (Evaluate e) h = refl
-  none_counted_of (Return e) h = refl
-  none_counted_of (Local x e) h = refl
-  none_counted_of Break h = refl
-  none_counted_of Continue h = refl
-  none_counted_of (Goto l) h = refl
-  none_counted_of (Mark l) h = refl
-  none_counted_of (Arm l e) h = refl
-  none_counted_of (Land l) h = refl
-  none_counted_of (Arrival e) h = refl
-  none_counted_of (Note bs) h = refl
+  none_counted_of _ h = refl
 
   none_counted_in : (c : Sections) → EverywhereIn IsNoLeap c → total_in leap_of c ≡ 0
   none_counted_in NoSection h = refl

@@ -8,7 +8,7 @@ use Rattle.c_tree.specs.Cases.{case_number}
 use Rattle.c_tree.specs.TestTrees.{Source, SelectorTree}
 use Rattle.c_tree.specs.Exits.{breaks, continues}
 use Rattle.c_tree.specs.Everywhere.{total, total_of, total_in, Everywhere, EverywhereOf, EverywhereIn}
-use Rattle.c_tree.specs.Trees.{Tree, Forest, Nil, Then, Sections, NoSection, Section, Evaluate, Return, If, While, Do, For, Switch, Block, Local, Break, Continue, Goto, Mark, Arm, Leap, Land, Arrival, Note, join}
+use Rattle.c_tree.specs.Trees.{Tree, Forest, Nil, Then, Sections, NoSection, Section, Evaluate, If, While, Do, For, Switch, Block, Local, Break, Continue, Goto, Mark, Arrival, join}
 use Rattle.c_tree.specs.Changed.{one}
 use Rattle.c_tree.proofs.KeptLemmas.{everywhere_join}
 use Rattle.jump_meaning.specs.Code.{entry_or}
@@ -16,7 +16,7 @@ use Rattle.jump_meaning.specs.World.{no_slot}
 use Rattle.jump_meaning.specs.Step.{switch_kind}
 use Rattle.flat_laws.specs.Pieces.{Aim, Stays, Becomes, Absent, mark_of, third_items, assigned_cells, Names, is_number, test_for, tests_for, tests, tests_in, tests_among, case_marks}
 use Rattle.flat_laws.specs.Loose.{Arrivals, NoArrival, Arrives}
-use Rattle.flat_laws.specs.Parts.{arrivals, arrivals_in, leaves, kept_breaks, is_scattered, section_labels, switch_labels, cases_among, cases_of, holds_jump, Here, past, past_item, inside, Ending, Gone, Breaks, Jumps, Otherwise, ending, is_gone}
+use Rattle.flat_laws.specs.Parts.{arrivals, arrivals_in, leaves, kept_breaks, is_scattered, section_labels, switch_labels, cases_among, cases_of, holds_jump, Here, past, past_item, inside, Ending, Breaks, ending, is_gone}
 use Rattle.flat_laws.specs.FlatForm.{Plan, names_of, place_of, same_number, scatter_aim, otherwise_label, aim, exit, end_goto, is_jumpy_switch, assigned, mark_if, arrival, dissolved, if_breaks, flat_for, flat, flat_item, flat_last, flat_last_item, flat_sections, spread, marks, marks_in, marks_among}
 use Rattle.flat_laws.specs.Source.{nones, AreDifferent, IfTrue, HasOwnCases}
 use Rattle.c_resolved_defs.specs.Within.{Each}
@@ -121,9 +121,7 @@ module _ (P : ℕ → Type 0) (p : Plan) (N : ℕ) (breaks_have : (k : ℕ) → 
 
   if_breaks_has : (e : Ending) (x y : Forest) → AreH x → AreH y → AreH (if_breaks e x y)
   if_breaks_has Breaks x y h k = h
-  if_breaks_has Gone x y h k = k
-  if_breaks_has Jumps x y h k = k
-  if_breaks_has Otherwise x y h k = k
+  if_breaks_has _ x y h k = k
 
   arrival_has : (r : Arrivals) (e : Option ExpressionTree) → Arrive r (e ∷ []) → AreH (arrival r e)
   arrival_has NoArrival e h = (tt, tt)
@@ -306,11 +304,7 @@ module _ (P : ℕ → Type 0) (p : Plan) (N : ℕ) (breaks_have : (k : ℕ) → 
               (aims J (kept_breaks p.live d) (p.break_label h.construct) (breaks_have h.construct)),
         )
     item_has h b c r (Evaluate e) g o n = (tt, tt)
-    item_has h b c r (Return e) g o n = (tt, tt)
-    item_has h b c r (Note bs) g o n = (tt, tt)
-    item_has h b c r (Arm l e) g o n = (tt, tt)
-    item_has h b c r (Leap l) g o n = (tt, tt)
-    item_has h b c r (Land l) g o n = (tt, tt)
+    item_has h b c r _ g o n = (tt, tt)
 
     last_has : (h : Here) (b c : Aim) (r : Arrivals) (a : Forest) → Arrive r (arrivals a) → Everywhere F a → h.case + total cases_of a ≤ N →
         AreH (flat_last p h b c r a)
@@ -325,23 +319,7 @@ module _ (P : ℕ → Type 0) (p : Plan) (N : ℕ) (breaks_have : (k : ℕ) → 
     last_item_has : (h : Here) (b c : Aim) (r : Arrivals) (x : Tree) → Arrive r (arrivals_in x) → EverywhereOf F x →
         h.case + total_of cases_of x ≤ N → AreH (flat_last_item p h b c r x)
     last_item_has h b c r (Block a) g o n = last_has h b c r a g o.1 (omega (arith, n))
-    last_item_has h b c r (If t x y) g o n = tt
-    last_item_has h b c r (While t a) g o n = tt
-    last_item_has h b c r (Do a t) g o n = tt
-    last_item_has h b c r (For first t u a) g o n = tt
-    last_item_has h b c r (Switch s d) g o n = tt
-    last_item_has h b c r (Local x y) g o n = tt
-    last_item_has h b c r Break g o n = tt
-    last_item_has h b c r Continue g o n = tt
-    last_item_has h b c r (Goto l) g o n = tt
-    last_item_has h b c r (Mark l) g o n = tt
-    last_item_has h b c r (Arrival x) g o n = tt
-    last_item_has h b c r (Evaluate x) g o n = tt
-    last_item_has h b c r (Return x) g o n = tt
-    last_item_has h b c r (Note bs) g o n = tt
-    last_item_has h b c r (Arm l x) g o n = tt
-    last_item_has h b c r (Leap l) g o n = tt
-    last_item_has h b c r (Land l) g o n = tt
+    last_item_has h b c r _ g o n = tt
 
     sections_have : (h : Here) (j : Bool) (b c : Aim) (d : Sections) → EverywhereIn F d → h.case + total_in cases_of d ≤ N →
         EverywhereIn H (flat_sections p h j b c d)

@@ -8,7 +8,7 @@ use Rattle.c_tree.specs.Exits.{breaks, continues}
 use Rattle.c_tree.specs.ExpressionTrees.{ExpressionTree}
 use Rattle.c_tree.specs.Numerals.{constant}
 use Rattle.c_tree.specs.TestTrees.{Source}
-use Rattle.c_tree.specs.Trees.{Tree, Forest, Nil, Then, Sections, NoSection, Section, Evaluate, Return, If, While, Do, For, Switch, Block, Local, Break, Continue, Goto, Mark, Arm, Leap, Land, Arrival, Note, join}
+use Rattle.c_tree.specs.Trees.{Tree, Forest, Nil, Then, Sections, NoSection, Section, If, While, Do, For, Switch, Block, Local, Break, Continue, Goto, Mark, Arrival, join}
 use Rattle.c_tree.specs.Changed.{one}
 use Rattle.c_tree.specs.Everywhere.{total, total_of, total_in}
 use Rattle.c_tree.proofs.KeptLemmas.{total-join}
@@ -18,7 +18,7 @@ use Rattle.jump_meaning.specs.World.{no_slot}
 use Rattle.jump_meaning.specs.Step.{switch_kind}
 use Rattle.flat_laws.specs.Pieces.{Aim, Stays, Becomes, Absent, mark_of, third_items, assigned_cells, Names, is_number, test_for, tests_for, tests, tests_in, tests_among, case_marks}
 use Rattle.flat_laws.specs.Loose.{Arrivals, NoArrival, Arrives}
-use Rattle.flat_laws.specs.Parts.{arrivals, arrivals_in, is_scattered, section_labels, switch_labels, holds_jump, kept_breaks, Here, past, past_item, inside, Ending, Gone, Breaks, Jumps, Otherwise, ending, is_gone}
+use Rattle.flat_laws.specs.Parts.{arrivals, arrivals_in, is_scattered, section_labels, switch_labels, holds_jump, kept_breaks, Here, past, past_item, inside, Ending, Breaks, ending, is_gone}
 use Rattle.flat_laws.specs.FlatForm.{Plan, names_of, scatter_aim, otherwise_label, end_goto, aim, exit, is_jumpy_switch, assigned, mark_if, arrival, dissolved, if_breaks, flat_for, flat, flat_item, flat_last, flat_last_item, flat_sections, spread, coded, first_here}
 use Rattle.flat_laws.specs.FlatWellMadeLaws.{label_count}
 use Rattle.flat_laws.proofs.SameCounts.{weight, marks_counted}
@@ -188,9 +188,7 @@ choose false x y n h g = g
 
 by_ending : (e : Ending) (x y : Forest) (n : ℕ) → marks_in_all x ≤ n → marks_in_all y ≤ n → marks_in_all (if_breaks e x y) ≤ n
 by_ending Breaks x y n h g = h
-by_ending Gone x y n h g = g
-by_ending Jumps x y n h g = g
-by_ending Otherwise x y n h g = g
+by_ending _ x y n h g = g
 
 for_few : (j : Bool) (t u : Option ExpressionTree) (a : Forest) (b c : Aim) (n : ℕ) → marks_in_all a ≤ n → marks_in_all (flat_for j t u a b c) ≤ n + 2
 for_few true t u a b c n h =
@@ -280,12 +278,7 @@ module _ (p : Plan) where
     few_of h b c r Break = let i = no_exit b Break refl in omega (arith, i)
     few_of h b c r Continue = let i = no_exit c Continue refl in omega (arith, i)
     few_of h b c r (Goto l) = omega arith
-    few_of h b c r (Evaluate x) = omega arith
-    few_of h b c r (Return x) = omega arith
-    few_of h b c r (Arm l x) = omega arith
-    few_of h b c r (Leap l) = omega arith
-    few_of h b c r (Land l) = omega arith
-    few_of h b c r (Note bs) = omega arith
+    few_of h b c r _ = omega arith
 
     last_few : (h : Here) (b c : Aim) (r : Arrivals) (a : Forest) → marks_in_all (flat_last p h b c r a) ≤ most a + arrived r (arrivals a)
     last_few h b c r Nil = omega arith

@@ -83,10 +83,7 @@ named_function g h = by g.flat refl where
 
 named_other : (t : Top) → IsNoFunction t → IsFunctionNamed t
 named_other (T.Function f) n = absurd n
-named_other (T.Include b) n = tt
-named_other (T.Enum es) n = tt
-named_other (T.Global g) n = tt
-named_other (T.Note b) n = tt
+named_other _ n = tt
 
 named_top : {t u : Top} → FlatTop t u → TopIsSpelled t → IsFunctionNamed (converted_top u)
 named_top (ft_flat {f = f} {g = g} jumps w) s = named_function g (subst IsName w.name s.named)
@@ -100,10 +97,7 @@ named_functions (ft_more w r) s = (named_top w s.0, named_functions r s.1)
 
 named_both : (p : Program) (t : Top) → IsFunctionNamed t → TopHasNames p t → IsTopNamedInText t
 named_both p (T.Function f) n h = λ flat. (n flat, (h flat).labels)
-named_both p (T.Include b) n h = tt
-named_both p (T.Enum es) n h = tt
-named_both p (T.Global g) n h = tt
-named_both p (T.Note b) n h = tt
+named_both p _ n h = tt
 
 all_both : (p : Program) (ts : List Top) → AllByRecursion IsFunctionNamed ts → Each (TopHasNames p) ts → AllByRecursion IsTopNamedInText ts
 all_both p [] n h = tt

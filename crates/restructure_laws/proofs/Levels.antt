@@ -62,10 +62,7 @@ moved_within f g k ms s w m = record {
 
 other_unflat : (t : Top) → IsNoFunction t → IsTopUnflat t
 other_unflat (T.Function f) n = absurd n
-other_unflat (T.Include bytes) n = tt
-other_unflat (T.Enum xs) n = tt
-other_unflat (T.Global g) n = tt
-other_unflat (T.Note bytes) n = tt
+other_unflat _ n = tt
 
 module _ (counts : FlatCounts) (tops : List Top) where
   top_within : {t u v : Top} {ms : List Move} → Placed counts tops t u v ms → TopMovedWithin u v ms

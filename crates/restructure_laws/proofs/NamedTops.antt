@@ -38,10 +38,7 @@ module _ (p : Program) where
 
   pub other_has : (t : Top) → IsNoFunction t → TopHasNames p t
   other_has (T.Function f) n = absurd n
-  other_has (T.Include bytes) n = tt
-  other_has (T.Enum es) n = tt
-  other_has (T.Global g) n = tt
-  other_has (T.Note bytes) n = tt
+  other_has _ n = tt
 
   module _ (few : length (names p) ≤ most_held) where
     top_has : {t u v : Top} {ms : List Move} → FlattenedTop (names p) (file_names p) t u → MovedTop u v ms → IsResolvedTop flat_counts p.tops t →

@@ -65,7 +65,4 @@ plain_left ns f g w = ap (plain_body ns g) w.new_body ∙ ap (λ b. cond b (with
 
 pub other_plain : (names : Function → List (List ℕ)) (t : Top) → IsNoFunction t → plain_top names t ≡ t
 other_plain names (T.Function f) n = absurd n
-other_plain names (T.Include bytes) n = refl
-other_plain names (T.Enum xs) n = refl
-other_plain names (T.Global g) n = refl
-other_plain names (T.Note bytes) n = refl
+other_plain names _ n = refl

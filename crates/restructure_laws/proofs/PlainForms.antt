@@ -39,10 +39,7 @@ unflat_converted g e = ap (λ b. T.Function (cond b (converted g) g)) e
 
 pub other_converted : (t : Top) → IsNoFunction t → converted_top t ≡ t
 other_converted (T.Function f) n = absurd n
-other_converted (T.Include b) n = refl
-other_converted (T.Enum es) n = refl
-other_converted (T.Global g) n = refl
-other_converted (T.Note b) n = refl
+other_converted _ n = refl
 
 -- ---- one function
 

@@ -40,7 +40,7 @@ use Rattle.whole_laws.proofs.Flattened.{body_is}
 use Rattle.whole_laws.proofs.Free.{IsFree, free_body}
 use Rattle.whole_laws.proofs.Ended.{no_leap, IsEndedFunction, IsEnded, IsPlainTop, plain_top, free_item, flat_free, unflat_free}
 use Rattle.restructure_laws.specs.Lawful as L
-use Rattle.restructure_laws.specs.Lawful.{IsMovedBy, OneMoved, Moves, none, more}
+use Rattle.restructure_laws.specs.Lawful.{OneMoved, Moves, none, more}
 use Rattle.restructure_laws.specs.Replayed.{converted_top, converted_tops, IsTopWellMade, IsTopLeapless, top_leaps, IsReplayed}
 use Rattle.restructure_laws.proofs.Joined.{joins}
 use Rattle.restructure_laws.proofs.Tops.{AreWellMade, all_made, moves_chain, chain_both, conversions}
@@ -86,10 +86,7 @@ plain_by f h false e = h
 
 plain_one : (t : Top) → IsPlainTop t → IsPlainTop (converted_top t)
 plain_one (T.Function f) h = plain_by f h f.flat refl
-plain_one (T.Include b) h = tt
-plain_one (T.Enum es) h = tt
-plain_one (T.Global g) h = tt
-plain_one (T.Note b) h = tt
+plain_one _ h = tt
 
 plain_converted : (ts : List Top) → ArePlain ts → ArePlain (converted_tops ts)
 plain_converted [] h = tt
@@ -120,10 +117,7 @@ ended_by f false e w n p = record { made = w; leapless = λ k. absurd (true≢fa
 
 ended_top : (t : Top) → IsTopWellMade t → IsTopLeapless t → IsPlainTop t → IsEnded t
 ended_top (T.Function f) w n p = ended_by f f.flat refl w n p
-ended_top (T.Include b) w n p = tt
-ended_top (T.Enum es) w n p = tt
-ended_top (T.Global g) w n p = tt
-ended_top (T.Note b) w n p = tt
+ended_top _ w n p = tt
 
 ended_tops : (ts : List Top) → AreWellMade ts → AllByRecursion IsTopLeapless ts → ArePlain ts → AllByRecursion IsEnded ts
 ended_tops [] w n p = tt
@@ -198,10 +192,7 @@ leapless_by f false e n = refl
 
 leapless_top : (t : Top) → IsTopLeapless t → top_leaps t ≡ 0
 leapless_top (T.Function f) n = leapless_by f f.flat refl n
-leapless_top (T.Include b) n = refl
-leapless_top (T.Enum es) n = refl
-leapless_top (T.Global g) n = refl
-leapless_top (T.Note b) n = refl
+leapless_top _ n = refl
 
 leapless_tops : (ts : List Top) → AllByRecursion IsTopLeapless ts → sum_by top_leaps ts ≡ 0
 leapless_tops [] n = refl
@@ -226,10 +217,7 @@ jumps_by f false e = ap (λ b. cond b (leaps (body_of f)) 0) e
 
 jumps_top : (t : Top) → top_leaps (converted_top t) ≡ jumps_of t
 jumps_top (T.Function f) = jumps_by f f.flat refl
-jumps_top (T.Include b) = refl
-jumps_top (T.Enum es) = refl
-jumps_top (T.Global g) = refl
-jumps_top (T.Note b) = refl
+jumps_top _ = refl
 
 jumps_tops : (ts : List Top) → sum_by top_leaps (converted_tops ts) ≡ jumps ts
 jumps_tops [] = refl

@@ -39,7 +39,7 @@ use Rattle.whole_laws.proofs.FlatPrograms.{flat_program}
 use Rattle.whole_laws.proofs.Flattened.{body_is}
 use Rattle.whole_laws.proofs.Source.{IsSourceTop, IsSource}
 use Rattle.restructure_laws.specs.Lawful as L
-use Rattle.restructure_laws.specs.Lawful.{IsMovedBy, IsOther, OneMoved, Moves, none, more}
+use Rattle.restructure_laws.specs.Lawful.{IsOther, Moves, none, more}
 use Rattle.restructure_laws.specs.Replayed.{converted_top, converted_tops, IsTopLeapless, IsReplayed}
 use Rattle.restructure_laws.proofs.FirstPlaces.{may_come}
 use Rattle.restructure_laws.proofs.Joined.{still_leapless}
@@ -190,10 +190,7 @@ apart_each f g n b s a (ft_more w r) = (apart_one f g n b s.0 a.0 w, apart_each 
 
 not_flat : (g : Function) → g.flat ≡ false → (t : Top) → ApartFrom (T.Function g) t
 not_flat g e (T.Function f) = λ i j m. true≢false (sym i ∙ e)
-not_flat g e (T.Include x) = tt
-not_flat g e (T.Enum es) = tt
-not_flat g e (T.Global x) = tt
-not_flat g e (T.Note x) = tt
+not_flat g e _ = tt
 
 none_flat : (g : Function) → g.flat ≡ false → (ts : List Top) → AllByRecursion (ApartFrom (T.Function g)) ts
 none_flat g e [] = tt
@@ -272,10 +269,7 @@ AllOther t = (n : List ℕ) → IsOther n t
 
 never : (t : Top) → IsTopUnflat t → AllOther t
 never (T.Function f) e n = λ i m. true≢false (sym i ∙ e)
-never (T.Include x) e n = tt
-never (T.Enum es) e n = tt
-never (T.Global x) e n = tt
-never (T.Note x) e n = tt
+never _ e n = tt
 
 all_others : (t : Top) → AllOther t → (ms : List Move) → AreNamed (λ n. IsOther n t) ms
 all_others t h [] = tt
@@ -283,17 +277,11 @@ all_others t h (m ∷ ms) = (h m.function, all_others t h ms)
 
 unchanged : (t : Top) → IsTopUnflat t → converted_top t ≡ t
 unchanged (T.Function f) e = ap (λ b. T.Function (cond b (converted f) f)) e
-unchanged (T.Include x) e = refl
-unchanged (T.Enum es) e = refl
-unchanged (T.Global x) e = refl
-unchanged (T.Note x) e = refl
+unchanged _ e = refl
 
 still_unflat : (t : Top) → IsTopUnflat t → IsTopLeapless t
 still_unflat (T.Function f) e = λ i. absurd (true≢false (sym i ∙ e))
-still_unflat (T.Include x) e = tt
-still_unflat (T.Enum es) e = tt
-still_unflat (T.Global x) e = tt
-still_unflat (T.Note x) e = tt
+still_unflat _ e = tt
 
 all_moves : {ts us : List Top} {ms : List Move} → AreConvertible ts → AreApart ts → MovedTops ts us ms →
     Moves (converted_tops ts) ms us × AllByRecursion IsTopLeapless us

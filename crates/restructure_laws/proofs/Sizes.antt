@@ -41,10 +41,7 @@ declared_free f e = ap (λ o. has_jumps (option_map_or trees_of o Nil)) e
 
 other_within : (t : Top) → IsNoFunction t → IsWithinSizes t t
 other_within (T.Function f) n = absurd n
-other_within (T.Include bytes) n = tt
-other_within (T.Enum xs) n = tt
-other_within (T.Global g) n = tt
-other_within (T.Note bytes) n = tt
+other_within _ n = tt
 
 -- no fact besides
 abbrev Any : Function → Type 0
@@ -70,10 +67,7 @@ module _ (tops : List Top) where
 
 any_top : (names : Function → List (List ℕ)) (t : Top) → IsOwnTop Any names t
 any_top names (T.Function g) = λ flat. tt
-any_top names (T.Include bytes) = tt
-any_top names (T.Enum xs) = tt
-any_top names (T.Global g) = tt
-any_top names (T.Note bytes) = tt
+any_top names _ = tt
 
 any_tops : (names : Function → List (List ℕ)) (ts : List Top) → AllByRecursion (IsOwnTop Any names) ts
 any_tops names [] = tt

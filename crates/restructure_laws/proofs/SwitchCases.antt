@@ -4,7 +4,7 @@ use Rattle.c_types.specs.declared.kinds.IntKind.{IntKind}
 use Rattle.c_tree.specs.Cases.{selector_kind}
 use Rattle.c_tree.specs.TestTrees.{SelectorTree}
 use Rattle.c_tree.specs.Everywhere.{total, total_of, total_in, Everywhere, EverywhereOf, EverywhereIn}
-use Rattle.c_tree.specs.Trees.{Tree, Forest, Nil, Then, Sections, NoSection, Section, Evaluate, Return, If, While, Do, For, Switch, Block, Local, Break, Continue, Goto, Mark, Arm, Leap, Land, Arrival, Note}
+use Rattle.c_tree.specs.Trees.{Tree, Forest, Nil, Then, Sections, NoSection, Section, Evaluate, If, While, Do, For, Switch, Block}
 use Rattle.jump_meaning.specs.Step.{switch_kind}
 use Rattle.flat_laws.specs.Parts.{is_scattered, switch_labels, cases_among, has_default, leaves, cases_of}
 use Rattle.flat_names.specs.declared.constructs.Construct.{Construct}
@@ -47,17 +47,7 @@ mutual
       (constructs_among d) in
       let i = counted_among d in omega (arith, e, i)
   counted_in (Evaluate e) = refl
-  counted_in (Return e) = refl
-  counted_in (Local x es) = refl
-  counted_in Break = refl
-  counted_in Continue = refl
-  counted_in (Goto l) = refl
-  counted_in (Mark l) = refl
-  counted_in (Arm l e) = refl
-  counted_in (Leap l) = refl
-  counted_in (Land l) = refl
-  counted_in (Arrival e) = refl
-  counted_in (Note bs) = refl
+  counted_in _ = refl
 
   counted_among : (d : Sections) → case_count (constructs_among d) ≡ total_in cases_of d
   counted_among NoSection = refl
@@ -94,17 +84,7 @@ mutual
     few_among d h.1,
   )
   few_in (Evaluate e) h = tt
-  few_in (Return e) h = tt
-  few_in (Local x es) h = tt
-  few_in Break h = tt
-  few_in Continue h = tt
-  few_in (Goto l) h = tt
-  few_in (Mark l) h = tt
-  few_in (Arm l e) h = tt
-  few_in (Leap l) h = tt
-  few_in (Land l) h = tt
-  few_in (Arrival e) h = tt
-  few_in (Note bs) h = tt
+  few_in _ h = tt
 
   few_among : (d : Sections) → EverywhereIn HasCases d → Each HasFewCases (constructs_among d)
   few_among NoSection h = tt

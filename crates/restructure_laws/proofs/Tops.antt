@@ -15,7 +15,7 @@ use Rattle.report_moves.specs.declared.moves.Move.{Move}
 use Rattle.whole_laws.proofs.Chains.{Step, converts, changes, Chain, done, next, IsConvertible, AreConvertible}
 use Rattle.whole_laws.proofs.Flattened.{body_is}
 use Rattle.restructure_laws.specs.Lawful as L
-use Rattle.restructure_laws.specs.Lawful.{IsMovedBy, IsOther, OneMoved, Moves, none, more}
+use Rattle.restructure_laws.specs.Lawful.{IsMovedBy, OneMoved, Moves, none, more}
 use Rattle.restructure_laws.specs.Replayed.{converted_top, converted_tops, IsTopWellMade}
 use Rattle.restructure_laws.proofs.ReplayedBodies.{kept}
 use Rattle.restructure_laws.proofs.OneBody.{one_body}
@@ -102,10 +102,7 @@ convert_by f ts true e (Some a) i w = next (converts (C.this_function f a ts e i
 
 convert_top : (t : Top) (ts : List Top) → IsConvertible t → Chain (t ∷ ts) (converted_top t ∷ ts)
 convert_top (T.Function f) ts w = convert_by f ts f.flat refl f.body refl w
-convert_top (T.Include b) ts w = done
-convert_top (T.Enum es) ts w = done
-convert_top (T.Global g) ts w = done
-convert_top (T.Note b) ts w = done
+convert_top _ ts w = done
 
 pub conversions : (ts : List Top) → AreConvertible ts → Chain ts (converted_tops ts)
 conversions [] w = done

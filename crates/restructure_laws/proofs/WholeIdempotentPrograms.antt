@@ -27,10 +27,7 @@ use Rattle.restructure_laws.proofs.Functions.{plain_same, flat_same}
 module _ (names : Function → List (List ℕ)) (all : List Top) where
   top_plain : (t : Top) → IsResolvedTop flat_counts all t → plain_top names t ≡ t
   top_plain (T.Function f) r = ap T.Function (plain_same (names f) f r.form)
-  top_plain (T.Include bytes) r = refl
-  top_plain (T.Enum xs) r = refl
-  top_plain (T.Global g) r = refl
-  top_plain (T.Note bytes) r = refl
+  top_plain _ r = refl
 
   tops_plain : (ts : List Top) → Each (IsResolvedTop flat_counts all) ts → map (plain_top names) ts ≡ ts
   tops_plain [] r = refl

@@ -70,10 +70,7 @@ steps_changed (o_other t n o) = (by_top t n, steps_changed o)
   where
     by_top : (t : Top) → IsNoFunction t → IsChangedTop t t
     by_top (T.Function f) n = absurd n
-    by_top (T.Include b) n = refl
-    by_top (T.Enum xs) n = refl
-    by_top (T.Global g) n = refl
-    by_top (T.Note b) n = refl
+    by_top _ n = refl
 
 pub alike_times : (n : ℕ) (ts us : List Top) → IsLooseFile ts → AreChangedTimes n ts us → BehaveAlike (code_of (file ts)) (code_of (file us))
 alike_times zero ts us l e = subst (λ vs. BehaveAlike (code_of (file ts)) (code_of (file vs))) (sym e) (alike_self (code_of (file ts)))
@@ -128,10 +125,7 @@ found r m all (o_other t {ts = ts} {us = us} n o) l = by_top t n (found r m all 
     by_top : (t : Top) → IsNoFunction t → function_in (λ f. r (is_some f.body)) m us ≡ option_map tidy_function (function_in (λ f. r (is_some f.body)) m ts)
         → function_in (λ f. r (is_some f.body)) m (t ∷ us) ≡ option_map tidy_function (function_in (λ f. r (is_some f.body)) m (t ∷ ts))
     by_top (T.Function f) n e = absurd n
-    by_top (T.Include b) n e = e
-    by_top (T.Enum xs) n e = e
-    by_top (T.Global g) n e = e
-    by_top (T.Note b) n e = e
+    by_top _ n e = e
 
 first_mapped : (o q : Option FunctionTree) → first_of (option_map tidy_function o) (option_map tidy_function q) undeclared ≡ tidy_function
     (first_of o q undeclared)

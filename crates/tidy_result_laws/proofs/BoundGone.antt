@@ -6,7 +6,7 @@ use Rattle.c_tree.specs.declared.tree.Home.{Home}
 use Rattle.c_tree.specs.declared.tree.Home.TheVariants as H
 use Rattle.c_tree.specs.ExpressionTrees.{ExpressionTree, PlaceTree, Typed, Var, Cell, Number, Character, EnumName, Text, Array, Read, Unary, Cast, Binary, Conditional, Assign, Update, Count, Comma, Call}
 use Rattle.c_tree.specs.TextExpressions.{slot_name, home_name}
-use Rattle.c_tree.specs.Trees.{Tree, Forest, Nil, Then, Sections, NoSection, Section, Evaluate, Return, If, While, Do, For, Switch, Block, Local, Break, Continue, Goto, Mark, Arm, Leap, Land, Arrival, Note}
+use Rattle.c_tree.specs.Trees.{Tree, Forest, Nil, Then, Sections, NoSection, Section, Evaluate, Return, If, While, Do, For, Switch, Block, Local, Arm, Arrival}
 use Rattle.c_tree.specs.Everywhere.{Everywhere, EverywhereOf, EverywhereIn}
 use Rattle.c_resolved_defs.specs.Names.{home_of}
 use Rattle.c_resolved_defs.specs.Scopes.{Meaning, AConstant, AVariable, AFunction, Scope, look_up, bind, IsNew, NameIsBound, IsBound, behind, behind_all, inside, ItemIsBound, AreBound, SectionsAreBound}
@@ -131,23 +131,7 @@ module _ (g : ℕ) where
     item_behind : (x : Tree) (ss ts : List Scope) → item_lacks g x ≡ true → AreWithout ss ts →
         AreWithout (behind slots ss x) (behind fewer ts (renumbered_item g x))
     item_behind (Local x es) ss ts l h = local_behind x es (renumbered_values g es) ss ts (other_slot x es l).0 h
-    item_behind (Evaluate e) ss ts l h = h
-    item_behind (Return e) ss ts l h = h
-    item_behind (If t a b) ss ts l h = h
-    item_behind (While t a) ss ts l h = h
-    item_behind (Do a t) ss ts l h = h
-    item_behind (For f t u a) ss ts l h = h
-    item_behind (Switch s c) ss ts l h = h
-    item_behind (Block a) ss ts l h = h
-    item_behind Break ss ts l h = h
-    item_behind Continue ss ts l h = h
-    item_behind (Goto m) ss ts l h = h
-    item_behind (Mark m) ss ts l h = h
-    item_behind (Arm m e) ss ts l h = h
-    item_behind (Leap m) ss ts l h = h
-    item_behind (Land m) ss ts l h = h
-    item_behind (Arrival e) ss ts l h = h
-    item_behind (Note bs) ss ts l h = h
+    item_behind _ ss ts l h = h
 
     all_behind : (a : Forest) (ss ts : List Scope) → list_lacks g a ≡ true → AreWithout ss ts →
         AreWithout (behind_all slots ss a) (behind_all fewer ts (renumbered_list g a))
@@ -217,13 +201,7 @@ module _ (g : ℕ) where
       item_bound (Return e) ss ts l p h i = option_without g (IsBound slots ss) (IsBound fewer ts) (bound_without ss ts h) e l i
       item_bound (Arm m e) ss ts l p h i = option_without g (IsBound slots ss) (IsBound fewer ts) (bound_without ss ts h) e l i
       item_bound (Arrival e) ss ts l p h i = absurd p.0
-      item_bound Break ss ts l p h i = tt
-      item_bound Continue ss ts l p h i = tt
-      item_bound (Goto m) ss ts l p h i = tt
-      item_bound (Mark m) ss ts l p h i = tt
-      item_bound (Leap m) ss ts l p h i = tt
-      item_bound (Land m) ss ts l p h i = tt
-      item_bound (Note bs) ss ts l p h i = tt
+      item_bound _ ss ts l p h i = tt
 
       sections_bound : (c : Sections) (ss ts : List Scope) → sections_lack g c ≡ true → CaseExpressions (IsFreeOf g) c → EverywhereIn IsFit c →
           AreWithout ss ts → SectionsAreBound slots ss c → SectionsAreBound fewer ts (renumbered_sections g c)

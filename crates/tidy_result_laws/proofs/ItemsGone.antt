@@ -106,23 +106,7 @@ free_sections g (Section cases default a ends c) h =
 
 pub free_cases : (g : ℕ) (x : Tree) → HasCases x → HasFreeCases g x
 free_cases g (Switch s c) h = free_sections g c (the_some (λ k. AreLabels k (switch_labels c)) (selector_kind s) h).2.constant
-free_cases g (Evaluate e) h = tt
-free_cases g (Return e) h = tt
-free_cases g (If t a b) h = tt
-free_cases g (While t a) h = tt
-free_cases g (Do a t) h = tt
-free_cases g (For first t u a) h = tt
-free_cases g (Block a) h = tt
-free_cases g (Local x es) h = tt
-free_cases g Break h = tt
-free_cases g Continue h = tt
-free_cases g (Goto m) h = tt
-free_cases g (Mark m) h = tt
-free_cases g (Arm m e) h = tt
-free_cases g (Leap m) h = tt
-free_cases g (Land m) h = tt
-free_cases g (Arrival e) h = tt
-free_cases g (Note bs) h = tt
+free_cases g _ h = tt
 
 -- ---- the expressions of an item
 
@@ -180,14 +164,7 @@ module _ (g : ℕ) (P Q : ExpressionTree → Type 0) (f : (e : ExpressionTree) �
   expressions_without (Local x es) j l k h = values_without es (both _ (values_lack g es) l).1 h
   expressions_without (Arm m e) j l k h = option_without e l h
   expressions_without (Arrival e) j l k h = absurd j
-  expressions_without (Block a) j l k h = tt
-  expressions_without Break j l k h = tt
-  expressions_without Continue j l k h = tt
-  expressions_without (Goto m) j l k h = tt
-  expressions_without (Mark m) j l k h = tt
-  expressions_without (Leap m) j l k h = tt
-  expressions_without (Land m) j l k h = tt
-  expressions_without (Note bs) j l k h = tt
+  expressions_without _ j l k h = tt
 
 -- ---- kinds
 
@@ -205,16 +182,7 @@ module _ (g : ℕ) where
       (option_without g HasValue HasValue (λ e l. value_stays g e) t m.0 h.0, option_without g IsOperand IsOperand (λ e l. operand_stays g e) u n.0 h.1)
   uses_without (Switch s c) l h = selector_without g HasValue HasValue (λ e l. value_stays g e) s (both (selector_lacks g s) (sections_lack g c) l).0 h
   uses_without (Local x es) l h = values_without g HasValue HasValue (λ e l. value_stays g e) es (both _ (values_lack g es) l).1 h
-  uses_without (Arm m e) l h = tt
-  uses_without (Arrival e) l h = tt
-  uses_without (Block a) l h = tt
-  uses_without Break l h = tt
-  uses_without Continue l h = tt
-  uses_without (Goto m) l h = tt
-  uses_without (Mark m) l h = tt
-  uses_without (Leap m) l h = tt
-  uses_without (Land m) l h = tt
-  uses_without (Note bs) l h = tt
+  uses_without _ l h = tt
 
   pub agrees_without : (n : Names) (x : Tree) → item_lacks g x ≡ true → IsStructured x × (HasFreeCases g x × ItemAgrees n x) →
       ItemAgrees (fewer_names g n) (renumbered_item g x)
@@ -327,10 +295,7 @@ module _ (g : ℕ) where
 
   unguarded_test : (a b : Forest) (t : TestTree) → IsUnguarded (If t a b) → IsUnguarded (If (renumbered_test g t) (renumbered_list g a) (renumbered_list g b))
   unguarded_test a b (Source e) h = tt
-  unguarded_test a b (On m) h = absurd h
-  unguarded_test a b (Off m) h = absurd h
-  unguarded_test a b (AndOff m t) h = absurd h
-  unguarded_test a b (OrOn m t) h = absurd h
+  unguarded_test a b _ h = absurd h
 
   pub unguarded_without : (x : Tree) → item_lacks g x ≡ true → IsUnguarded x → IsUnguarded (renumbered_item g x)
   unguarded_without (If t a b) l h = unguarded_test a b t h

@@ -98,11 +98,7 @@ module _ (g : ℕ) (P Q : ExpressionTree → Type 0) (f : (e : ExpressionTree) �
     node_without (Count at up after) l h = place_without at l h
     node_without (Comma a b) l h = let i = both (lacks g a) (lacks g b) l in (within_without a i.0 h.0, within_without b i.1 h.1)
     node_without (Call m xs) l h = arguments_without xs l h
-    node_without (Number z) l h = tt
-    node_without (Character b) l h = tt
-    node_without (EnumName m z) l h = tt
-    node_without (Text bs) l h = tt
-    node_without (Array a) l h = tt
+    node_without _ l h = tt
 
     place_without : (at : PlaceTree) → place_lacks g at ≡ true → PlaceWithin P at → PlaceWithin Q (renumbered_place g at)
     place_without (Var h) l i = tt

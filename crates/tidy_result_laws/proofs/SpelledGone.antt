@@ -5,7 +5,7 @@ use Rattle.c_tree.specs.declared.tree.Slot.{Slot}
 use Rattle.c_tree.specs.declared.tree.Function.{Function}
 use Rattle.c_tree.specs.declared.tree.Home.{Home}
 use Rattle.c_tree.specs.ExpressionTrees.{ExpressionTree, PlaceTree, NodeTree, Arguments, Typed, Var, Cell, Number, Character, EnumName, Text, Array, Read, Unary, Cast, Binary, Conditional, Assign, Update, Count, Comma, Call, NoArgument, Argument}
-use Rattle.c_tree.specs.TestTrees.{TestTree, Source, On, Off, AndOff, OrOn, SelectorTree, Selects, Pick}
+use Rattle.c_tree.specs.TestTrees.{TestTree, Source, SelectorTree, Selects, Pick}
 use Rattle.c_tree.specs.TextExpressions.{home_name}
 use Rattle.c_tree.specs.Trees.{Tree, Forest, Nil, Then, Sections, NoSection, Section, Evaluate, Return, If, While, Do, For, Switch, Block, Local, Break, Continue, Goto, Mark, Arm, Leap, Land, Arrival, Note}
 use Rattle.c_tree.specs.Everywhere.{Everywhere, EverywhereOf, EverywhereIn}
@@ -59,11 +59,7 @@ module _ (g : ℕ) where
     node_stays (Count at up after) = (λ i. place_stays at i + 1)
     node_stays (Comma a b) = (λ i. counted_stays a i + 1 + (counted_stays b i + bracket_count (level_stays b i) 2))
     node_stays (Call m xs) = (λ i. 1 + arguments_stay xs i)
-    node_stays (Number z) = refl
-    node_stays (Character b) = refl
-    node_stays (EnumName m z) = refl
-    node_stays (Text bs) = refl
-    node_stays (Array a) = refl
+    node_stays _ = refl
 
     place_stays : (at : PlaceTree) → place_counted (renumbered_place g at) ≡ place_counted at
     place_stays (Var h) = refl
@@ -178,10 +174,7 @@ module _ (g : ℕ) (ss : List Slot) where
 
   test_prints : (t : TestTree) → test_lacks g t ≡ true → TestPrints ss t → TestPrints rest (renumbered_test g t)
   test_prints (Source e) l h = full_without 1 e l h
-  test_prints (On m) l h = absurd h
-  test_prints (Off m) l h = absurd h
-  test_prints (AndOff m t) l h = absurd h
-  test_prints (OrOn m t) l h = absurd h
+  test_prints _ l h = absurd h
 
   selector_prints : (s : SelectorTree) → selector_lacks g s ≡ true → SelectorPrints ss s → SelectorPrints rest (renumbered_selector g s)
   selector_prints (Selects e) l h = full_without 1 e l h

@@ -8,7 +8,7 @@ use Rattle.c_tree.specs.Cases.{selector_source}
 use Rattle.c_tree.specs.ExpressionTrees.{ExpressionTree, Typed, Number, Character, EnumName, Text, Array, Read, Unary, Cast, Binary, Conditional, Assign, Update, Count, Comma, Call}
 use Rattle.c_tree.specs.TestTrees.{TestTree, Source, On, Off, AndOff, OrOn}
 use Rattle.c_tree.specs.TextExpressions.{slot_name, home_name}
-use Rattle.c_tree.specs.Trees.{Tree, Forest, Nil, Then, Sections, NoSection, Section, Evaluate, Return, If, While, Do, For, Switch, Block, Local, Break, Continue, Goto, Mark, Arm, Leap, Land, Arrival, Note, join}
+use Rattle.c_tree.specs.Trees.{Tree, Forest, Nil, Then, Sections, NoSection, Section, Evaluate, Return, If, While, Do, For, Switch, Block, Local, Arm, Arrival, join}
 use Rattle.c_resolved_defs.specs.Names.{home_of}
 use Rattle.c_resolved_defs.specs.Scopes.{Meaning, AVariable, Scope, found, look_up, bind, IsNew, NameIsBound, IsBound, behind, behind_all, inside, ItemIsBound, AreBound, SectionsAreBound}
 use Rattle.c_resolved_defs.specs.Within.{Each, TestExpression}
@@ -83,23 +83,7 @@ module _ (slots : List Slot) where
 
   good_behind : (x : Tree) (ss ts : List Scope) → AreAsGood ss ts → AreAsGood (behind slots ss x) (behind slots ts x)
   good_behind (Local k es) ss ts h = good_bind (slot_name slots k) (AVariable (H.Slot k)) ss ts h
-  good_behind (Evaluate e) ss ts h = h
-  good_behind (Return e) ss ts h = h
-  good_behind (If t a b) ss ts h = h
-  good_behind (While t a) ss ts h = h
-  good_behind (Do a t) ss ts h = h
-  good_behind (For f t u a) ss ts h = h
-  good_behind (Switch s c) ss ts h = h
-  good_behind (Block a) ss ts h = h
-  good_behind Break ss ts h = h
-  good_behind Continue ss ts h = h
-  good_behind (Goto l) ss ts h = h
-  good_behind (Mark l) ss ts h = h
-  good_behind (Arm l e) ss ts h = h
-  good_behind (Leap l) ss ts h = h
-  good_behind (Land l) ss ts h = h
-  good_behind (Arrival e) ss ts h = h
-  good_behind (Note bs) ss ts h = h
+  good_behind _ ss ts h = h
 
   good_all : (a : Forest) (ss ts : List Scope) → AreAsGood ss ts → AreAsGood (behind_all slots ss a) (behind_all slots ts a)
   good_all Nil ss ts h = h
@@ -218,13 +202,7 @@ module _ (slots : List Slot) where
     item_over (Return e) z ss ts h i = some_over ss ts h e i
     item_over (Arm l e) z ss ts h i = some_over ss ts h e i
     item_over (Arrival e) z ss ts h i = some_over ss ts h e i
-    item_over Break z ss ts h i = tt
-    item_over Continue z ss ts h i = tt
-    item_over (Goto l) z ss ts h i = tt
-    item_over (Mark l) z ss ts h i = tt
-    item_over (Leap l) z ss ts h i = tt
-    item_over (Land l) z ss ts h i = tt
-    item_over (Note bs) z ss ts h i = tt
+    item_over _ z ss ts h i = tt
 
     sections_over : (c : Sections) (ss ts : List Scope) → AreAsGood ss ts → SectionsAreBound slots ss c → SectionsAreBound slots ts c
     sections_over NoSection ss ts h i = tt

@@ -4,7 +4,7 @@ use Rattle.c_tree.specs.declared.tree.Slot.{Slot}
 use Rattle.c_tree.specs.declared.tree.BinaryOp.TheVariants.{AndThen}
 use Rattle.c_tree.specs.ExpressionTrees.{Typed, Binary}
 use Rattle.c_tree.specs.TestTrees.{TestTree, Source}
-use Rattle.c_tree.specs.Trees.{Tree, Forest, Nil, Then, Sections, NoSection, Section, Evaluate, Return, If, While, Do, For, Switch, Block, Local, Break, Continue, Goto, Mark, Arm, Leap, Land, Arrival, Note}
+use Rattle.c_tree.specs.Trees.{Tree, Forest, Nil, Then, Sections, NoSection, Section, Evaluate, If, While, Do, For, Switch, Block, Local, Break, Continue}
 use Rattle.c_tree.specs.Everywhere.{Everywhere, EverywhereOf, EverywhereIn}
 use Rattle.c_resolved_defs.specs.Form.{AreAlike, IsFirstPart}
 use Rattle.c_resolved_laws.proofs.Ranged.{the_some}
@@ -180,18 +180,7 @@ module _ (ss : List Slot) (start count : ℕ) where
         (λ c k b. i_switch s k) (sections_trim d h.1 (suc n))
     items_trim (Block a) h n = each_around (OfList (suc n) a) (OfItem n (Block a)) Block (changed_lists start count (suc n) a)
         (λ c k b. i_block (k b)) (lists_trim a h.1 (suc n))
-    items_trim (Evaluate e) h n = tt
-    items_trim (Return e) h n = tt
-    items_trim (Local x es) h n = tt
-    items_trim Break h n = tt
-    items_trim Continue h n = tt
-    items_trim (Goto m) h n = tt
-    items_trim (Mark m) h n = tt
-    items_trim (Arm m e) h n = tt
-    items_trim (Leap m) h n = tt
-    items_trim (Land m) h n = tt
-    items_trim (Arrival e) h n = tt
-    items_trim (Note bs) h n = tt
+    items_trim _ h n = tt
 
     sections_trim : (s : Sections) → EverywhereIn (HasFirst ss) s → (n : ℕ) → Each (OfSections n s) (changed_sections start count n s)
     sections_trim NoSection h n = tt

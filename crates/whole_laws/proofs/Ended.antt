@@ -4,7 +4,7 @@ use Rattle.c_tree.specs.declared.tree.Item.{Item}
 use Rattle.c_tree.specs.declared.tree.Function.{Function}
 use Rattle.c_tree.specs.declared.tree.Top.{Top}
 use Rattle.c_tree.specs.declared.tree.Top.TheVariants as T
-use Rattle.c_tree.specs.Trees.{Tree, Forest, Nil, Then, Sections, NoSection, Section, Evaluate, Return, If, While, Do, For, Switch, Block, Local, Break, Continue, Goto, Mark, Arm, Leap, Land, Arrival, Note, trees_of}
+use Rattle.c_tree.specs.Trees.{Tree, Forest, Nil, Then, Sections, NoSection, Section, If, While, Do, For, Switch, Block, Goto, Mark, Leap, Arrival, trees_of}
 use Rattle.c_tree.specs.Everywhere.{total_of, total_in, Everywhere, EverywhereOf, EverywhereIn}
 use Rattle.c_tree.specs.InRange.{body_of}
 use Rattle.c_tree.specs.Jumps.{is_jump_free, is_plain, body_holds, is_plain_function, is_jump_free_function}
@@ -44,17 +44,7 @@ mutual
   no_leap_of (Switch s c) h = (tt, no_leap_in c (omega (arith, h)))
   no_leap_of (Block a) h = (tt, no_leap a (omega (arith, h)))
   no_leap_of (Leap l) h = absurd (omega (arith, h))
-  no_leap_of (Evaluate e) h = tt
-  no_leap_of (Return e) h = tt
-  no_leap_of (Local x e) h = tt
-  no_leap_of Break h = tt
-  no_leap_of Continue h = tt
-  no_leap_of (Goto l) h = tt
-  no_leap_of (Mark l) h = tt
-  no_leap_of (Arm l e) h = tt
-  no_leap_of (Land l) h = tt
-  no_leap_of (Arrival e) h = tt
-  no_leap_of (Note bs) h = tt
+  no_leap_of _ h = tt
 
   no_leap_in : (c : Sections) → total_in leap_of c ≡ 0 → EverywhereIn IsNoLeap c
   no_leap_in NoSection h = tt
@@ -94,20 +84,7 @@ free_item (Goto l) h = h.0
 free_item (Mark l) h = h.0
 free_item (Leap l) h = h.1
 free_item (Arrival e) h = h.0
-free_item (Evaluate e) h = tt
-free_item (Return e) h = tt
-free_item (If t a b) h = tt
-free_item (While t a) h = tt
-free_item (Do a t) h = tt
-free_item (For first t u a) h = tt
-free_item (Switch s c) h = tt
-free_item (Block a) h = tt
-free_item (Local x e) h = tt
-free_item Break h = tt
-free_item Continue h = tt
-free_item (Arm l e) h = tt
-free_item (Land l) h = tt
-free_item (Note bs) h = tt
+free_item _ h = tt
 
 -- ---- functions at the end
 

@@ -19,7 +19,7 @@ use Rattle.c_tree.proofs.KeptLemmas.{everywhere_join}
 use Rattle.jump_meaning.specs.Step.{switch_kind}
 use Rattle.flat_laws.specs.Pieces.{Aim, Stays, Becomes, Absent, mark_of, test_or_one, third_items, assign_number, Names, is_number, test_for, tests_for, tests, tests_in, tests_among, case_marks}
 use Rattle.flat_laws.specs.Loose.{Setting, Arrivals, NoArrival, Arrives}
-use Rattle.flat_laws.specs.Parts.{is_scattered, holds_jump, kept_breaks, variables_of, Here, past, past_item, inside, Ending, Gone, Breaks, Jumps, Otherwise, ending, is_gone}
+use Rattle.flat_laws.specs.Parts.{is_scattered, holds_jump, kept_breaks, variables_of, Here, past, past_item, inside, Ending, Breaks, ending, is_gone}
 use Rattle.flat_laws.specs.FlatForm.{Plan, names_of, scatter_aim, otherwise_label, end_goto, aim, exit, is_jumpy_switch, initialised, mark_if, arrival, dissolved, if_breaks, flat_for, flat, flat_item, flat_last, flat_last_item, flat_sections, spread}
 use Rattle.flat_laws.specs.Source.{IsVariable, IfTrue, HaveVariables, HasVariables, HaveVariablesAmong}
 use Rattle.whole_laws.proofs.Facts.{ItemHas}
@@ -65,9 +65,7 @@ module _ (V O C : ExpressionTree → Type 0) (R : Option ExpressionTree → Type
 
   if_breaks_has : (e : Ending) (x y : Forest) → AreH x → AreH y → AreH (if_breaks e x y)
   if_breaks_has Breaks x y h k = h
-  if_breaks_has Gone x y h k = k
-  if_breaks_has Jumps x y h k = k
-  if_breaks_has Otherwise x y h k = k
+  if_breaks_has _ x y h k = k
 
   arrival_has : (r : Arrivals) (e : Option ExpressionTree) → AreH (arrival r e)
   arrival_has NoArrival e = (tt, tt)
@@ -243,23 +241,7 @@ module _ (V O C : ExpressionTree → Type 0) (R : Option ExpressionTree → Type
       last_item_has : (h : Here) (b e : Aim) (r : Arrivals) (x : Tree) → EverywhereOf F x → HasVariables s h x →
           h.variable + total_of variables_of x ≤ Most → AreH (flat_last_item p h b e r x)
       last_item_has h b e r (Block a) o v n = last_has h b e r a o.1 v (omega (arith, n))
-      last_item_has h b e r (If t x y) o v n = tt
-      last_item_has h b e r (While t a) o v n = tt
-      last_item_has h b e r (Do a t) o v n = tt
-      last_item_has h b e r (For first t u a) o v n = tt
-      last_item_has h b e r (Switch t d) o v n = tt
-      last_item_has h b e r (Local x y) o v n = tt
-      last_item_has h b e r Break o v n = tt
-      last_item_has h b e r Continue o v n = tt
-      last_item_has h b e r (Goto l) o v n = tt
-      last_item_has h b e r (Mark l) o v n = tt
-      last_item_has h b e r (Arrival x) o v n = tt
-      last_item_has h b e r (Evaluate x) o v n = tt
-      last_item_has h b e r (Return x) o v n = tt
-      last_item_has h b e r (Note bs) o v n = tt
-      last_item_has h b e r (Arm l x) o v n = tt
-      last_item_has h b e r (Leap l) o v n = tt
-      last_item_has h b e r (Land l) o v n = tt
+      last_item_has h b e r _ o v n = tt
 
       sections_have : (h : Here) (j : Bool) (b e : Aim) (d : Sections) → EverywhereIn F d → HaveVariablesAmong s h d →
           h.variable + total_in variables_of d ≤ Most → EverywhereIn H (flat_sections p h j b e d)

@@ -10,7 +10,7 @@ use Rattle.c_tree.specs.Constants.{kind_of}
 use Rattle.c_tree.specs.ExpressionTrees.{ExpressionTree}
 use Rattle.c_tree.specs.Numerals.{number, constant}
 use Rattle.c_tree.specs.TestTrees.{SelectorTree}
-use Rattle.c_tree.specs.Trees.{Tree, Forest, Nil, Then, Evaluate, Return, If, While, Do, For, Switch, Block, Local, Break, Continue, Goto, Mark, Arm, Leap, Land, Arrival, Note, join, trees_of}
+use Rattle.c_tree.specs.Trees.{Tree, Forest, Nil, Then, Switch, join, trees_of}
 use Rattle.c_tree.specs.Everywhere.{total, Everywhere}
 use Rattle.c_tree.specs.InRange.{body_of}
 use Rattle.c_tree.specs.WellMade.{HasSelectorKind, HasPicks}
@@ -82,23 +82,7 @@ picks_by s (Some k) i h = h
 
 picks_fit : (x : Tree) → HasSelectorKind x × HasPicks x → PicksFit x
 picks_fit (Switch s c) h = picks_by s (kind_of (selector_source s)) h.0 h.1
-picks_fit (If t a b) h = tt
-picks_fit (While t a) h = tt
-picks_fit (Do a t) h = tt
-picks_fit (For first t u a) h = tt
-picks_fit (Block a) h = tt
-picks_fit (Evaluate e) h = tt
-picks_fit (Return e) h = tt
-picks_fit (Local x es) h = tt
-picks_fit Break h = tt
-picks_fit Continue h = tt
-picks_fit (Goto l) h = tt
-picks_fit (Mark l) h = tt
-picks_fit (Arm l e) h = tt
-picks_fit (Leap l) h = tt
-picks_fit (Land l) h = tt
-picks_fit (Arrival e) h = tt
-picks_fit (Note bs) h = tt
+picks_fit _ h = tt
 
 pub guards_known : (f h : Function) (m : IsMovedForm f h) → Everywhere (λ x. ArmLabels (Left f h m) x × PicksFit x) (trees_of m.new)
 guards_known f h m =

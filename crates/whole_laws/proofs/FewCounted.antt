@@ -12,7 +12,7 @@ use Rattle.c_tree.specs.ExpressionTrees.{ExpressionTree}
 use Rattle.c_tree.specs.Labels.{ItemLabels, TestLabels}
 use Rattle.c_tree.specs.Numerals.{number, constant}
 use Rattle.c_tree.specs.TestTrees.{TestTree, Source, On, Off, AndOff, OrOn, SelectorTree}
-use Rattle.c_tree.specs.Trees.{Tree, Forest, Nil, Then, Sections, NoSection, Section, Evaluate, Return, If, While, Do, For, Switch, Block, Local, Break, Continue, Goto, Mark, Arm, Leap, Land, Arrival, Note, join, trees_of}
+use Rattle.c_tree.specs.Trees.{Tree, Forest, Nil, Then, Sections, NoSection, Section, Evaluate, Return, If, While, Do, For, Switch, Block, Local, Break, Continue, Goto, Mark, Arm, Land, Arrival, join, trees_of}
 use Rattle.c_tree.specs.Everywhere.{Everywhere, EverywhereOf, EverywhereIn}
 use Rattle.c_tree.specs.InRange.{body_of}
 use Rattle.c_tree.proofs.WellMoved.{everywhere_map, everywhere_both}
@@ -124,14 +124,7 @@ module _ (f : Function) (n v : ℕ) (more : n + 1 ≤ v) where
     measured_of (Block a) s h = (tt, measured a s.1 h)
     measured_of (Local x es) s h = listed_within es h
     measured_of (Arm l e) s h = absurd s
-    measured_of Break s h = tt
-    measured_of Continue s h = tt
-    measured_of (Goto l) s h = tt
-    measured_of (Mark l) s h = tt
-    measured_of (Leap l) s h = tt
-    measured_of (Land l) s h = tt
-    measured_of (Arrival e) s h = tt
-    measured_of (Note bs) s h = tt
+    measured_of _ s h = tt
 
     measured_in : (c : Sections) → EverywhereIn (HasSourceForm f) c → most_counted_in c ≤ n → EverywhereIn Counted c
     measured_in NoSection s h = tt
@@ -183,14 +176,7 @@ module _ (n : ℕ) where
     few_of (Block a) h = few a h.1
     few_of (Local x es) h = within_listed es h.0
     few_of (Arrival e) h = absurd h.1
-    few_of (Arm l e) h = omega arith
-    few_of Break h = omega arith
-    few_of Continue h = omega arith
-    few_of (Goto l) h = omega arith
-    few_of (Mark l) h = omega arith
-    few_of (Leap l) h = omega arith
-    few_of (Land l) h = omega arith
-    few_of (Note bs) h = omega arith
+    few_of _ h = omega arith
 
     few_in : (c : Sections) → AllByRecursion (λ e. counted_at 3 e ≤ n) (all_cases c) → EverywhereIn Few c → most_counted_in c ≤ n
     few_in NoSection k h = omega arith
@@ -267,13 +253,7 @@ module _ (slot : ℕ → ℕ) (f : Function) (n labels most : ℕ) (some : 0 < l
   item_counted (Local x es) h = listed_more es h.0
   item_counted (Arm l e) h = let a = armed_counted e h.0 in omega (arith, a, some, all)
   item_counted (Land l) h = omega (arith, some, all)
-  item_counted (Arrival e) h = tt
-  item_counted Break h = tt
-  item_counted Continue h = tt
-  item_counted (Goto l) h = tt
-  item_counted (Mark l) h = tt
-  item_counted (Leap l) h = tt
-  item_counted (Note bs) h = tt
+  item_counted _ h = tt
 
 -- ---- a function with jumps
 
@@ -339,10 +319,7 @@ module _ (f h : Function) (m : IsMovedForm f h) (params : f.params ≤ length f.
   from_source (Goto l) g = (tt, tt)
   from_source (Mark l) g = (tt, tt)
   from_source (Arm l e) g = (from_counts (Arm l e) g, tt)
-  from_source (Leap l) g = (tt, tt)
-  from_source (Land l) g = (tt, tt)
-  from_source (Arrival e) g = (tt, tt)
-  from_source (Note bs) g = (tt, tt)
+  from_source _ g = (tt, tt)
 
   source : Everywhere Known (body_of f)
   source = everywhere_map Of Known from_source (body_of f) (measured f before (before + 1) (omega arith) (body_of f) form (omega arith))

@@ -10,7 +10,7 @@ use Rattle.c_tree.specs.declared.tree.Item.{Item}
 use Rattle.c_tree.specs.declared.tree.Top.{Top}
 use Rattle.c_tree.specs.declared.tree.Top.TheVariants as T
 use Rattle.c_tree.specs.Slots.{ItemSlots}
-use Rattle.c_tree.specs.Trees.{Tree, Nil, Evaluate, Return, If, While, Do, For, Switch, Block, Local, Break, Continue, Goto, Mark, Arm, Leap, Land, Arrival, Note, trees_of}
+use Rattle.c_tree.specs.Trees.{Tree, Nil, Local, trees_of}
 use Rattle.c_tree.specs.Everywhere.{Everywhere}
 use Rattle.c_tree.specs.InRange.{body_of}
 use Rattle.c_tree.proofs.WellMoved.{everywhere_map, everywhere_both}
@@ -113,23 +113,7 @@ bound_body f ss (Some a) e h = subst (AreBound f.slots (with_parameters f.params
 
 both_local : (p n : ℕ) (x : Tree) → Declared (λ y. p ≤ y) x × ItemSlots (λ y. y < n) x → DeclaresIn p n x
 both_local p n (Local k es) h = (h.0.0, h.1.0)
-both_local p n (Evaluate e) h = tt
-both_local p n (Return e) h = tt
-both_local p n (If t a b) h = tt
-both_local p n (While t a) h = tt
-both_local p n (Do a t) h = tt
-both_local p n (For first t u a) h = tt
-both_local p n (Switch s c) h = tt
-both_local p n (Block a) h = tt
-both_local p n Break h = tt
-both_local p n Continue h = tt
-both_local p n (Goto l) h = tt
-both_local p n (Mark l) h = tt
-both_local p n (Arm l e) h = tt
-both_local p n (Leap l) h = tt
-both_local p n (Land l) h = tt
-both_local p n (Arrival e) h = tt
-both_local p n (Note bs) h = tt
+both_local p n _ h = tt
 
 pub declares_in : (counts : FlatCounts) (ts : List Top) (f : Function) → IsResolvedFunction counts ts f →
     Everywhere (DeclaresIn f.params (length f.slots)) (body_of f)

@@ -103,15 +103,11 @@ module _ (number : IntKind → ℤ → ExpressionTree) (k : IntKind) (v : ℕ) (
 
 later_gone : (e f : Ending) → later e f ≡ Gone → (e ≡ Gone) × (f ≡ Gone)
 later_gone Gone f h = (refl, h)
-later_gone Breaks f h = cc
-later_gone Jumps f h = cc
-later_gone Otherwise f h = cc
+later_gone _ f h = cc
 
 gone_is : (e : Ending) → is_gone e ≡ true → e ≡ Gone
 gone_is Gone h = refl
-gone_is Breaks h = cc
-gone_is Jumps h = cc
-gone_is Otherwise h = cc
+gone_is _ h = cc
 
 if_not_gone : (b : Bool) (e : Ending) → cond b (if_jumps e) Otherwise ≡ Gone → ⊥
 if_not_gone true Jumps h = cc
@@ -134,26 +130,13 @@ module _ (live : ℕ → Bool) where
     none_stays_of Break h = cc
     none_stays_of (Goto l) h = cc
     none_stays_of (Switch s d) h = absurd (if_not_gone _ _ h)
-    none_stays_of (If t a b) h = cc
-    none_stays_of (While t a) h = cc
-    none_stays_of (Do a t) h = cc
-    none_stays_of (For first t u a) h = cc
-    none_stays_of (Evaluate e) h = cc
-    none_stays_of (Return e) h = cc
-    none_stays_of Continue h = cc
-    none_stays_of (Arm l e) h = cc
-    none_stays_of (Leap l) h = cc
-    none_stays_of (Land l) h = cc
-    none_stays_of (Arrival e) h = cc
-    none_stays_of (Note bs) h = cc
+    none_stays_of _ h = cc
 
 -- ---- the flat form
 
 later_by : (e f : Ending) → is_gone e ≡ true → later e f ≡ Breaks → f ≡ Breaks
 later_by Gone f g h = h
-later_by Breaks f g h = cc
-later_by Jumps f g h = cc
-later_by Otherwise f g h = cc
+later_by _ f g h = cc
 
 later_first : (e f : Ending) → is_gone e ≡ false → later e f ≡ Breaks → e ≡ Breaks
 later_first Gone f g h = cc
@@ -212,9 +195,7 @@ module _ (p : Plan) where
       (ending p.live a ≡ Breaks → notes (flat_last p h b c NoArrival a) ≡ notes a)
       → (e : Ending) → ending p.live a ≡ e → notes (if_breaks e (flat_last p h b c NoArrival a) (flat p h b c NoArrival a)) ≡ notes a
   section_by h b c a whole last Breaks i = last i
-  section_by h b c a whole last Gone i = whole
-  section_by h b c a whole last Jumps i = whole
-  section_by h b c a whole last Otherwise i = whole
+  section_by h b c a whole last _ i = whole
 
   mutual
     flat_notes : (h : Here) (b c : Aim) (r : Arrivals) (a : Forest) → notes (flat p h b c r a) ≡ notes a
@@ -264,11 +245,7 @@ module _ (p : Plan) where
         (tests_none p.number (switch_kind s) h.variable names d) ∙ spread_notes i (scatter_aim p h d) c names d)
         (made_loop (Switch s e) (notes_among d) out (sections_notes i jumpy out c d))
     flat_notes_of h b c r (Evaluate e) = refl
-    flat_notes_of h b c r (Return e) = refl
-    flat_notes_of h b c r (Arm l e) = refl
-    flat_notes_of h b c r (Leap l) = refl
-    flat_notes_of h b c r (Land l) = refl
-    flat_notes_of h b c r (Note bs) = refl
+    flat_notes_of h b c r _ = refl
 
     last_notes : (h : Here) (b c : Aim) (r : Arrivals) (a : Forest) → ending p.live a ≡ Breaks → notes (flat_last p h b c r a) ≡ notes a
     last_notes h b c r Nil e = refl

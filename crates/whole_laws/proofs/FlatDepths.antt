@@ -7,7 +7,7 @@ use Rattle.c_tree.specs.Cases.{case_number}
 use Rattle.c_tree.specs.Exits.{breaks, continues}
 use Rattle.c_tree.specs.ExpressionTrees.{ExpressionTree}
 use Rattle.c_tree.specs.TestTrees.{Source}
-use Rattle.c_tree.specs.Trees.{Tree, Forest, Nil, Then, Sections, NoSection, Section, Evaluate, Return, If, While, Do, For, Switch, Block, Local, Break, Continue, Goto, Mark, Arm, Leap, Land, Arrival, Note, join}
+use Rattle.c_tree.specs.Trees.{Tree, Forest, Nil, Then, Sections, NoSection, Section, Evaluate, Return, If, While, Do, For, Switch, Block, Local, Break, Continue, Goto, Mark, Arrival, Note, join}
 use Rattle.c_tree.specs.Changed.{one}
 use Rattle.c_tree.specs.Everywhere.{Everywhere, EverywhereOf, EverywhereIn}
 use Rattle.jump_meaning.specs.Code.{entry_or}
@@ -15,7 +15,7 @@ use Rattle.jump_meaning.specs.World.{no_slot}
 use Rattle.jump_meaning.specs.Step.{switch_kind}
 use Rattle.flat_laws.specs.Pieces.{Aim, Stays, Becomes, Absent, mark_of, third_items, assigned_cells, Names, is_number, test_for, tests_for, tests, tests_in, tests_among, case_marks}
 use Rattle.flat_laws.specs.Loose.{Arrivals, NoArrival, Arrives}
-use Rattle.flat_laws.specs.Parts.{is_scattered, holds_jump, kept_breaks, Here, past, past_item, inside, Ending, Gone, Breaks, Jumps, Otherwise, ending, is_gone}
+use Rattle.flat_laws.specs.Parts.{is_scattered, holds_jump, kept_breaks, Here, past, past_item, inside, Ending, Breaks, ending, is_gone}
 use Rattle.flat_laws.specs.FlatForm.{Plan, names_of, scatter_aim, otherwise_label, end_goto, aim, exit, is_jumpy_switch, assigned, mark_if, arrival, dissolved, if_breaks, flat_for, flat, flat_item, flat_last, flat_last_item, flat_sections, spread}
 use Rattle.flat_laws.specs.FlatMade.{AreFirst, IsPlainItem}
 use Rattle.move_order_laws.specs.Nesting.{nesting, nesting_of, nesting_in}
@@ -122,9 +122,7 @@ choose false x y n h g = g
 
 by_ending : (e : Ending) (x y : Forest) (n : ℕ) → nesting x ≤ n → nesting y ≤ n → nesting (if_breaks e x y) ≤ n
 by_ending Breaks x y n h g = h
-by_ending Gone x y n h g = g
-by_ending Jumps x y n h g = g
-by_ending Otherwise x y n h g = g
+by_ending _ x y n h g = g
 
 for_depth : (j : Bool) (t u : Option ExpressionTree) (a : Forest) (b c : Aim) → nesting (flat_for j t u a b c) ≤ 1 + nesting a
 for_depth true t u a b c =
@@ -199,9 +197,7 @@ module _ (p : Plan) where
     item_depth h b c r (Evaluate x) o = omega arith
     item_depth h b c r (Return x) o = omega arith
     item_depth h b c r (Note bs) o = omega arith
-    item_depth h b c r (Arm l x) o = absurd o
-    item_depth h b c r (Leap l) o = absurd o
-    item_depth h b c r (Land l) o = absurd o
+    item_depth h b c r _ o = absurd o
 
     last_depth : (h : Here) (b c : Aim) (r : Arrivals) (a : Forest) → Everywhere IsPlainItem a → nesting (flat_last p h b c r a) ≤ nesting a
     last_depth h b c r Nil o = omega arith

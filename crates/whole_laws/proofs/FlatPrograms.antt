@@ -8,7 +8,7 @@ use Rattle.c_tree.specs.declared.tree.Function.{Function}
 use Rattle.c_tree.specs.declared.tree.Top.{Top}
 use Rattle.c_tree.specs.declared.tree.Top.TheVariants as T
 use Rattle.c_tree.specs.declared.tree.Program.{Program}
-use Rattle.c_tree.specs.Trees.{Tree, Nil, Evaluate, Return, If, While, Do, For, Switch, Block, Local, Break, Continue, Goto, Mark, Arm, Leap, Land, Arrival, Note, trees_of}
+use Rattle.c_tree.specs.Trees.{Tree, Nil, Arm, Leap, Land, trees_of}
 use Rattle.c_tree.specs.Everywhere.{Everywhere}
 use Rattle.c_tree.specs.InRange.{body_of, IsUnguarded, IsTopInRange}
 use Rattle.c_tree.specs.WellMade.{IsWellMade}
@@ -39,21 +39,7 @@ unarmed : (x : Tree) → IsUnguarded x → IsUnarmed x
 unarmed (Arm l e) h = absurd h
 unarmed (Leap l) h = absurd h
 unarmed (Land l) h = absurd h
-unarmed (Evaluate e) h = tt
-unarmed (Return e) h = tt
-unarmed (If t a b) h = tt
-unarmed (While t a) h = tt
-unarmed (Do a t) h = tt
-unarmed (For first t u a) h = tt
-unarmed (Switch s c) h = tt
-unarmed (Block a) h = tt
-unarmed (Local x e) h = tt
-unarmed Break h = tt
-unarmed Continue h = tt
-unarmed (Goto l) h = tt
-unarmed (Mark l) h = tt
-unarmed (Arrival e) h = tt
-unarmed (Note bs) h = tt
+unarmed _ h = tt
 
 unflat_made : (f : Function) → f.flat ≡ false → Everywhere IsUnguarded (body_of f) → IsMadeWell f
 unflat_made f e h = record { converted = λ c. absurd (true≢false (sym c.flat ∙ e)); other = λ n. everywhere_map IsUnguarded IsUnarmed unarmed (body_of f) h }
@@ -74,9 +60,7 @@ no_body f e = ap (λ o. option_map_or trees_of o Nil) e
 other_top : (p : Code) (t : Top) → IsNoFunction t → IsGoodTop p t t
 other_top p (T.Function f) n = absurd n
 other_top p (T.Include b) n = record { looser = lt_same refl; ranged = tt; made = tt; convertible = tt; signature = refl; kinded = tt }
-other_top p (T.Enum es) n = record { looser = lt_same refl; ranged = tt; made = tt; convertible = tt; signature = refl; kinded = tt }
-other_top p (T.Global g) n = record { looser = lt_same refl; ranged = tt; made = tt; convertible = tt; signature = refl; kinded = tt }
-other_top p (T.Note b) n = record { looser = lt_same refl; ranged = tt; made = tt; convertible = tt; signature = refl; kinded = tt }
+other_top p _ n = record { looser = lt_same refl; ranged = tt; made = tt; convertible = tt; signature = refl; kinded = tt }
 
 some_both : (a b : Option (List Item)) (x y : List Item) → a ≡ Some x → b ≡ Some y → is_some b ≡ is_some a
 some_both a b x y e i = ap is_some i ∙ sym (ap is_some e)
@@ -160,17 +144,11 @@ module _ (p : Code) where
 
 top_unflat : (t : Top) → IsSourceTop t → IsTopUnflat t
 top_unflat (T.Function f) s = s.unflat
-top_unflat (T.Include b) s = tt
-top_unflat (T.Enum es) s = tt
-top_unflat (T.Global g) s = tt
-top_unflat (T.Note b) s = tt
+top_unflat _ s = tt
 
 top_ranged : (t : Top) → IsSourceTop t → IsTopInRange t
 top_ranged (T.Function f) s = s.ranged
-top_ranged (T.Include b) s = tt
-top_ranged (T.Enum es) s = tt
-top_ranged (T.Global g) s = tt
-top_ranged (T.Note b) s = tt
+top_ranged _ s = tt
 
 all_tops : (P Q : Top → Type 0) → ((t : Top) → P t → Q t) → (ts : List Top) → AllByRecursion P ts → AllByRecursion Q ts
 all_tops P Q k [] h = tt

@@ -10,7 +10,7 @@ use Rattle.c_tree.specs.Conversions.{jump_tree, source_tree, conditional_goto, c
 use Rattle.c_tree.specs.Exits.{breaks, continues}
 use Rattle.c_tree.specs.ExpressionTrees.{ExpressionTree}
 use Rattle.c_tree.specs.TestTrees.{TestTree, Source}
-use Rattle.c_tree.specs.Trees.{Tree, Forest, Nil, Then, Sections, NoSection, Section, Evaluate, Return, If, While, Do, For, Switch, Block, Local, Break, Continue, Goto, Mark, Arm, Leap, Land, Arrival, Note, join, trees_of}
+use Rattle.c_tree.specs.Trees.{Tree, Forest, Nil, Then, Sections, NoSection, Section, If, While, Do, For, Switch, Block, Local, Break, Continue, Goto, Mark, Arrival, join, trees_of}
 use Rattle.c_tree.specs.Changed.{one}
 use Rattle.c_tree.specs.Everywhere.{Everywhere, EverywhereOf, EverywhereIn}
 use Rattle.c_tree.proofs.KeptLemmas.{IsKept, changed_kept}
@@ -21,7 +21,7 @@ use Rattle.jump_meaning.specs.World.{no_slot}
 use Rattle.jump_meaning.specs.Step.{switch_kind}
 use Rattle.flat_laws.specs.Pieces.{Aim, Stays, Becomes as BecomesLabel, Absent, mark_of, test_or_one, third_items, assigned_cells, Names, is_number, test_for, tests_for, tests, tests_in, tests_among, case_marks}
 use Rattle.flat_laws.specs.Loose.{Arrivals, NoArrival, Arrives}
-use Rattle.flat_laws.specs.Parts.{is_scattered, holds_jump, kept_breaks, Here, past, past_item, inside, Ending, Gone, Breaks, Jumps, Otherwise, ending, is_gone}
+use Rattle.flat_laws.specs.Parts.{is_scattered, holds_jump, kept_breaks, Here, past, past_item, inside, Ending, Breaks, ending, is_gone}
 use Rattle.flat_laws.specs.FlatForm.{Plan, names_of, scatter_aim, otherwise_label, end_goto, aim, exit, is_jumpy_switch, assigned, mark_if, arrival, dissolved, if_breaks, flat_for, flat, flat_item, flat_last, flat_last_item, flat_sections, spread}
 use Rattle.c_resolved_defs.specs.Limits.{most_if, most_tested, most_counted, most_counted_of, most_counted_in}
 use Rattle.c_resolved_defs.specs.PrintableExpressions.{counted}
@@ -161,9 +161,7 @@ choose false x y n h g = g
 
 by_ending : (e : Ending) (x y : Forest) (n : ℕ) → after x ≤ n → after y ≤ n → after (if_breaks e x y) ≤ n
 by_ending Breaks x y n h g = h
-by_ending Gone x y n h g = g
-by_ending Jumps x y n h g = g
-by_ending Otherwise x y n h g = g
+by_ending _ x y n h g = g
 
 if_tested : (o : Option ℕ) (t : TestTree) (a b : Forest) → tested
     (option_map_or (λ l. jump_tree l (source_tree t)) o (one (If t (convert a) (convert b)))) ≤ max (most_tested t) (max (after a) (after b))
@@ -262,12 +260,7 @@ module _ (p : Plan) where
     item_tested h b c r Break = let i = none_break b in omega (arith, i)
     item_tested h b c r Continue = let i = none_continue c in omega (arith, i)
     item_tested h b c r (Goto l) = omega arith
-    item_tested h b c r (Evaluate x) = omega arith
-    item_tested h b c r (Return x) = omega arith
-    item_tested h b c r (Arm l x) = omega arith
-    item_tested h b c r (Leap l) = omega arith
-    item_tested h b c r (Land l) = omega arith
-    item_tested h b c r (Note bs) = omega arith
+    item_tested h b c r _ = omega arith
 
     last_tested : (h : Here) (b c : Aim) (r : Arrivals) (a : Forest) → after (flat_last p h b c r a) ≤ most_counted a
     last_tested h b c r Nil = omega arith
@@ -327,18 +320,7 @@ module _ (n : ℕ) where
     few_tests_of (For first t u a) h = (tt, few_tests first (omega (arith, h)), few_tests a (omega (arith, h)))
     few_tests_of (Switch s c) h = (omega (arith, h), few_tests_in c (omega (arith, h)))
     few_tests_of (Block a) h = (tt, few_tests a h)
-    few_tests_of (Evaluate e) h = tt
-    few_tests_of (Return e) h = tt
-    few_tests_of (Local x es) h = tt
-    few_tests_of Break h = tt
-    few_tests_of Continue h = tt
-    few_tests_of (Goto l) h = tt
-    few_tests_of (Mark l) h = tt
-    few_tests_of (Arm l e) h = tt
-    few_tests_of (Leap l) h = tt
-    few_tests_of (Land l) h = tt
-    few_tests_of (Arrival e) h = tt
-    few_tests_of (Note bs) h = tt
+    few_tests_of _ h = tt
 
     few_tests_in : (c : Sections) → tested_in c ≤ n → EverywhereIn HasFewTests c
     few_tests_in NoSection h = tt

@@ -5,8 +5,8 @@ use Rattle.c_tree.specs.declared.tree.Item.{Item}
 use Rattle.c_tree.specs.declared.tree.Slot.{Slot}
 use Rattle.c_tree.specs.declared.tree.Function.{Function}
 use Rattle.c_tree.specs.ExpressionTrees.{ExpressionTree}
-use Rattle.c_tree.specs.TestTrees.{TestTree, Source, On, Off, AndOff, OrOn, SelectorTree, Selects, Pick}
-use Rattle.c_tree.specs.Trees.{Tree, Forest, Nil, Evaluate, Return, If, While, Do, For, Switch, Block, Local, Break, Continue, Goto, Mark, Arm, Leap, Land, Arrival, Note, trees_of}
+use Rattle.c_tree.specs.TestTrees.{TestTree, Source, SelectorTree, Selects, Pick}
+use Rattle.c_tree.specs.Trees.{Tree, Forest, Nil, Evaluate, Return, If, While, Do, For, Switch, Local, Goto, Arm, Leap, Land, Arrival, trees_of}
 use Rattle.c_tree.specs.Everywhere.{total, Everywhere}
 use Rattle.c_tree.specs.InRange.{body_of, IsSourceTest, IsSourceSelector, IsInRange}
 use Rattle.c_tree.specs.Conversions.{convert}
@@ -77,10 +77,7 @@ module _ (f g : Function) (live : ℕ → Bool) (more : ExtendSlots f.slots g.sl
 
   test_in : (t : TestTree) → InTest F t → InTest G t
   test_in (Source e) h = h
-  test_in (On l) h = h
-  test_in (Off l) h = h
-  test_in (AndOff l t) h = h
-  test_in (OrOn l t) h = h
+  test_in _ h = h
 
   selector_in : (t : SelectorTree) → InSelector F t → InSelector G t
   selector_in (Selects e) h = h
@@ -104,12 +101,7 @@ module _ (f g : Function) (live : ℕ → Bool) (more : ExtendSlots f.slots g.sl
   source_item (Arm l e) h = h
   source_item (Leap l) h = h
   source_item (Land l) h = h
-  source_item (Block a) h = tt
-  source_item Break h = tt
-  source_item Continue h = tt
-  source_item (Mark l) h = tt
-  source_item (Arrival e) h = tt
-  source_item (Note bs) h = tt
+  source_item _ h = tt
 
 -- ---- the flat form is looser
 
@@ -182,10 +174,7 @@ module _ (f g : Function) (s : IsSourceFunction f) (w : IsFlatForm f g) where
 
 calm_test : (s : Setting) (t : TestTree) → InTest s t → IsSourceTest t
 calm_test s (Source e) h = tt
-calm_test s (On l) h = absurd h
-calm_test s (Off l) h = absurd h
-calm_test s (AndOff l t) h = absurd h
-calm_test s (OrOn l t) h = absurd h
+calm_test s _ h = absurd h
 
 calm_selector : (s : Setting) (t : SelectorTree) → InSelector s t → IsSourceSelector t
 calm_selector s (Selects e) h = tt

@@ -116,20 +116,7 @@ own_free (Goto l) h = absurd h
 own_free (Mark l) h = absurd h
 own_free (Leap l) h = absurd h
 own_free (Arrival e) h = absurd h
-own_free (Evaluate e) h = refl
-own_free (Return e) h = refl
-own_free (If t a b) h = refl
-own_free (While t a) h = refl
-own_free (Do a t) h = refl
-own_free (For f t u a) h = refl
-own_free (Switch s cs) h = refl
-own_free (Block a) h = refl
-own_free (Local x e) h = refl
-own_free Break h = refl
-own_free Continue h = refl
-own_free (Arm l e) h = refl
-own_free (Land l) h = refl
-own_free (Note bs) h = refl
+own_free _ h = refl
 
 pub free_body : (xs : List Item) → Everywhere IsFree (trees_of xs) → is_jump_free xs ≡ true
 free_body xs h = items_hold is_jump_free_layer IsFree own_free xs h
@@ -169,14 +156,7 @@ own_plain (If t a b) h = source_test t h
 own_plain (While t a) h = source_test t h
 own_plain (Do a t) h = source_test t h
 own_plain (Switch s cs) h = source_selector s h
-own_plain (Evaluate e) h = refl
-own_plain (Return e) h = refl
-own_plain (For f t u a) h = refl
-own_plain (Block a) h = refl
-own_plain (Local x e) h = refl
-own_plain Break h = refl
-own_plain Continue h = refl
-own_plain (Note bs) h = refl
+own_plain _ h = refl
 
 pub plain_body : (xs : List Item) → Everywhere IsPlainItem (trees_of xs) → is_plain xs ≡ true
 plain_body xs h = items_hold is_plain_layer IsPlainItem own_plain xs h

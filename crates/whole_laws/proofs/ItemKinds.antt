@@ -148,15 +148,7 @@ module _ (n : Names) (result : Option IntKind) where
       let w = h.0.1.0 in (((k.0, w.0), h.0.0.values), both_each K W (all_cases c) (cases_all K c k.1) (cases_all W c w.1))
   to_kinds f (Local x es) h = both_listed (Known n) HasValue es (both_listed K W es h.0.0.kinds h.0.1.0) h.0.0.values
   to_kinds f (Arm l e) h = absurd h.1
-  to_kinds f (Arrival e) h = tt
-  to_kinds f (Block a) h = tt
-  to_kinds f Break h = tt
-  to_kinds f Continue h = tt
-  to_kinds f (Goto l) h = tt
-  to_kinds f (Mark l) h = tt
-  to_kinds f (Leap l) h = tt
-  to_kinds f (Land l) h = tt
-  to_kinds f (Note bs) h = tt
+  to_kinds f _ h = tt
 
   of_test : (t : TestTree) → TestExpression (Value n) t → (TestExpression K t × TestExpression HasValue t) × TestExpression W t
   of_test t h = let k = firsts_test (Known n) HasValue t h in ((firsts_test K W t k, seconds_test (Known n) HasValue t h), seconds_test K W t k)

@@ -3,7 +3,7 @@ use Rattle.std.proofs.Common.{◌≡◌, ℕ, zero, suc, ◌+◌, ◌≤◌, ◌
 use Rattle.c_tree.specs.Exits.{breaks, continues}
 use Rattle.c_tree.specs.ExpressionTrees.{ExpressionTree}
 use Rattle.c_tree.specs.Labels.{ItemLabels}
-use Rattle.c_tree.specs.Trees.{Tree, Forest, Nil, Then, Sections, NoSection, Section, Evaluate, Return, If, While, Do, For, Switch, Block, Local, Break, Continue, Goto, Mark, Arm, Leap, Land, Arrival, Note, join}
+use Rattle.c_tree.specs.Trees.{Tree, Forest, Nil, Then, Sections, NoSection, Section, If, While, Do, For, Switch, Block, Goto, Mark, join}
 use Rattle.c_tree.specs.Everywhere.{total, total_of, total_in, Everywhere, EverywhereOf, EverywhereIn}
 use Rattle.c_tree.proofs.KeptLemmas.{total-join}
 use Rattle.jump_meaning.specs.Step.{switch_kind}
@@ -29,17 +29,7 @@ module _ (n : ℕ) (none : n ≡ 0) where
     no_goto_of (Switch s d) h = let i = no_goto_in d h.1 in omega (arith, i)
     no_goto_of (Block a) h = let i = no_goto a h.1 in omega (arith, i)
     no_goto_of (Goto l) h = absurd (omega (arith, h, none))
-    no_goto_of (Mark l) h = refl
-    no_goto_of (Evaluate e) h = refl
-    no_goto_of (Return e) h = refl
-    no_goto_of (Local x es) h = refl
-    no_goto_of Break h = refl
-    no_goto_of Continue h = refl
-    no_goto_of (Arm l e) h = refl
-    no_goto_of (Leap l) h = refl
-    no_goto_of (Land l) h = refl
-    no_goto_of (Arrival e) h = refl
-    no_goto_of (Note bs) h = refl
+    no_goto_of _ h = refl
 
     no_goto_in : (d : Sections) → EverywhereIn (ItemLabels (λ l. l < n)) d → total_in (weight 1 0) d ≡ 0
     no_goto_in NoSection h = refl
@@ -53,9 +43,7 @@ some_label (suc n) a h g = omega arith
 
 later_gone : (e f : Ending) → later e f ≡ Gone → (e ≡ Gone) × (f ≡ Gone)
 later_gone Gone f h = (refl, h)
-later_gone Breaks f h = cc
-later_gone Jumps f h = cc
-later_gone Otherwise f h = cc
+later_gone _ f h = cc
 
 not_gone : (b : Bool) (e : Ending) → cond b (if_jumps e) Otherwise ≡ Gone → ⊥
 not_gone true Gone h = cc
@@ -92,17 +80,7 @@ module _ (p : Plan) where
     gone_free_of (While t a) e = cc
     gone_free_of (Do a t) e = cc
     gone_free_of (For first t u a) e = cc
-    gone_free_of (Mark l) e = refl
-    gone_free_of (Evaluate x) e = refl
-    gone_free_of (Return x) e = refl
-    gone_free_of (Local x es) e = refl
-    gone_free_of Break e = refl
-    gone_free_of Continue e = refl
-    gone_free_of (Arm l x) e = refl
-    gone_free_of (Leap l) e = refl
-    gone_free_of (Land l) e = refl
-    gone_free_of (Arrival x) e = refl
-    gone_free_of (Note bs) e = refl
+    gone_free_of _ e = refl
 
   for_kept : (j : Bool) (t u : Option ExpressionTree) (a : Forest) (b c : Aim) (n : ℕ) → n ≤ Gotos a → n ≤ Gotos (flat_for j t u a b c)
   for_kept true t u a b c n h = let i = total-join (weight 1 0) a (join (mark_of c) (third_items u)) in omega (arith, h, i)
@@ -117,9 +95,7 @@ module _ (p : Plan) where
 
   by_ending : (e : Ending) (n : ℕ) (x y : Forest) → (e ≡ Breaks → n ≤ Gotos x) → n ≤ Gotos y → n ≤ Gotos (if_breaks e x y)
   by_ending Breaks n x y h k = h refl
-  by_ending Gone n x y h k = k
-  by_ending Jumps n x y h k = k
-  by_ending Otherwise n x y h k = k
+  by_ending _ n x y h k = k
 
   by_last : (e f : Ending) (m n : ℕ) (x y : Forest) → later e f ≡ Breaks → (e ≡ Gone → f ≡ Breaks → m + n ≤ Gotos x) →
       (e ≡ Breaks → m + n ≤ Gotos y) → m + n ≤ Gotos (cond (is_gone e) x y)
@@ -173,16 +149,7 @@ module _ (p : Plan) where
         let e = sections_kept i (is_jumpy_switch p c d) B c d in
         choose (is_scattered d) (total_in jumps_of d) (dissolved p h s d y) _ (omega (arith, o, k)) (omega (arith, e))
     item_kept h b c r (Mark l) = omega arith
-    item_kept h b c r (Evaluate x) = omega arith
-    item_kept h b c r (Return x) = omega arith
-    item_kept h b c r (Local x es) = omega arith
-    item_kept h b c r Break = omega arith
-    item_kept h b c r Continue = omega arith
-    item_kept h b c r (Arm l x) = omega arith
-    item_kept h b c r (Leap l) = omega arith
-    item_kept h b c r (Land l) = omega arith
-    item_kept h b c r (Arrival x) = omega arith
-    item_kept h b c r (Note bs) = omega arith
+    item_kept h b c r _ = omega arith
 
     last_kept : (h : Here) (b c : Aim) (r : Arrivals) (a : Forest) → ending p.live a ≡ Breaks → total jumps_of a ≤ Gotos (flat_last p h b c r a)
     last_kept h b c r Nil e = cc
@@ -204,17 +171,7 @@ module _ (p : Plan) where
     last_item_kept h b c r (While t a) e = cc
     last_item_kept h b c r (Do a t) e = cc
     last_item_kept h b c r (For first t u a) e = cc
-    last_item_kept h b c r (Mark l) e = omega arith
-    last_item_kept h b c r (Evaluate x) e = omega arith
-    last_item_kept h b c r (Return x) e = omega arith
-    last_item_kept h b c r (Local x es) e = omega arith
-    last_item_kept h b c r Break e = omega arith
-    last_item_kept h b c r Continue e = omega arith
-    last_item_kept h b c r (Arm l x) e = omega arith
-    last_item_kept h b c r (Leap l) e = omega arith
-    last_item_kept h b c r (Land l) e = omega arith
-    last_item_kept h b c r (Arrival x) e = omega arith
-    last_item_kept h b c r (Note bs) e = omega arith
+    last_item_kept h b c r _ e = omega arith
 
     sections_kept : (h : Here) (j : Bool) (b c : Aim) (d : Sections) → total_in jumps_of d ≤ total_in (weight 1 0) (flat_sections p h j b c d)
     sections_kept h j b c NoSection = omega arith

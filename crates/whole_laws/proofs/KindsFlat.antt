@@ -30,7 +30,7 @@ use Rattle.flat_laws.specs.Pieces.{Aim, Stays, Becomes, Absent, mark_of, test_or
 use Rattle.c_tree.specs.Numerals.{number, least_constant, constant}
 use Rattle.c_tree.proofs.NumeralLaws.{constant_pos}
 use Rattle.flat_laws.specs.Loose.{Setting, Arrivals, NoArrival, Arrives}
-use Rattle.flat_laws.specs.Parts.{is_scattered, holds_jump, kept_breaks, variables_of, Here, past, past_item, inside, Ending, Gone, Breaks, Jumps, Otherwise, ending, is_gone}
+use Rattle.flat_laws.specs.Parts.{is_scattered, holds_jump, kept_breaks, variables_of, Here, past, past_item, inside, Ending, Breaks, ending, is_gone}
 use Rattle.flat_laws.specs.FlatForm.{Plan, names_of, scatter_aim, otherwise_label, end_goto, aim, exit, is_jumpy_switch, assigned, initialised, mark_if, arrival, dissolved, if_breaks, flat_for, flat, flat_item, flat_last, flat_last_item, flat_sections, spread}
 use Rattle.flat_laws.specs.Source.{IsVariable, IfTrue, HaveVariables, HasVariables, HaveVariablesAmong}
 use Rattle.flat_laws.specs.FlatForm.{first_here}
@@ -48,19 +48,11 @@ use Rattle.plain_laws.specs.Kinded.{Grown, SameKinds, Kinded, KindedCondition, K
 
 pub one_in_kind : (k : IntKind) → IsInRange k (pos 1)
 one_in_kind Char = record { from_least = grind (arith, ints); to_greatest = grind (arith, ints) }
-one_in_kind UChar = record { from_least = grind (arith, ints); to_greatest = grind (arith, ints) }
-one_in_kind Int = record { from_least = grind (arith, ints); to_greatest = grind (arith, ints) }
-one_in_kind UInt = record { from_least = grind (arith, ints); to_greatest = grind (arith, ints) }
-one_in_kind Long = record { from_least = grind (arith, ints); to_greatest = grind (arith, ints) }
-one_in_kind ULong = record { from_least = grind (arith, ints); to_greatest = grind (arith, ints) }
+one_in_kind _ = record { from_least = grind (arith, ints); to_greatest = grind (arith, ints) }
 
 pub greatest_in_kind : (k : IntKind) → IsInRange k (greatest k)
 greatest_in_kind Char = record { from_least = grind (arith, ints); to_greatest = grind (arith, ints) }
-greatest_in_kind UChar = record { from_least = grind (arith, ints); to_greatest = grind (arith, ints) }
-greatest_in_kind Int = record { from_least = grind (arith, ints); to_greatest = grind (arith, ints) }
-greatest_in_kind UInt = record { from_least = grind (arith, ints); to_greatest = grind (arith, ints) }
-greatest_in_kind Long = record { from_least = grind (arith, ints); to_greatest = grind (arith, ints) }
-greatest_in_kind ULong = record { from_least = grind (arith, ints); to_greatest = grind (arith, ints) }
+greatest_in_kind _ = record { from_least = grind (arith, ints); to_greatest = grind (arith, ints) }
 
 none_below : (k : IntKind) (n : ℕ) → IsInRange k (negsuc n) → least k ≡ pos 0 → ⊥
 none_below k n r l = let h = r.from_least in grind (arith, ints, h, l)
@@ -80,10 +72,7 @@ negated_in_kind ULong n r e = absurd (none_below ULong n r refl)
 pub sub_kind : (k : IntKind) → promoted k ≡ k → arith_kind Sub k k ≡ k
 sub_kind Char e = cc
 sub_kind UChar e = cc
-sub_kind Int e = refl
-sub_kind UInt e = refl
-sub_kind Long e = refl
-sub_kind ULong e = refl
+sub_kind _ e = refl
 
 module _ (c : Code) (old ts : List Slot) where
   abbrev K : Tree → Type 0
@@ -146,9 +135,7 @@ module _ (c : Code) (old ts : List Slot) where
 
   if_kinded : (e : Ending) (x y : Forest) → AreK x → AreK y → AreK (if_breaks e x y)
   if_kinded Breaks x y h k = h
-  if_kinded Gone x y h k = k
-  if_kinded Jumps x y h k = k
-  if_kinded Otherwise x y h k = k
+  if_kinded _ x y h k = k
 
   arrival_kinded : (r : Arrivals) (e : Option ExpressionTree) → AreK (arrival r e)
   arrival_kinded NoArrival e = (tt, tt)
@@ -247,11 +234,7 @@ module _ (c : Code) (old ts : List Slot) where
 
   promoted_twice : (k : IntKind) → promoted (promoted k) ≡ promoted k
   promoted_twice Char = refl
-  promoted_twice UChar = refl
-  promoted_twice Int = refl
-  promoted_twice UInt = refl
-  promoted_twice Long = refl
-  promoted_twice ULong = refl
+  promoted_twice _ = refl
 
   -- ---- declarations
 
@@ -400,23 +383,7 @@ module _ (c : Code) (s : Setting) (p : Plan) (slots : p.slots ≡ s.old) (number
     last_item_kinded : (h : Here) (b e : Aim) (r : Arrivals) (x : Tree) → EverywhereOf F x → HasVariables s h x →
         h.variable + total_of variables_of x ≤ N → AreG (flat_last_item p h b e r x)
     last_item_kinded h b e r (Block a) o v n = last_kinded h b e r a o.1 v (omega (arith, n))
-    last_item_kinded h b e r (If t x y) o v n = tt
-    last_item_kinded h b e r (While t a) o v n = tt
-    last_item_kinded h b e r (Do a t) o v n = tt
-    last_item_kinded h b e r (For first t u a) o v n = tt
-    last_item_kinded h b e r (Switch t d) o v n = tt
-    last_item_kinded h b e r (Local x y) o v n = tt
-    last_item_kinded h b e r Break o v n = tt
-    last_item_kinded h b e r Continue o v n = tt
-    last_item_kinded h b e r (Goto l) o v n = tt
-    last_item_kinded h b e r (Mark l) o v n = tt
-    last_item_kinded h b e r (Arrival x) o v n = tt
-    last_item_kinded h b e r (Evaluate x) o v n = tt
-    last_item_kinded h b e r (Return x) o v n = tt
-    last_item_kinded h b e r (Note bs) o v n = tt
-    last_item_kinded h b e r (Arm l x) o v n = tt
-    last_item_kinded h b e r (Leap l) o v n = tt
-    last_item_kinded h b e r (Land l) o v n = tt
+    last_item_kinded h b e r _ o v n = tt
 
     sections_kinded : (h : Here) (j : Bool) (b e : Aim) (d : Sections) → EverywhereIn F d → HaveVariablesAmong s h d →
         h.variable + total_in variables_of d ≤ N → EverywhereIn G (flat_sections p h j b e d)
@@ -464,10 +431,7 @@ source_item c ss ts more Continue h = (tt, tt)
 source_item c ss ts more (Goto l) h = (tt, tt)
 source_item c ss ts more (Mark l) h = (tt, tt)
 source_item c ss ts more (Arm l e) h = (item_kept c c ss ts (own_kinds c) more (Arm l e) h.0, tt)
-source_item c ss ts more (Leap l) h = (tt, tt)
-source_item c ss ts more (Land l) h = (tt, tt)
-source_item c ss ts more (Arrival e) h = (tt, tt)
-source_item c ss ts more (Note bs) h = (tt, tt)
+source_item c ss ts more _ h = (tt, tt)
 
 pub form_kinded : (c : Code) (f g : Function) → IsSourceFunction f → IsFlatForm f g → Everywhere (KindedItem c f.slots) (body_of f) →
     Everywhere (KindedItem c g.slots) (body_of g)

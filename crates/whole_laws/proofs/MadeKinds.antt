@@ -3,7 +3,7 @@ use Rattle.std.proofs.Common.{◌≡◌, ℕ, suc, ℤ, pos, negsuc, int_le, Boo
 use Rattle.std.specs.Prelude.{IsSomeAnd}
 use Rattle.std.proofs.lemmas.Int.{ints}
 use Rattle.c_types.specs.declared.kinds.IntKind.{IntKind}
-use Rattle.c_types.specs.declared.kinds.IntKind.TheVariants.{Char, UChar, Int, UInt, Long, ULong}
+use Rattle.c_types.specs.declared.kinds.IntKind.TheVariants.{Char, Int}
 use Rattle.c_types.specs.Numbers.{promoted, usual_kind, converted, least, greatest, IsInRange}
 use Rattle.c_types.proofs.Residues.{converted-in_range}
 use Rattle.c_tree.specs.declared.tree.Slot.{Slot}
@@ -151,11 +151,7 @@ module _ (k : Names) where
 
   usual_promoted : (j : IntKind) → usual_kind (promoted j) j ≡ promoted j
   usual_promoted Char = refl
-  usual_promoted UChar = refl
-  usual_promoted Int = refl
-  usual_promoted UInt = refl
-  usual_promoted Long = refl
-  usual_promoted ULong = refl
+  usual_promoted _ = refl
 
   -- an expression of a kind that is promoted to this one
   pub record IsPickable (kind : IntKind) (e : ExpressionTree) : Type 0 where

@@ -19,7 +19,7 @@ use Rattle.c_tree.specs.Numerals.{number, constant}
 use Rattle.c_tree.specs.Slots.{ItemSlots}
 use Rattle.c_tree.specs.TestTrees.{SelectorTree, Selects, Pick}
 use Rattle.c_tree.specs.TextExpressions.{slot_name}
-use Rattle.c_tree.specs.Trees.{Tree, Forest, Nil, Then, Evaluate, Return, If, While, Do, For, Switch, Block, Local, Break, Continue, Goto, Mark, Arm, Leap, Land, Arrival, Note, join, trees_of}
+use Rattle.c_tree.specs.Trees.{Tree, Forest, Nil, Then, For, Local, join, trees_of}
 use Rattle.c_tree.specs.Everywhere.{Everywhere}
 use Rattle.c_tree.specs.InRange.{body_of}
 use Rattle.c_tree.specs.WellMade.{IsConverted, IsPlainFor}
@@ -236,23 +236,7 @@ module _ (f h : Function) (m : IsMovedForm f h) (params : f.params ≤ length f.
 
   nil_tidy : (x : Tree) → NilFirst x → NilFirst (tidy_item x)
   nil_tidy (For first t u a) i = ap tidy i
-  nil_tidy (Evaluate e) i = tt
-  nil_tidy (Return e) i = tt
-  nil_tidy (If t a b) i = tt
-  nil_tidy (While t a) i = tt
-  nil_tidy (Do a t) i = tt
-  nil_tidy (Switch s c) i = tt
-  nil_tidy (Block a) i = tt
-  nil_tidy (Local x es) i = tt
-  nil_tidy Break i = tt
-  nil_tidy Continue i = tt
-  nil_tidy (Goto l) i = tt
-  nil_tidy (Mark l) i = tt
-  nil_tidy (Arm l e) i = tt
-  nil_tidy (Leap l) i = tt
-  nil_tidy (Land l) i = tt
-  nil_tidy (Arrival e) i = tt
-  nil_tidy (Note bs) i = tt
+  nil_tidy _ i = tt
 
   -- a declaration has no value, or is that of a guard, which is 0
   abbrev Zeros : ℕ → Option (List ExpressionTree) → Type 0
@@ -273,22 +257,7 @@ module _ (f h : Function) (m : IsMovedForm f h) (params : f.params ≤ length f.
   item_simple : (x : Tree) → IsConverted x × IsPlainFor x → Simple (plain_item (slot_of f h m) x)
   item_simple (For first t u a) i = (first_nil first i.1.0, tt)
   item_simple (Local x es) i = absurd i.0
-  item_simple (Evaluate e) i = (tt, tt)
-  item_simple (Return e) i = (tt, tt)
-  item_simple (If t a b) i = (tt, tt)
-  item_simple (While t a) i = (tt, tt)
-  item_simple (Do a t) i = (tt, tt)
-  item_simple (Switch s c) i = (tt, tt)
-  item_simple (Block a) i = (tt, tt)
-  item_simple Break i = (tt, tt)
-  item_simple Continue i = (tt, tt)
-  item_simple (Goto l) i = (tt, tt)
-  item_simple (Mark l) i = (tt, tt)
-  item_simple (Arm l e) i = (tt, tt)
-  item_simple (Leap l) i = (tt, tt)
-  item_simple (Land l) i = (tt, tt)
-  item_simple (Arrival e) i = (tt, tt)
-  item_simple (Note bs) i = (tt, tt)
+  item_simple _ i = (tt, tt)
 
   all_simple : Everywhere Simple (body_of h)
   all_simple =
@@ -339,23 +308,7 @@ module _ (f h : Function) (m : IsMovedForm f h) (params : f.params ≤ length f.
 
     printed : (x : Tree) → OfLocals Zeros x × (Declared (λ y. h.params ≤ y) x × ItemSlots (λ y. y < length h.slots) x) → OfLocals (Printed h) x
     printed (Local k es) i = declarator k es i.1.0.0 i.1.1.0 i.0
-    printed (Evaluate e) i = tt
-    printed (Return e) i = tt
-    printed (If t a b) i = tt
-    printed (While t a) i = tt
-    printed (Do a t) i = tt
-    printed (For first t u a) i = tt
-    printed (Switch s c) i = tt
-    printed (Block a) i = tt
-    printed Break i = tt
-    printed Continue i = tt
-    printed (Goto l) i = tt
-    printed (Mark l) i = tt
-    printed (Arm l e) i = tt
-    printed (Leap l) i = tt
-    printed (Land l) i = tt
-    printed (Arrival e) i = tt
-    printed (Note bs) i = tt
+    printed _ i = tt
 
     ready : (counts' : FlatCounts) (ts' : List Top) → IsResolvedFunction counts' ts' f → AreSpelled f (body_of f) → Everywhere (IsReady h) (body_of h)
     ready counts' ts' r s =

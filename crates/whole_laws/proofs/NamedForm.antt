@@ -25,10 +25,7 @@ module _ (p : Program) where
 
   top_named : (t : Top) → IsTopNamed given t
   top_named (T.Function g) = length-guard_names (names p) g
-  top_named (T.Include bytes) = tt
-  top_named (T.Enum es) = tt
-  top_named (T.Global g) = tt
-  top_named (T.Note bytes) = tt
+  top_named _ = tt
 
   pub tops_named : (ts : List Top) → AllByRecursion (IsTopNamed given) ts
   tops_named [] = tt
@@ -36,10 +33,7 @@ module _ (p : Program) where
 
   top_own : (c : Code) (t : Top) → IsTopReady c given t → TopHasNames p t → IsTopOwn p.tops given t
   top_own c (T.Function g) r h = λ flat. plain_names_own p g flat r.ranged.parameters (h flat)
-  top_own c (T.Include bytes) r h = tt
-  top_own c (T.Enum es) r h = tt
-  top_own c (T.Global g) r h = tt
-  top_own c (T.Note bytes) r h = tt
+  top_own c _ r h = tt
 
   pub tops_own : (c : Code) (ts : List Top) → AllByRecursion (IsTopReady c given) ts → AllByRecursion (TopHasNames p) ts →
       AllByRecursion (IsTopOwn p.tops given) ts

@@ -255,23 +255,7 @@ module _ (f h : Function) (m : IsMovedForm f h) (params : f.params ≤ length f.
 
   undeclaring : (x : Tree) → IsConverted x → Undeclaring (plain_item (slot_of f h m) x)
   undeclaring (Local x es) i = absurd i
-  undeclaring (Evaluate e) i = tt
-  undeclaring (Return e) i = tt
-  undeclaring (If t a b) i = tt
-  undeclaring (While t a) i = tt
-  undeclaring (Do a t) i = tt
-  undeclaring (For first t u a) i = tt
-  undeclaring (Switch s c) i = tt
-  undeclaring (Block a) i = tt
-  undeclaring Break i = tt
-  undeclaring Continue i = tt
-  undeclaring (Goto l) i = tt
-  undeclaring (Mark l) i = tt
-  undeclaring (Arm l e) i = tt
-  undeclaring (Leap l) i = tt
-  undeclaring (Land l) i = tt
-  undeclaring (Arrival e) i = tt
-  undeclaring (Note bs) i = tt
+  undeclaring _ i = tt
 
   binds : (x : Tree) → HasNames x × (Undeclaring x × IsPlainItem x) → BindsNothing h.slots last x
   binds (Evaluate e) i = (i.0, tt)

@@ -10,7 +10,7 @@ use Rattle.c_tree.specs.ExpressionTrees.{ExpressionTree}
 use Rattle.c_tree.specs.TestTrees.{TestTree, Source as SourceTest, On, Off, AndOff, OrOn, SelectorTree, Selects, Pick}
 use Rattle.c_tree.specs.Cases.{selector_source, selector_kind, all_cases, defaults, case_number, AreCases}
 use Rattle.c_tree.specs.Constants.{kind_of}
-use Rattle.c_tree.specs.Trees.{Tree, Forest, Nil, Then, Sections, NoSection, Section, Evaluate, Return, If, While, Do, For, Switch, Block, Local, Break, Continue, Goto, Mark, Arm, Leap, Land, Arrival, Note, join, trees_of}
+use Rattle.c_tree.specs.Trees.{Tree, Forest, Nil, Then, Sections, NoSection, Section, Evaluate, Return, If, While, Do, For, Switch, Block, Local, Break, Continue, Goto, Mark, Arm, join, trees_of}
 use Rattle.c_tree.specs.Everywhere.{Everywhere, EverywhereOf, EverywhereIn}
 use Rattle.c_tree.specs.InRange.{body_of}
 use Rattle.c_tree.specs.WellMade.{HasSelectorKind, HasEntries}
@@ -60,18 +60,7 @@ mutual
   unscattered_of (For first t u a) h = (tt, all_unscattered first h.1, all_unscattered a h.2)
   unscattered_of (Switch s c) h = (unscattered c h.1, unscattered_in c h.1)
   unscattered_of (Block a) h = (tt, all_unscattered a h.1)
-  unscattered_of (Evaluate e) h = tt
-  unscattered_of (Return e) h = tt
-  unscattered_of (Local x es) h = tt
-  unscattered_of Break h = tt
-  unscattered_of Continue h = tt
-  unscattered_of (Goto l) h = tt
-  unscattered_of (Mark l) h = tt
-  unscattered_of (Arm l e) h = tt
-  unscattered_of (Leap l) h = tt
-  unscattered_of (Land l) h = tt
-  unscattered_of (Arrival e) h = tt
-  unscattered_of (Note bs) h = tt
+  unscattered_of _ h = tt
 
   unscattered_in : (c : Sections) → EverywhereIn IsPlainItem c → EverywhereIn IsUnscattered c
   unscattered_in NoSection h = tt
@@ -136,23 +125,7 @@ tidy_section_cases k c h =
 tidy_item_cases : (x : Tree) → HasSectionCases x → HasSectionCases (tidy_item x)
 tidy_item_cases (Switch s c) h = some_and (λ k. AreSectionCases k c) (λ k. AreSectionCases k (tidy_sections c)) (λ k i. tidy_section_cases k c i)
     (selector_kind s) h
-tidy_item_cases (If t a b) h = tt
-tidy_item_cases (While t a) h = tt
-tidy_item_cases (Do a t) h = tt
-tidy_item_cases (For first t u a) h = tt
-tidy_item_cases (Block a) h = tt
-tidy_item_cases (Evaluate e) h = tt
-tidy_item_cases (Return e) h = tt
-tidy_item_cases (Local x es) h = tt
-tidy_item_cases Break h = tt
-tidy_item_cases Continue h = tt
-tidy_item_cases (Goto l) h = tt
-tidy_item_cases (Mark l) h = tt
-tidy_item_cases (Arm l e) h = tt
-tidy_item_cases (Leap l) h = tt
-tidy_item_cases (Land l) h = tt
-tidy_item_cases (Arrival e) h = tt
-tidy_item_cases (Note bs) h = tt
+tidy_item_cases _ h = tt
 
 tidied_cases : (a : Forest) → Everywhere IsPlainItem a → Everywhere HasSectionCases a → Everywhere HasCases (tidy a)
 tidied_cases a p h =
@@ -185,19 +158,7 @@ mutual
   arrivals_left_of (Do a t) = no_more _ ∙ arrivals_left a
   arrivals_left_of (For first t u a) = no_more _ ∙ arrivals_left a
   arrivals_left_of (Block a) = no_more _ ∙ arrivals_left a
-  arrivals_left_of (Switch s c) = refl
-  arrivals_left_of (Mark l) = refl
-  arrivals_left_of (Evaluate e) = refl
-  arrivals_left_of (Return e) = refl
-  arrivals_left_of (Local x es) = refl
-  arrivals_left_of Break = refl
-  arrivals_left_of Continue = refl
-  arrivals_left_of (Goto l) = refl
-  arrivals_left_of (Arm l e) = refl
-  arrivals_left_of (Leap l) = refl
-  arrivals_left_of (Land l) = refl
-  arrivals_left_of (Arrival e) = refl
-  arrivals_left_of (Note bs) = refl
+  arrivals_left_of _ = refl
 
 labels_left : (c : Sections) → switch_labels (unlabelled_among c) ≡ switch_labels c
 labels_left NoSection = refl
@@ -303,15 +264,7 @@ constant_item (For first t u a) h = (any_test t, any_test u)
 constant_item (Switch s c) h = (tt, labels_constants (selector_kind s) c h)
 constant_item (Local x es) h = any_list es
 constant_item (Arm l e) h = any_test e
-constant_item (Block a) h = tt
-constant_item Break h = tt
-constant_item Continue h = tt
-constant_item (Goto l) h = tt
-constant_item (Mark l) h = tt
-constant_item (Leap l) h = tt
-constant_item (Land l) h = tt
-constant_item (Arrival e) h = tt
-constant_item (Note bs) h = tt
+constant_item _ h = tt
 
 all_differ : {A : Type 0} (xs : List A) → AllPairs (λ m n. m ≢ n) xs → AllDiffer xs
 all_differ [] h = tt
@@ -363,22 +316,7 @@ cased_plain slot (Switch s c) h =
     (kind_some slot (switch_kind s) s h.1.0) (picked_kind slot s)
     (section_cases_of slot (switch_kind s) c h.1.1.0.1 h.0.1 (well_cases o c h.1.0 h.1.1.1))
 cased_plain slot (If t a b) h = tt
-cased_plain slot (While t a) h = tt
-cased_plain slot (Do a t) h = tt
-cased_plain slot (For first t u a) h = tt
-cased_plain slot (Block a) h = tt
-cased_plain slot (Evaluate e) h = tt
-cased_plain slot (Return e) h = tt
-cased_plain slot (Local x es) h = tt
-cased_plain slot Break h = tt
-cased_plain slot Continue h = tt
-cased_plain slot (Goto l) h = tt
-cased_plain slot (Mark l) h = tt
-cased_plain slot (Arm l e) h = tt
-cased_plain slot (Leap l) h = tt
-cased_plain slot (Land l) h = tt
-cased_plain slot (Arrival e) h = tt
-cased_plain slot (Note bs) h = tt
+cased_plain slot _ h = tt
 
 declarations_cases : (base end : ℕ) (a : Forest) → AreDeclarations base end a → Everywhere HasSectionCases a
 declarations_cases base end Nil none = tt
@@ -405,10 +343,7 @@ module _ (f h : Function) (m : IsMovedForm f h) (params : f.params ≤ length f.
   from_source (Goto l) g = (tt, tt)
   from_source (Mark l) g = (tt, tt)
   from_source (Arm l e) g = (any_test e, tt)
-  from_source (Leap l) g = (tt, tt)
-  from_source (Land l) g = (tt, tt)
-  from_source (Arrival e) g = (tt, tt)
-  from_source (Note bs) g = (tt, tt)
+  from_source _ g = (tt, tt)
 
   constants_moved : Everywhere HasCases (body_of f) → Everywhere HasConstants (trees_of m.new)
   constants_moved k = facts_moved Any Any IsConstantValue AnyReturned AnyNote (λ e i. tt) f h m tt (λ t v a w b. (tt, λ z. tt))

@@ -7,7 +7,7 @@ use Rattle.c_tree.specs.Conversions.{convert}
 use Rattle.c_tree.specs.Everywhere.{total, total_of, total_in, Everywhere, EverywhereOf, EverywhereIn}
 use Rattle.c_tree.specs.InRange.{body_of}
 use Rattle.c_tree.specs.Numerals.{constant}
-use Rattle.c_tree.specs.Trees.{Tree, Forest, Nil, Then, Sections, NoSection, Section, Evaluate, Return, If, While, Do, For, Switch, Block, Local, Break, Continue, Goto, Mark, Arm, Leap, Land, Arrival, Note, join, trees_of}
+use Rattle.c_tree.specs.Trees.{Tree, Forest, Nil, Then, Sections, NoSection, Section, If, While, Do, For, Switch, Block, Goto, Leap, join, trees_of}
 use Rattle.c_tree.specs.WellMade.{IsWellMade}
 use Rattle.move_order_laws.proofs.ConvertedTrees.{converted_trees}
 use Rattle.flat_laws.specs.Pieces.{Stays}
@@ -130,17 +130,7 @@ module _ (P : ℕ → Type 0) where
     no_leaps_of (Switch s c) h = let i = no_leaps_in c h.1 in omega (arith, i)
     no_leaps_of (Block a) h = let i = no_leaps a h.1 in omega (arith, i)
     no_leaps_of (Leap l) h = absurd h
-    no_leaps_of (Evaluate e) h = refl
-    no_leaps_of (Return e) h = refl
-    no_leaps_of (Local x es) h = refl
-    no_leaps_of Break h = refl
-    no_leaps_of Continue h = refl
-    no_leaps_of (Goto l) h = refl
-    no_leaps_of (Mark l) h = refl
-    no_leaps_of (Arm l e) h = refl
-    no_leaps_of (Land l) h = refl
-    no_leaps_of (Arrival e) h = refl
-    no_leaps_of (Note bs) h = refl
+    no_leaps_of _ h = refl
 
     no_leaps_in : (c : Sections) → EverywhereIn (IsFlatItem P) c → total_in leap_of c ≡ 0
     no_leaps_in NoSection h = refl

@@ -157,17 +157,7 @@ module _ (h : Function) (slot : ℕ → ℕ) where
     undeclared_of (Switch s c) k = undeclared_in c k.1
     undeclared_of (Block a) k = undeclared a k.1
     undeclared_of (Local x es) k = absurd k
-    undeclared_of (Evaluate e) k = refl
-    undeclared_of (Return e) k = refl
-    undeclared_of Break k = refl
-    undeclared_of Continue k = refl
-    undeclared_of (Goto l) k = refl
-    undeclared_of (Mark l) k = refl
-    undeclared_of (Arm l e) k = refl
-    undeclared_of (Leap l) k = refl
-    undeclared_of (Land l) k = refl
-    undeclared_of (Arrival e) k = refl
-    undeclared_of (Note bs) k = refl
+    undeclared_of _ k = refl
 
     undeclared_in : (c : Sections) → EverywhereIn IsConverted c → gathered_in declared_slot (plain_sections slot c) ≡ []
     undeclared_in NoSection k = refl

@@ -5,7 +5,7 @@ use Rattle.c_tree.specs.declared.tree.Slot.{Slot}
 use Rattle.c_tree.specs.declared.tree.Function.{Function}
 use Rattle.c_tree.specs.ExpressionTrees.{ExpressionTree}
 use Rattle.c_tree.specs.Slots.{ItemSlots}
-use Rattle.c_tree.specs.Trees.{Tree, Forest, Nil, Then, Sections, NoSection, Section, Evaluate, Return, If, While, Do, For, Switch, Block, Local, Break, Continue, Goto, Mark, Arm, Leap, Land, Arrival, Note, join, trees_of}
+use Rattle.c_tree.specs.Trees.{Tree, Forest, Nil, Then, Sections, NoSection, Section, If, While, Do, For, Switch, Block, Local, Goto, join, trees_of}
 use Rattle.c_tree.specs.Everywhere.{total, total_of, total_in, Everywhere, EverywhereOf, EverywhereIn}
 use Rattle.c_tree.specs.InRange.{body_of, IsInRange}
 use Rattle.c_tree.specs.WellMade.{IsConverted}
@@ -84,23 +84,7 @@ declarations_guard base end (Then x a) (one_more (guarding y i j) r) = ((i, j, r
 
 guard_item : (base end : ℕ) (slot : ℕ → ℕ) (x : Tree) → IsConverted x → IsGuardLocal base end (plain_item slot x)
 guard_item base end slot (Local x es) h = absurd h
-guard_item base end slot (If t a b) h = tt
-guard_item base end slot (While t a) h = tt
-guard_item base end slot (Do a t) h = tt
-guard_item base end slot (For first t u a) h = tt
-guard_item base end slot (Switch s c) h = tt
-guard_item base end slot (Block a) h = tt
-guard_item base end slot (Evaluate e) h = tt
-guard_item base end slot (Return e) h = tt
-guard_item base end slot Break h = tt
-guard_item base end slot Continue h = tt
-guard_item base end slot (Goto l) h = tt
-guard_item base end slot (Mark l) h = tt
-guard_item base end slot (Arm l e) h = tt
-guard_item base end slot (Leap l) h = tt
-guard_item base end slot (Land l) h = tt
-guard_item base end slot (Arrival e) h = tt
-guard_item base end slot (Note bs) h = tt
+guard_item base end slot _ h = tt
 
 -- what tidying leaves of an item has the fact, where the fact is one of declarations
 module _ (P : ℕ → Option (List ExpressionTree) → Type 0) where
@@ -110,23 +94,7 @@ module _ (P : ℕ → Option (List ExpressionTree) → Type 0) where
 
   pub locals_tidy : (x : Tree) → OfLocals x → OfLocals (tidy_item x)
   locals_tidy (Local x es) h = h
-  locals_tidy (If t a b) h = tt
-  locals_tidy (While t a) h = tt
-  locals_tidy (Do a t) h = tt
-  locals_tidy (For first t u a) h = tt
-  locals_tidy (Switch s c) h = tt
-  locals_tidy (Block a) h = tt
-  locals_tidy (Evaluate e) h = tt
-  locals_tidy (Return e) h = tt
-  locals_tidy Break h = tt
-  locals_tidy Continue h = tt
-  locals_tidy (Goto l) h = tt
-  locals_tidy (Mark l) h = tt
-  locals_tidy (Arm l e) h = tt
-  locals_tidy (Leap l) h = tt
-  locals_tidy (Land l) h = tt
-  locals_tidy (Arrival e) h = tt
-  locals_tidy (Note bs) h = tt
+  locals_tidy _ h = tt
 
   locals_leaf : (x : Tree) → IsLeaf x → OfLocals x → OfLocals x
   locals_leaf x i h = h
@@ -145,43 +113,11 @@ module _ (P : ℕ → Option (List ExpressionTree) → Type 0) where
 to_locals : (P : ℕ → Option (List ExpressionTree) → Type 0) (Q : Tree → Type 0) →
     ((x : ℕ) (es : Option (List ExpressionTree)) → Q (Local x es) → P x es) → (x : Tree) → Q x → OfLocals P x
 to_locals P Q f (Local x es) h = f x es h
-to_locals P Q f (If t a b) h = tt
-to_locals P Q f (While t a) h = tt
-to_locals P Q f (Do a t) h = tt
-to_locals P Q f (For first t u a) h = tt
-to_locals P Q f (Switch s c) h = tt
-to_locals P Q f (Block a) h = tt
-to_locals P Q f (Evaluate e) h = tt
-to_locals P Q f (Return e) h = tt
-to_locals P Q f Break h = tt
-to_locals P Q f Continue h = tt
-to_locals P Q f (Goto l) h = tt
-to_locals P Q f (Mark l) h = tt
-to_locals P Q f (Arm l e) h = tt
-to_locals P Q f (Leap l) h = tt
-to_locals P Q f (Land l) h = tt
-to_locals P Q f (Arrival e) h = tt
-to_locals P Q f (Note bs) h = tt
+to_locals P Q f _ h = tt
 
 of_locals : (ss : List Slot) (x : Tree) → OfLocals (λ k es. SlotIsInitialised (slice_get ss k) es) x → IsInitialised ss x
 of_locals ss (Local x es) h = h
-of_locals ss (If t a b) h = tt
-of_locals ss (While t a) h = tt
-of_locals ss (Do a t) h = tt
-of_locals ss (For first t u a) h = tt
-of_locals ss (Switch s c) h = tt
-of_locals ss (Block a) h = tt
-of_locals ss (Evaluate e) h = tt
-of_locals ss (Return e) h = tt
-of_locals ss Break h = tt
-of_locals ss Continue h = tt
-of_locals ss (Goto l) h = tt
-of_locals ss (Mark l) h = tt
-of_locals ss (Arm l e) h = tt
-of_locals ss (Leap l) h = tt
-of_locals ss (Land l) h = tt
-of_locals ss (Arrival e) h = tt
-of_locals ss (Note bs) h = tt
+of_locals ss _ h = tt
 
 module _ (f h : Function) (m : IsMovedForm f h) (params : f.params ≤ length f.slots) where
   abbrev base : ℕ

@@ -4,14 +4,14 @@ use Rattle.std.specs.Prelude.{IfSome, max, nat_lt}
 use Rattle.std.specs.List.{AllByRecursion}
 use Rattle.c_types.specs.declared.kinds.ArithOp.TheVariants.{Add, Sub, Mul, Div, Rem, Shl, Shr, And, Or, Xor}
 use Rattle.c_tree.specs.declared.tree.BinaryOp.{BinaryOp}
-use Rattle.c_tree.specs.declared.tree.BinaryOp.TheVariants.{Arith, Less, Greater, AtMost, AtLeast, Equal, Unequal, AndThen, OrElse}
+use Rattle.c_tree.specs.declared.tree.BinaryOp.TheVariants.{Arith, Less}
 use Rattle.c_tree.specs.declared.tree.Slot.{Slot}
 use Rattle.c_tree.specs.declared.tree.Function.{Function}
 use Rattle.c_tree.specs.Cases.{selector_source, all_cases}
 use Rattle.c_tree.specs.ExpressionTrees.{ExpressionTree, Typed, Number, Character, EnumName, Text, Array, Read, Unary, Cast, Binary, Conditional, Assign, Update, Count, Comma, Call}
-use Rattle.c_tree.specs.TestTrees.{TestTree, Source as SourceTest, On, Off, AndOff, OrOn, SelectorTree, Selects, Pick}
+use Rattle.c_tree.specs.TestTrees.{TestTree, Source as SourceTest, SelectorTree, Selects, Pick}
 use Rattle.c_tree.specs.TextExpressions.{binary_level}
-use Rattle.c_tree.specs.Trees.{Tree, Forest, Nil, Then, Sections, NoSection, Section, Evaluate, Return, If, While, Do, For, Switch, Block, Local, Break, Continue, Goto, Mark, Arm, Leap, Land, Arrival, Note}
+use Rattle.c_tree.specs.Trees.{Tree, Forest, Nil, Then, Sections, NoSection, Section, Evaluate, Return, If, While, Do, For, Switch, Block, Local, Break, Continue, Note}
 use Rattle.c_tree.specs.Everywhere.{Everywhere, EverywhereOf, EverywhereIn}
 use Rattle.whole_laws.proofs.Unlabelled.{IsPlainItem}
 use Rattle.c_resolved_defs.specs.Within.{TestExpression}
@@ -41,13 +41,7 @@ binary_above (Arith And) = refl
 binary_above (Arith Or) = refl
 binary_above (Arith Xor) = refl
 binary_above Less = refl
-binary_above Greater = refl
-binary_above AtMost = refl
-binary_above AtLeast = refl
-binary_above Equal = refl
-binary_above Unequal = refl
-binary_above AndThen = refl
-binary_above OrElse = refl
+binary_above _ = refl
 
 level_above : (e : ExpressionTree) → nat_lt (level_of e) 1 ≡ false
 level_above (Typed kind (Binary op a b)) = binary_above op
@@ -99,10 +93,7 @@ module _ (h : Function) where
 
   test_one : (t : TestTree) (a b : Forest) → TestExpression (Prints h.slots) t → IsPlainItem (If t a b) → most_tested t ≤ most → TestPrints h.slots t
   test_one (SourceTest e) a b p i c = full_one h.slots e p c
-  test_one (On l) a b p i c = absurd i
-  test_one (Off l) a b p i c = absurd i
-  test_one (AndOff l t) a b p i c = absurd i
-  test_one (OrOn l t) a b p i c = absurd i
+  test_one _ a b p i c = absurd i
 
   selector_one : (s : SelectorTree) (d : Sections) → Prints h.slots (selector_source s) → IsPlainItem (Switch s d) →
       counted (selector_source s) ≤ most → SelectorPrints h.slots s
@@ -134,12 +125,7 @@ module _ (h : Function) where
     spelled_item (Note bs) r c = r.0
     spelled_item Break r c = tt
     spelled_item Continue r c = tt
-    spelled_item (Goto l) r c = absurd r.1.0
-    spelled_item (Mark l) r c = absurd r.1.0
-    spelled_item (Arm l e) r c = absurd r.1.0
-    spelled_item (Leap l) r c = absurd r.1.0
-    spelled_item (Land l) r c = absurd r.1.0
-    spelled_item (Arrival e) r c = absurd r.1.0
+    spelled_item _ r c = absurd r.1.0
 
     spelled_sections : (d : Sections) → EverywhereIn IsReady d → AllByRecursion (Prints h.slots) (all_cases d) → most_counted_in d ≤ most →
         SectionsAreSpelled h d

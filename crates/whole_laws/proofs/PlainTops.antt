@@ -87,10 +87,7 @@ no_body ns f e = ap (plain_body ns f) e
 
 pub other_plain : (names : Function → List (List ℕ)) (t : Top) → IsNoFunction t → plain_top names t ≡ t
 other_plain names (T.Function f) n = absurd n
-other_plain names (T.Include bytes) n = refl
-other_plain names (T.Enum xs) n = refl
-other_plain names (T.Global g) n = refl
-other_plain names (T.Note bytes) n = refl
+other_plain names _ n = refl
 
 pub none_is_some : {A : Type 0} (o : Option A) (a : A) → o ≡ None → o ≡ Some a → ⊥
 none_is_some o a e i = let q : None ≡ Some a = sym e ∙ i in cc

@@ -14,9 +14,9 @@ use Rattle.c_tree.specs.declared.tree.UnaryOp.TheVariants.{Minus}
 use Rattle.c_tree.specs.Cases.{selector_source, all_cases}
 use Rattle.c_tree.specs.ExpressionTrees.{ExpressionTree, PlaceTree, NodeTree, Arguments, Typed, Var, Cell, Number, Character, EnumName, Text, Array, Read, Unary, Cast, Binary, Conditional, Assign, Update, Count, Comma, Call, NoArgument, Argument}
 use Rattle.c_tree.specs.Numerals.{number, least_constant, constant}
-use Rattle.c_tree.specs.TestTrees.{TestTree, Source, On, Off, AndOff, OrOn, SelectorTree, Selects, Pick}
+use Rattle.c_tree.specs.TestTrees.{TestTree, Source, SelectorTree, Selects, Pick}
 use Rattle.c_tree.specs.TextExpressions.{slot_name, home_name}
-use Rattle.c_tree.specs.Trees.{Tree, Forest, Nil, Then, Sections, NoSection, Section, Evaluate, Return, If, While, Do, For, Switch, Block, Local, Break, Continue, Goto, Mark, Arm, Leap, Land, Arrival, Note}
+use Rattle.c_tree.specs.Trees.{Tree, Forest, Nil, Then, Sections, NoSection, Section, Evaluate, Return, If, While, Do, For, Switch, Block, Local, Break, Continue, Goto, Mark, Arm, Note}
 use Rattle.c_tree.specs.Everywhere.{Everywhere, EverywhereOf, EverywhereIn}
 use Rattle.c_tree.proofs.NumeralLaws.{constant_pos}
 use Rattle.c_resolved_defs.specs.Within.{TestExpression}
@@ -121,10 +121,7 @@ module _ (old new : List Slot) (name : (k : ℕ) → IsName (slot_name old k) �
 
   test_over : (t : TestTree) → TestPrints old t → TestExpression A t
   test_over (Source e) h = full_over 1 e h
-  test_over (On l) h = absurd h
-  test_over (Off l) h = absurd h
-  test_over (AndOff l t) h = absurd h
-  test_over (OrOn l t) h = absurd h
+  test_over _ h = absurd h
 
   selector_over : (s : SelectorTree) → SelectorPrints old s → A (selector_source s)
   selector_over (Selects e) h = full_over 1 e h
@@ -171,9 +168,7 @@ module _ (f : Function) (new : List Slot) (name : (k : ℕ) → IsName (slot_nam
     item_prints (Goto l) h = tt
     item_prints (Mark l) h = tt
     item_prints (Arm l e) h = absurd h
-    item_prints (Leap l) h = tt
-    item_prints (Land l) h = tt
-    item_prints (Arrival e) h = tt
+    item_prints _ h = tt
 
     sections_print : (c : Sections) → SectionsAreSpelled f c → EverywhereIn Q c × AllByRecursion (λ e. Prints new e) (all_cases c)
     sections_print NoSection h = (tt, tt)
@@ -193,10 +188,7 @@ number_prints ULong n e r = let a = r.to_greatest in let b : n ≤ 1844674407370
 least_prints : (slots : List Slot) (k : IntKind) → promoted k ≡ k → Prints slots (least_constant k)
 least_prints slots Char e = cc
 least_prints slots UChar e = cc
-least_prints slots Int e = (omega arith, omega arith)
-least_prints slots UInt e = (omega arith, omega arith)
-least_prints slots Long e = (omega arith, omega arith)
-least_prints slots ULong e = (omega arith, omega arith)
+least_prints slots _ e = (omega arith, omega arith)
 
 pub constant_prints : (slots : List Slot) (k : IntKind) (z : ℤ) → promoted k ≡ k → IsInRange k z → Prints slots (constant k z)
 constant_prints slots k (pos n) e r = subst (Prints slots) (sym (constant_pos k n)) (number_prints k n e r)

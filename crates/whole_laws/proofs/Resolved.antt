@@ -27,10 +27,7 @@ use Rattle.whole_laws.proofs.SameTops.{same_file}
 
 own_top : (ts : List Top) (names : Function → List (List ℕ)) (t : Top) → IsTopOwn ts names t → IsOwnTop (HasOwnNames ts) names t
 own_top ts names (T.Function g) h = h
-own_top ts names (T.Include bytes) h = tt
-own_top ts names (T.Enum xs) h = tt
-own_top ts names (T.Global g) h = tt
-own_top ts names (T.Note bytes) h = tt
+own_top ts names _ h = tt
 
 own_tops : (ts : List Top) (names : Function → List (List ℕ)) (us : List Top) → AllByRecursion (IsTopOwn ts names) us →
     AllByRecursion (IsOwnTop (HasOwnNames ts) names) us

@@ -39,10 +39,7 @@ agrees_over f h g k d e a s = agree_over f h g k d e (a (sym (λ i. bytes_eq (d.
 
 other_agrees : (h : Function) (t : Top) → IsNoFunction t → AgreesWith h t
 other_agrees h (T.Function g) n = absurd n
-other_agrees h (T.Include bytes) n = tt
-other_agrees h (T.Enum xs) n = tt
-other_agrees h (T.Global g) n = tt
-other_agrees h (T.Note bytes) n = tt
+other_agrees h _ n = tt
 
 agrees_later : {f h : Function} {ts us : List Top} → SameDeclaration f h → SameFile ts us → Each (AgreesWith f) ts → Each (AgreesWith h) us
 agrees_later d sf_none a = tt
@@ -51,17 +48,11 @@ agrees_later {f} {h} d (sf_other t n r) a = (other_agrees h t n, agrees_later d 
 
 other_declares : (t : Top) (ts : List Top) → IsNoFunction t → DeclarationsAgree (t ∷ ts) → DeclarationsAgree ts
 other_declares (T.Function g) ts n a = absurd n
-other_declares (T.Include bytes) ts n a = a
-other_declares (T.Enum xs) ts n a = a
-other_declares (T.Global g) ts n a = a
-other_declares (T.Note bytes) ts n a = a
+other_declares _ ts n a = a
 
 also_declares : (t : Top) (ts : List Top) → IsNoFunction t → DeclarationsAgree ts → DeclarationsAgree (t ∷ ts)
 also_declares (T.Function g) ts n a = absurd n
-also_declares (T.Include bytes) ts n a = a
-also_declares (T.Enum xs) ts n a = a
-also_declares (T.Global g) ts n a = a
-also_declares (T.Note bytes) ts n a = a
+also_declares _ ts n a = a
 
 pub declarations_over : {ts us : List Top} → SameFile ts us → DeclarationsAgree ts → DeclarationsAgree us
 declarations_over sf_none a = tt
@@ -120,10 +111,7 @@ module _ (p : Function → Bool) (same : (f h : Function) → SameDeclaration f 
       by_top : (t : Top) → IsNoFunction t → SameFound (first_function p m ts) (first_function p m us) →
           SameFound (first_function p m (t ∷ ts)) (first_function p m (t ∷ us))
       by_top (T.Function g) n e = absurd n
-      by_top (T.Include bytes) n e = e
-      by_top (T.Enum xs) n e = e
-      by_top (T.Global g) n e = e
-      by_top (T.Note bytes) n e = e
+      by_top _ n e = e
 
 function_over : (m : List ℕ) {ts us : List Top} → SameFile ts us → SameFound (the_function m ts) (the_function m us)
 function_over m {ts} {us} r =

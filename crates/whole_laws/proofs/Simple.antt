@@ -2,7 +2,7 @@
 use Rattle.std.proofs.Common.{◌≡◌, ℕ, ◌+◌, Bool, List, [], ◌∷◌, ◌++◌, Option, Some, None, refl, sym, subst}
 use Rattle.c_tree.specs.declared.tree.Branch.{Branch}
 use Rattle.c_tree.specs.declared.tree.Branch.TheVariants as B
-use Rattle.c_tree.specs.Trees.{Tree, Forest, Nil, Then, Sections, NoSection, Section, Evaluate, Return, If, While, Do, For, Switch, Block, Local, Break, Continue, Goto, Mark, Arm, Leap, Land, Arrival, Note}
+use Rattle.c_tree.specs.Trees.{Tree, Forest, Nil, Then, Sections, NoSection, Section, If, While, Do, For, Switch, Block}
 use Rattle.c_tree.specs.Everywhere.{Everywhere, EverywhereOf, EverywhereIn}
 use Rattle.c_tree.specs.WellMade.{IsPlainFor}
 use Rattle.report_moves.specs.declared.moves.MoveKind.TheVariants.{Z1, Z2}
@@ -51,18 +51,7 @@ module _ (bar : ℕ → Bool) where
         (r, subst (Everywhere RepeatsNone) (sym h.0.0) tt, none_from 0 a (none_under i B.Body (choices_from bar 0 a) e) h.2)
     none_in i (Switch s c) r e h = (r, none_among i 0 c e h.1)
     none_in i (Block a) r e h = (r, none_from 0 a (none_under i B.Body (choices_from bar 0 a) e) h.1)
-    none_in i (Evaluate x) r e h = r
-    none_in i (Return x) r e h = r
-    none_in i (Local x es) r e h = r
-    none_in i Break r e h = r
-    none_in i Continue r e h = r
-    none_in i (Goto l) r e h = r
-    none_in i (Mark l) r e h = r
-    none_in i (Arm l x) r e h = r
-    none_in i (Leap l) r e h = r
-    none_in i (Land l) r e h = r
-    none_in i (Arrival x) r e h = r
-    none_in i (Note bs) r e h = r
+    none_in i _ r e h = r
 
     none_among : (i k : ℕ) (c : Sections) → choices_of_sections bar i k c ≡ [] → EverywhereIn IsPlainFor c → EverywhereIn RepeatsNone c
     none_among i k NoSection e h = tt

@@ -2,7 +2,7 @@
 use Rattle.std.proofs.Common.{◌≡◌, eqb, List, [], ◌++◌, Option, Some, None, refl, sym, ap, ◌∙◌, inl, inr}
 use Rattle.c_tree.specs.declared.tree.Item.{Item}
 use Rattle.c_tree.specs.ExpressionTrees.{ExpressionTree}
-use Rattle.c_tree.specs.TestTrees.{TestTree, Source, On, Off, AndOff, OrOn}
+use Rattle.c_tree.specs.TestTrees.{TestTree, Source, On}
 use Rattle.c_tree.specs.Trees.{Tree, Forest, Nil, Then, Sections, NoSection, Section, If, While, Do, For, Switch, Block, Goto, Mark, Arm, Leap, Land, trees_of}
 use Rattle.c_tree.specs.WellMade.{IsWellMade}
 use Rattle.move_order_laws.specs.Skeletons.{test_source, reduced_selector, reduced, if_skeleton, do_skeleton, goto_condition, or_statement, arm_skeleton, skeleton, skeleton_of, skeleton_in}
@@ -31,9 +31,7 @@ statement_by (Source e) (Then (Goto l) (Then x a)) b xs h = h
 statement_by (Source e) Nil b xs h = h
 statement_by (Source e) (Then _ a) b xs h = h
 statement_by (On l) a b xs h = h
-statement_by (Off l) a b xs h = h
-statement_by (AndOff l t) a b xs h = h
-statement_by (OrOn l t) a b xs h = h
+statement_by _ a b xs h = h
 
 if_notes : (o : Option ExpressionTree) (a b : Forest) → notes (if_skeleton o a b) ≡ notes a ++ notes b
 if_notes None a b = notes_join a b

@@ -98,17 +98,11 @@ module _ (counts : FlatCounts) (p : Program) (r : IsResolvedWith counts p) where
 
   source_top : (t : Top) → IsResolvedTop counts p.tops t → IsSourceTop t
   source_top (T.Function f) g = source_function f g
-  source_top (T.Include bytes) g = tt
-  source_top (T.Enum xs) g = tt
-  source_top (T.Global x) g = tt
-  source_top (T.Note bytes) g = tt
+  source_top _ g = tt
 
   kinded_top : (t : Top) → IsTopKinded p t → IsKindedTop (code_of p) t
   kinded_top (T.Function f) g = g
-  kinded_top (T.Include bytes) g = tt
-  kinded_top (T.Enum xs) g = tt
-  kinded_top (T.Global x) g = tt
-  kinded_top (T.Note bytes) g = tt
+  kinded_top _ g = tt
 
   pub resolved_source : IsSource p
   resolved_source = record {

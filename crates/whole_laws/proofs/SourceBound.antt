@@ -9,7 +9,7 @@ use Rattle.c_tree.specs.declared.tree.Home.TheVariants as H
 use Rattle.c_tree.specs.Cases.{selector_source, all_cases}
 use Rattle.c_tree.specs.ExpressionTrees.{ExpressionTree, Typed, Number, Character, EnumName, Text, Array, Read, Unary, Cast, Binary, Conditional, Assign, Update, Count, Comma, Call}
 use Rattle.c_tree.specs.TextExpressions.{slot_name, home_name}
-use Rattle.c_tree.specs.Trees.{Tree, Forest, Nil, Then, Sections, NoSection, Section, Evaluate, Return, If, While, Do, For, Switch, Block, Local, Break, Continue, Goto, Mark, Arm, Leap, Land, Arrival, Note}
+use Rattle.c_tree.specs.Trees.{Tree, Forest, Nil, Then, Sections, NoSection, Section, Evaluate, Return, If, While, Do, For, Switch, Block, Local, Arm}
 use Rattle.c_tree.specs.Everywhere.{Everywhere, EverywhereOf, EverywhereIn}
 use Rattle.c_resolved_defs.specs.Names.{home_of}
 use Rattle.c_resolved_defs.specs.Scopes.{Meaning, AConstant, AVariable, AFunction, Scope, found, look_up, bind, NameIsBound, IsBound, behind, behind_all, inside, ItemIsBound, AreBound, SectionsAreBound}
@@ -155,14 +155,7 @@ module _ (old new : List Slot) (p n : ℕ) (base last : List Scope)
     item_seen (Evaluate e) ss o h i = (seen ss o e h, o)
     item_seen (Return e) ss o h i = (some_map (IsBound old ss) A (seen ss o) e h, o)
     item_seen (Arm l e) ss o h i = (some_map (IsBound old ss) A (seen ss o) e h, o)
-    item_seen Break ss o h i = (tt, o)
-    item_seen Continue ss o h i = (tt, o)
-    item_seen (Goto l) ss o h i = (tt, o)
-    item_seen (Mark l) ss o h i = (tt, o)
-    item_seen (Leap l) ss o h i = (tt, o)
-    item_seen (Land l) ss o h i = (tt, o)
-    item_seen (Arrival e) ss o h i = (tt, o)
-    item_seen (Note bs) ss o h i = (tt, o)
+    item_seen _ ss o h i = (tt, o)
 
     sections_seen : (c : Sections) (ss : List Scope) → Over ss → SectionsAreBound old ss c → EverywhereIn (DeclaresIn p n) c →
         EverywhereIn HasNames c × AllByRecursion A (all_cases c)

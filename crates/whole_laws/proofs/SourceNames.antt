@@ -79,23 +79,7 @@ get_dropped (suc n) (t ∷ ss) k s e = let i : suc (n + k) ≡ suc n + k = omega
 
 label_there : (f : Function) (x : Tree) → ItemIsSpelled f x → Each (λ l. IsName (label_name f l)) (marked_label x)
 label_there f (Mark l) h = (h, tt)
-label_there f (Evaluate e) h = tt
-label_there f (Return e) h = tt
-label_there f (If t a b) h = tt
-label_there f (While t a) h = tt
-label_there f (Do a t) h = tt
-label_there f (For first t u a) h = tt
-label_there f (Switch s c) h = tt
-label_there f (Block a) h = tt
-label_there f (Local k o) h = tt
-label_there f Break h = tt
-label_there f Continue h = tt
-label_there f (Goto l) h = tt
-label_there f (Arm l e) h = tt
-label_there f (Leap l) h = tt
-label_there f (Land l) h = tt
-label_there f (Arrival e) h = tt
-label_there f (Note bs) h = tt
+label_there f _ h = tt
 
 pub labels_named : (f : Function) (a : Forest) → AreSpelled f a → gathered marked_label a ≡ numbers_from 0 (length f.labels) → (l : ℕ) →
     l < length f.labels → IsName (get_or f.labels l [])
@@ -114,23 +98,7 @@ named_slot ss k (Some s) e given h = subst IsName (sym (ap (λ q. option_map_or 
 
 slot_there : (f : Function) (x : Tree) → ItemIsSpelled f x → Each (λ k. IsName (slot_name f.slots k)) (declared_slot x)
 slot_there f (Local k o) h = (named_slot f.slots k (slice_get f.slots k) refl o h, tt)
-slot_there f (Evaluate e) h = tt
-slot_there f (Return e) h = tt
-slot_there f (If t a b) h = tt
-slot_there f (While t a) h = tt
-slot_there f (Do a t) h = tt
-slot_there f (For first t u a) h = tt
-slot_there f (Switch s c) h = tt
-slot_there f (Block a) h = tt
-slot_there f Break h = tt
-slot_there f Continue h = tt
-slot_there f (Goto l) h = tt
-slot_there f (Mark l) h = tt
-slot_there f (Arm l e) h = tt
-slot_there f (Leap l) h = tt
-slot_there f (Land l) h = tt
-slot_there f (Arrival e) h = tt
-slot_there f (Note bs) h = tt
+slot_there f _ h = tt
 
 pub slots_named : (f : Function) (a : Forest) → AreSpelled f a → f.params ≤ length f.slots →
     gathered declared_slot a ≡ numbers_from f.params (length f.slots - f.params) → Each (λ (s : Slot). IsName s.name) (drop f.params f.slots)

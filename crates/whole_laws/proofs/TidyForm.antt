@@ -186,18 +186,7 @@ module _ (h : Function) where
     plain_item_of (For first t u a) r = (r.0.0, plain_of first r.1, plain_of a r.2)
     plain_item_of (Switch s c) r = (r.0.0, plain_in c r.1)
     plain_item_of (Block a) r = (r.0.0, plain_of a r.1)
-    plain_item_of (Evaluate e) r = r.0
-    plain_item_of (Return e) r = r.0
-    plain_item_of (Local x es) r = r.0
-    plain_item_of Break r = r.0
-    plain_item_of Continue r = r.0
-    plain_item_of (Goto l) r = r.0
-    plain_item_of (Mark l) r = r.0
-    plain_item_of (Arm l e) r = r.0
-    plain_item_of (Leap l) r = r.0
-    plain_item_of (Land l) r = r.0
-    plain_item_of (Arrival e) r = r.0
-    plain_item_of (Note bs) r = r.0
+    plain_item_of _ r = r.0
 
     plain_in : (c : Sections) → EverywhereIn Ready c → EverywhereIn IsPlainItem c
     plain_in NoSection r = tt
@@ -278,18 +267,7 @@ module _ (g : Tree → List ℕ) (none : g Break ≡ []) where
         (gathered_tidy first) (gathered_tidy a)
     gathered_tidy_of (Switch s c) = gathered_tidy_in c
     gathered_tidy_of (Block a) = gathered_tidy a
-    gathered_tidy_of (Evaluate e) = refl
-    gathered_tidy_of (Return e) = refl
-    gathered_tidy_of (Local x es) = refl
-    gathered_tidy_of Break = refl
-    gathered_tidy_of Continue = refl
-    gathered_tidy_of (Goto l) = refl
-    gathered_tidy_of (Mark l) = refl
-    gathered_tidy_of (Arm l e) = refl
-    gathered_tidy_of (Leap l) = refl
-    gathered_tidy_of (Land l) = refl
-    gathered_tidy_of (Arrival e) = refl
-    gathered_tidy_of (Note bs) = refl
+    gathered_tidy_of _ = refl
 
     gathered_tidy_in : (c : Sections) → gathered_in g (tidy_sections c) ≡ gathered_in g c
     gathered_tidy_in NoSection = refl

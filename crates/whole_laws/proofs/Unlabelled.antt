@@ -1,7 +1,7 @@
 -- What the items of a function have without its labels.
 use Rattle.std.proofs.Common.{◌≡◌, true≢false, List, Option, sym, refl, ap}
 use Rattle.c_tree.specs.ExpressionTrees.{ExpressionTree}
-use Rattle.c_tree.specs.TestTrees.{TestTree, Source, On, Off, AndOff, OrOn, SelectorTree, Selects, Pick}
+use Rattle.c_tree.specs.TestTrees.{TestTree, Source, SelectorTree, Selects, Pick}
 use Rattle.c_tree.specs.Trees.{Tree, Forest, Nil, Then, Sections, NoSection, Section, Evaluate, Return, If, While, Do, For, Switch, Block, Local, Break, Continue, Goto, Mark, Arm, Leap, Land, Arrival, Note}
 use Rattle.c_tree.specs.Everywhere.{Everywhere, EverywhereOf, EverywhereIn}
 use Rattle.c_tree.specs.InRange.{IsUnguarded}
@@ -89,24 +89,15 @@ IsPlainItem x = IsUnguarded x
 module _ (s : Setting) where
   plain_if : (t : TestTree) (a b c d : Forest) → IsCalmItem s (If t a b) → IsPlainItem (If t c d)
   plain_if (Source e) a b c d h = tt
-  plain_if (On l) a b c d h = absurd h
-  plain_if (Off l) a b c d h = absurd h
-  plain_if (AndOff l t) a b c d h = absurd h
-  plain_if (OrOn l t) a b c d h = absurd h
+  plain_if _ a b c d h = absurd h
 
   plain_while : (t : TestTree) (a b : Forest) → IsCalmItem s (While t a) → IsPlainItem (While t b)
   plain_while (Source e) a b h = tt
-  plain_while (On l) a b h = absurd h
-  plain_while (Off l) a b h = absurd h
-  plain_while (AndOff l t) a b h = absurd h
-  plain_while (OrOn l t) a b h = absurd h
+  plain_while _ a b h = absurd h
 
   plain_do : (t : TestTree) (a b : Forest) → IsCalmItem s (Do a t) → IsPlainItem (Do b t)
   plain_do (Source e) a b h = tt
-  plain_do (On l) a b h = absurd h
-  plain_do (Off l) a b h = absurd h
-  plain_do (AndOff l t) a b h = absurd h
-  plain_do (OrOn l t) a b h = absurd h
+  plain_do _ a b h = absurd h
 
   plain_switch : (t : SelectorTree) (c d : Sections) → IsCalmItem s (Switch t c) → IsPlainItem (Switch t d)
   plain_switch (Selects e) c d h = tt
@@ -124,13 +115,7 @@ module _ (s : Setting) where
   plain_leaf Break i h = tt
   plain_leaf Continue i h = tt
   plain_leaf (Note bs) i h = tt
-  plain_leaf (If t a b) i h = absurd i
-  plain_leaf (While t a) i h = absurd i
-  plain_leaf (Do a t) i h = absurd i
-  plain_leaf (For first t u a) i h = absurd i
-  plain_leaf (Switch t c) i h = absurd i
-  plain_leaf (Block a) i h = absurd i
-  plain_leaf (Mark l) i h = absurd i
+  plain_leaf _ i h = absurd i
 
   pub plain_left : IsLeft (IsCalmItem s) IsPlainItem
   plain_left = record {

@@ -3,7 +3,7 @@ use Rattle.std.proofs.Common.{◌≡◌, Bool, true, false, not, ◌&&◌, cond,
 use Rattle.std.specs.Prelude.{IfSome}
 use Rattle.c_tree.specs.declared.tree.Slot.{Slot}
 use Rattle.c_tree.specs.ExpressionTrees.{ExpressionTree}
-use Rattle.c_tree.specs.Trees.{Tree, Forest, Nil, Then, Sections, NoSection, Section, Evaluate, Return, If, While, Do, For, Switch, Block, Local, Break, Continue, Goto, Mark, Arm, Leap, Land, Arrival, Note, join}
+use Rattle.c_tree.specs.Trees.{Tree, Forest, Nil, Then, Sections, NoSection, Section, If, While, Do, For, Switch, Block, Local, Break, Mark, join}
 use Rattle.flat_laws.specs.Unlabelled.{unlabelled, unlabelled_item, unlabelled_among}
 use Rattle.plain_laws.specs.Tidied.{last_break, without_last, give, tidy, tidy_item, tidy_sections}
 use Rattle.c_resolved_defs.specs.Within.{Each}
@@ -20,23 +20,7 @@ module _ (slots : List Slot) where
 
   behind_item_left : (x : Tree) (ss : List Scope) → behind_all slots ss (unlabelled_item x) ≡ behind slots ss x
   behind_item_left (Local k es) ss = refl
-  behind_item_left (Mark l) ss = refl
-  behind_item_left (If t a b) ss = refl
-  behind_item_left (While t a) ss = refl
-  behind_item_left (Do a t) ss = refl
-  behind_item_left (For first t u a) ss = refl
-  behind_item_left (Switch s c) ss = refl
-  behind_item_left (Block a) ss = refl
-  behind_item_left (Evaluate e) ss = refl
-  behind_item_left (Return e) ss = refl
-  behind_item_left Break ss = refl
-  behind_item_left Continue ss = refl
-  behind_item_left (Goto l) ss = refl
-  behind_item_left (Arm l e) ss = refl
-  behind_item_left (Leap l) ss = refl
-  behind_item_left (Land l) ss = refl
-  behind_item_left (Arrival e) ss = refl
-  behind_item_left (Note bs) ss = refl
+  behind_item_left _ ss = refl
 
   behind_left : (a : Forest) (ss : List Scope) → behind_all slots ss (unlabelled a) ≡ behind_all slots ss a
   behind_left Nil ss = refl
@@ -66,17 +50,7 @@ module _ (slots : List Slot) where
     bound_item_left (Switch s c) ss h = ((h.0, sections_left c (inside ss) h.1), tt)
     bound_item_left (Block a) ss h = (bound_left a (inside ss) h, tt)
     bound_item_left (Mark l) ss h = tt
-    bound_item_left (Local k es) ss h = (h, tt)
-    bound_item_left (Evaluate e) ss h = (h, tt)
-    bound_item_left (Return e) ss h = (h, tt)
-    bound_item_left Break ss h = (h, tt)
-    bound_item_left Continue ss h = (h, tt)
-    bound_item_left (Goto l) ss h = (h, tt)
-    bound_item_left (Arm l e) ss h = (h, tt)
-    bound_item_left (Leap l) ss h = (h, tt)
-    bound_item_left (Land l) ss h = (h, tt)
-    bound_item_left (Arrival e) ss h = (h, tt)
-    bound_item_left (Note bs) ss h = (h, tt)
+    bound_item_left _ ss h = (h, tt)
 
     sections_left : (c : Sections) (ss : List Scope) → SectionsAreBound slots ss c → SectionsAreBound slots ss (unlabelled_among c)
     sections_left NoSection ss h = tt
@@ -91,23 +65,7 @@ module _ (slots : List Slot) where
 
   behind_item_tidy : (x : Tree) (ss : List Scope) → behind slots ss (tidy_item x) ≡ behind slots ss x
   behind_item_tidy (Local k es) ss = refl
-  behind_item_tidy (If t a b) ss = refl
-  behind_item_tidy (While t a) ss = refl
-  behind_item_tidy (Do a t) ss = refl
-  behind_item_tidy (For first t u a) ss = refl
-  behind_item_tidy (Switch s c) ss = refl
-  behind_item_tidy (Block a) ss = refl
-  behind_item_tidy (Evaluate e) ss = refl
-  behind_item_tidy (Return e) ss = refl
-  behind_item_tidy Break ss = refl
-  behind_item_tidy Continue ss = refl
-  behind_item_tidy (Goto l) ss = refl
-  behind_item_tidy (Mark l) ss = refl
-  behind_item_tidy (Arm l e) ss = refl
-  behind_item_tidy (Leap l) ss = refl
-  behind_item_tidy (Land l) ss = refl
-  behind_item_tidy (Arrival e) ss = refl
-  behind_item_tidy (Note bs) ss = refl
+  behind_item_tidy _ ss = refl
 
   behind_tidy : (a : Forest) (ss : List Scope) → behind_all slots ss (tidy a) ≡ behind_all slots ss a
   behind_tidy Nil ss = refl
@@ -167,18 +125,7 @@ module _ (slots : List Slot) where
         )
     bound_item_tidy (Switch s c) ss h = (h.0, sections_tidy c (inside ss) h.1)
     bound_item_tidy (Block a) ss h = bound_tidy a (inside ss) h
-    bound_item_tidy (Mark l) ss h = h
-    bound_item_tidy (Local k es) ss h = h
-    bound_item_tidy (Evaluate e) ss h = h
-    bound_item_tidy (Return e) ss h = h
-    bound_item_tidy Break ss h = h
-    bound_item_tidy Continue ss h = h
-    bound_item_tidy (Goto l) ss h = h
-    bound_item_tidy (Arm l e) ss h = h
-    bound_item_tidy (Leap l) ss h = h
-    bound_item_tidy (Land l) ss h = h
-    bound_item_tidy (Arrival e) ss h = h
-    bound_item_tidy (Note bs) ss h = h
+    bound_item_tidy _ ss h = h
 
     sections_tidy : (c : Sections) (ss : List Scope) → SectionsAreBound slots ss c → SectionsAreBound slots ss (tidy_sections c)
     sections_tidy NoSection ss h = tt

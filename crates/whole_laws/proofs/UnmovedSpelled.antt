@@ -61,17 +61,7 @@ module _ (f : Function) where
     item_left (Switch s c) h = ((h.0, sections_left c h.1), tt)
     item_left (Block a) h = (spelled_left a h, tt)
     item_left (Mark l) h = tt
-    item_left (Evaluate e) h = (h, tt)
-    item_left (Return e) h = (h, tt)
-    item_left (Local k o) h = (h, tt)
-    item_left Break h = (h, tt)
-    item_left Continue h = (h, tt)
-    item_left (Goto l) h = (h, tt)
-    item_left (Arm l e) h = (h, tt)
-    item_left (Leap l) h = (h, tt)
-    item_left (Land l) h = (h, tt)
-    item_left (Arrival e) h = (h, tt)
-    item_left (Note bs) h = (h, tt)
+    item_left _ h = (h, tt)
 
     sections_left : (c : Sections) → SectionsAreSpelled f c → SectionsAreSpelled f (unlabelled_among c)
     sections_left NoSection h = tt
@@ -107,18 +97,7 @@ module _ (f : Function) where
     item_tidy (For first t u a) h = (subst (StartPrints f.slots) (sym (start_tidy f.slots first h.0)) h.0, h.1, h.2, spelled_tidy a h.3)
     item_tidy (Switch s c) h = (h.0, sections_tidy c h.1)
     item_tidy (Block a) h = spelled_tidy a h
-    item_tidy (Mark l) h = h
-    item_tidy (Evaluate e) h = h
-    item_tidy (Return e) h = h
-    item_tidy (Local k o) h = h
-    item_tidy Break h = h
-    item_tidy Continue h = h
-    item_tidy (Goto l) h = h
-    item_tidy (Arm l e) h = h
-    item_tidy (Leap l) h = h
-    item_tidy (Land l) h = h
-    item_tidy (Arrival e) h = h
-    item_tidy (Note bs) h = h
+    item_tidy _ h = h
 
     sections_tidy : (c : Sections) → SectionsAreSpelled f c → SectionsAreSpelled f (tidy_sections c)
     sections_tidy NoSection h = tt

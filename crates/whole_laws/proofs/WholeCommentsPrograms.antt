@@ -56,10 +56,7 @@ tops_moved (mt_more {t = t} {u = u} {ts = ts} {us = us} m r) c = both (top_notes
 module _ (names : Function → List (List ℕ)) where
   top_plain : (t : Top) → top_notes (plain_top names t) ≡ top_notes t
   top_plain (T.Function f) = plain_function_notes (names f) f
-  top_plain (T.Include bytes) = refl
-  top_plain (T.Enum xs) = refl
-  top_plain (T.Global g) = refl
-  top_plain (T.Note bytes) = refl
+  top_plain _ = refl
 
   tops_plain : (ts : List Top) → tops_notes (map (plain_top names) ts) ≡ tops_notes ts
   tops_plain [] = refl

@@ -31,9 +31,7 @@ same_slots (s ∷ ss) = (refl, same_slots ss)
 pub same_top : (t : Top) → SameTop t t
 same_top (T.Function f) = record { name = refl; result = refl; body = refl; slots = same_slots f.slots }
 same_top (T.Include b) = refl
-same_top (T.Enum es) = refl
-same_top (T.Global g) = refl
-same_top (T.Note b) = refl
+same_top _ = refl
 
 pub same_tops : (ts : List Top) → SameTops ts ts
 same_tops [] = tt
