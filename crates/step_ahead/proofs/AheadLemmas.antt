@@ -1,24 +1,24 @@
 -- What the steps of a statement come to, where its expression is computed at once.
-use Rattle.std.proofs.Common.{◌≡◌, ℕ, suc, ◌+◌, ◌≤◌, Bool, true, false, not, cond, List, [], ◌∷◌, Option, Some, refl, sym, ap, ◌∙◌, subst, arith}
+use Rattle.std.proofs.Common.{◌≡◌, ℕ, ◌+◌, Bool, true, false, not, cond, List, ◌∷◌, Option, Some, refl, sym, ap, ◌∙◌, subst, arith}
 use Rattle.c_tree.specs.ExpressionTrees.{ExpressionTree}
 use Rattle.c_tree.specs.Operators.{is_zero}
 use Rattle.c_tree.specs.TestTrees.{Source}
-use Rattle.c_tree.specs.Trees.{Tree, Forest, Evaluate, If, While, For}
+use Rattle.c_tree.specs.Trees.{Forest, Evaluate, If, While}
 use Rattle.jump_meaning.specs.Values as Meant
 use Rattle.jump_meaning.specs.Values.{Integer}
 use Rattle.jump_meaning.specs.Code.{Code, items_of}
 use Rattle.jump_meaning.specs.World.{World}
 use Rattle.jump_meaning.specs.Operations.{holds}
 use Rattle.jump_meaning.specs.Effects.{Computes, Drops}
-use Rattle.jump_meaning.specs.Tasks.{Task, Works, Runs, Branches, Turns, Loops, Heads, WhileLoop, ForLoop, items, turn}
-use Rattle.jump_meaning.specs.Step.{Guards, Frame, At, Takes, View, view, move}
+use Rattle.jump_meaning.specs.Tasks.{Task, Works, Runs, Branches, Turns, Loops, Heads, WhileLoop, ForLoop, items}
+use Rattle.jump_meaning.specs.Step.{Guards, Frame, At, Takes, view, move}
 use Rattle.jump_meaning.specs.Runs.{run}
 use Rattle.step_memory.specs.declared.store.Store.{Store}
 use Rattle.step_memory.specs.declared.value.Value.{Value}
-use Rattle.step_memory.specs.Stores.{names_of, HoldsWorld}
+use Rattle.step_memory.specs.Stores.{names_of}
 use Rattle.step_memory.specs.Values.{values_of}
 use Rattle.step_tasks.specs.declared.work.Work.{Work}
-use Rattle.step_tasks.specs.Tasks.{work_of, tasks_of, loop_of, head_of}
+use Rattle.step_tasks.specs.Tasks.{tasks_of}
 use Rattle.step_ahead.specs.declared.marks.Computed.{Computed}
 use Rattle.step_ahead.specs.Taken.{IsComputed, IsEvaluated}
 use Rattle.step_ahead.proofs.RunLemmas.{run_parts}

@@ -3,3 +3,4 @@ pub mod FormLemmas
 pub mod ReadLemmas
 pub mod StoredLemmas
 pub mod AheadLemmas
+pub mod PassLemmas

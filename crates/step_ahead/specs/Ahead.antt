@@ -1,5 +1,5 @@
 -- What several steps of a run come to, which show nothing.
-use Rattle.std.specs.Prelude.{ℕ, ◌+◌, ◌≤◌, ◌≡◌, Bool, not, List, ◌∷◌}
+use Rattle.std.specs.Prelude.{ℕ, ◌+◌, ◌≤◌, ◌≡◌, not, List, ◌∷◌}
 use Rattle.c_tree.specs.ExpressionTrees.{ExpressionTree}
 use Rattle.c_tree.specs.Operators.{is_zero}
 use Rattle.jump_meaning.specs.Values as Meant
@@ -30,6 +30,13 @@ pub record GoesOn (s t : Store) (n : ℕ) (tasks left : List Work) (values new :
       → (vs : Meant.Owner → Meant.Variable)
       × (run P n (At f g (tasks_of tasks) (values_of (names_of s) values) cs w) ≡ At f g (tasks_of left) (values_of (names_of s) new) cs
       (record w { variables = vs }))
+      × HoldsWorld t (record w { variables = vs })
+
+-- after n steps the tasks and the values pending are these, and the variables those of the store
+pub record Passes (s t : Store) (n : ℕ) (k j : List Task) (values new : List Value) : Type 0 where
+  pub comes : (P : Code) (f : List ℕ) (g : Guards) (cs : List Frame) (w : World) → HoldsWorld s w
+      → (vs : Meant.Owner → Meant.Variable)
+      × (run P n (At f g k (values_of (names_of s) values) cs w) ≡ At f g j (values_of (names_of s) new) cs (record w { variables = vs }))
       × HoldsWorld t (record w { variables = vs })
 
 -- the number of an expression isn't 0, or is, after so many steps and some more, at most so many together

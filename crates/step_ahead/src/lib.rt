@@ -2,11 +2,13 @@
 #![tactic(auto)]
 
 mod asking;
+mod beginning;
 mod computing;
 mod finding;
 mod going;
 mod loops;
 mod marks;
+mod numbers;
 mod pushing;
 mod statements;
 mod storing;
@@ -14,4 +16,5 @@ mod storing;
 pub use computing::{DEPTH, computed};
 pub use going::advance;
 pub use marks::Computed;
+pub use numbers::fitted;
 pub use storing::evaluated;

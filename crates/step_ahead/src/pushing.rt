@@ -2,9 +2,9 @@ ghost use Rattle.std.specs.Prelude.{◌≡◌, ◌∷◌, List, cond, OnOk};
 ghost use Rattle.c_tree.specs.Trees.{tree_of, trees_of};
 ghost use Rattle.jump_meaning.specs.Tasks.{items};
 ghost use Rattle.step_tasks.specs.declared.work.Work.{Work as TheWork};
-ghost use Rattle.step_tasks.specs.Tasks.{loop_of, tasks_of};
+ghost use Rattle.step_tasks.specs.Tasks.{computes, loop_of, tasks_of};
 
-use c_tree::Item;
+use c_tree::{Expression, Item};
 use c_types::Memory;
 use step_tasks::{Stage, Task, Tasks, Work};
 
@@ -16,6 +16,16 @@ pub fn add_items<'a>(tasks: &mut Tasks<'a>, list: &'a [Item]) -> Result<(), Memo
         return Ok(());
     }
     tasks.push(Work::Items(list))
+}
+
+/// The expressions, one after the other, before the other tasks.
+pub fn add_arguments<'a>(tasks: &mut Tasks<'a>, list: &'a [Expression]) -> Result<(), Memory>
+    ensures ok { OnOk result (tasks_of tasks.new ≡ computes list.now (tasks_of tasks.old)) }
+{
+    if list.is_empty() {
+        return Ok(());
+    }
+    tasks.push(Work::Arguments(list))
 }
 
 /// The work on top goes.

@@ -1,6 +1,6 @@
 ghost use Rattle.std.specs.Prelude.{◌≡◌, ◌≤◌, pos, Bool, Ok, MatchOption, IfSome, FitsSigned};
 ghost use Rattle.std.specs.Int.{w128};
-ghost use Rattle.c_types.specs.Numbers.{arith_result};
+ghost use Rattle.c_types.specs.Numbers.{IsInRange, arith_result};
 ghost use Rattle.c_tree.specs.declared.tree.Expression.{out-Expression};
 ghost use Rattle.c_tree.specs.declared.tree.Node as N;
 ghost use Rattle.c_tree.specs.ExpressionTrees.{expression_tree};
@@ -11,9 +11,9 @@ ghost use Rattle.step_ahead.specs.Taken.{IsEvaluated};
 use crate::computing::{DEPTH, computed, found};
 use crate::finding::Found;
 use crate::marks::{after, operand_kind};
-use c_constants::binary_result;
+use crate::numbers::{difference_in, marked, sum_in};
 use c_tree::{BinaryOp, Expression, Node, Place};
-use c_types::{ArithOp, IntKind, Memory, arith, promote};
+use c_types::{ArithOp, IntKind, Memory, Trap, promote};
 use step_memory::Store;
 
 /// Stores a number in a cell, where that takes at most so many steps.
@@ -41,10 +41,11 @@ fn assigned(
     ensures names { store.new.names ≡ store.old.names }
     ensures done { MatchOption result (store.new ≡ store.old) (λ n. (n ≤ most) × ((out-Expression e.now).node ≡ N.Assign place.now value.now → IsEvaluated store.old store.new (expression_tree e.now) n)) }
 {
-    let Some(found) = found(store, place) else {
+    // the value first, since that may be a call, which ends this at once
+    let Some(x) = computed(store, value, DEPTH) else {
         return None;
     };
-    let Some(x) = computed(store, value, DEPTH) else {
+    let Some(found) = found(store, place) else {
         return None;
     };
     let steps = found.steps as u64 + x.steps as u64 + 3;
@@ -73,11 +74,23 @@ fn updated(
         return None;
     };
     let (j, k) = (operand_kind(e.kind), operand_kind(value.kind));
-    let number = binary_result(BinaryOp::Arith(op), j, k, old, x.number);
+    let number = marked(BinaryOp::Arith(op), j, k, old, x.number);
     let Some(y) = after(number, found.steps, x.steps, 5) else {
         return None;
     };
     stored(store, found, y.number, y.steps as u64, most)
+}
+
+/// What `++` or `--` makes of a number of the kind.
+fn stepped(kind: IntKind, old: i128, up: bool) -> Result<i128, Trap>
+    requires { IsInRange kind old }
+    ensures { result ≡ arith_result (count_mark up) kind old (pos 1) }
+{
+    if up {
+        sum_in(kind, old, 1)
+    } else {
+        difference_in(kind, old, 1)
+    }
 }
 
 /// What `++` or `--` makes of a number of the kind, if there is no trap.
@@ -88,8 +101,7 @@ fn next(kind: IntKind, old: i128, up: bool) -> Option<i128>
     if !kind.contains(old) {
         return None;
     }
-    let op = if up { ArithOp::Add } else { ArithOp::Sub };
-    match arith(op, kind, old, 1) {
+    match stepped(kind, old, up) {
         Ok(number) => Some(number),
         Err(_) => None,
     }

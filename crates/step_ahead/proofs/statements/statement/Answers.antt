@@ -1,19 +1,11 @@
-use Rattle.std.proofs.Common.{◌∷◌, cond, Option, Some, option_map, refl, ap, sym, ◌∙◌, subst, arith}
+use Rattle.std.proofs.Common.{◌∷◌, option_map, ap, ◌∙◌}
 use Rattle.std.proofs.lemmas.Result.{IfOk-weaker}
 use Rattle.c_tree.specs.ExpressionTrees.{expression_tree}
-use Rattle.c_tree.specs.TestTrees.{Source, test_tree}
-use Rattle.c_tree.specs.Trees.{Evaluate, If, While, For, tree_of, trees_of}
-use Rattle.c_tree.proofs.ExpressionLaws.{test-Source}
-use Rattle.c_tree.proofs.TreeLaws.{tree-Evaluate, tree-If, tree-While, tree-For, trees-more}
-use Rattle.jump_meaning.specs.Effects.{Computes}
-use Rattle.jump_meaning.specs.Tasks.{Works, Runs, Loops, Heads, WhileLoop, ForLoop, items}
-use Rattle.step_tasks.specs.Tasks.{work_of, task_of, tasks_of, loop_of, head_of}
-use Rattle.step_tasks.specs.declared.work.Task.TheVariants as My
-use Rattle.step_tasks.proofs.TopLemmas.{below, on_top, first_and_rest}
-use Rattle.step_memory.specs.Stores.{names_of}
-use Rattle.step_memory.specs.Values.{values_of}
-use Rattle.step_ahead.specs.Ahead.{Reaches}
-use Rattle.step_ahead.proofs.AheadLemmas.{stays, reaches_as, if_reaches, while_reaches, again_reaches, head_reaches, statement_reaches, step_reaches, goes_on, computed_goes_on}
+use Rattle.c_tree.specs.Trees.{Return, tree_of, trees_of}
+use Rattle.c_tree.proofs.TreeLaws.{tree-Evaluate, tree-Return}
+use Rattle.jump_meaning.specs.Tasks.{Runs, items}
+use Rattle.step_tasks.specs.Tasks.{tasks_of}
+use Rattle.step_ahead.proofs.AheadLemmas.{stays, goes_on}
 use Rattle.step_ahead.proofs.statements.statement.Goals as goal
 
 pub returns-in-Evaluate-clause-ok : goal.returns-in-Evaluate-clause-ok
@@ -22,28 +14,17 @@ returns-in-Evaluate-clause-ok c =
     (λ n w x below q e. w x below q (e ∙ ap (λ y. Runs y ∷ items (trees_of c.args.rest.now) (tasks_of below))
     (ap tree_of c.in-Evaluate.is ∙ tree-Evaluate c.in-Evaluate.e))) c.evaluate.ensures.ok
 
-pub returns-in-Source-clause-ok : goal.returns-in-Source-clause-ok
-returns-in-Source-clause-ok c =
-    let t = Source (expression_tree c.in-Source.e) in
-    let i = ap tree_of c.in-If.is ∙ tree-If c.in-If.test c.in-If.a c.in-If.b ∙
-    ap (λ y. If y (trees_of c.in-If.a) (trees_of c.in-If.b)) (ap test_tree c.in-Source.is ∙ test-Source c.in-Source.e)
-    ∙ ap (λ xs. If t (trees_of xs) (trees_of c.in-If.b)) (sym c.as_slice.ensures.value) ∙
-    ap (λ xs. If t (trees_of c.as_slice.result.now) (trees_of xs)) (sym c.as_slice-in-Source.ensures.value) in
-    IfOk-weaker c.branch-tasks.result _ _ (λ n w x below q e. w x below q
-    (e ∙ ap (λ y. Runs y ∷ items (trees_of c.args.rest.now) (tasks_of below)) i)) c.branch-tasks.ensures.ok
+pub returns-in-Some-clause-ok : goal.returns-in-Some-clause-ok
+returns-in-Some-clause-ok c =
+    let i = ap tree_of c.in-Return.is ∙ tree-Return c.in-Return.value ∙ ap (λ o. Return (option_map expression_tree o)) c.in-Some.is in
+    IfOk-weaker c.begin_return.result _ _
+    (λ n w x below q e. w x below q (e ∙ ap (λ y. Runs y ∷ items (trees_of c.args.rest.now) (tasks_of below)) i)) c.begin_return.ensures.ok
 
-pub returns-in-Source-test-clause-ok : goal.returns-in-Source-test-clause-ok
-returns-in-Source-test-clause-ok c =
-    let i = ap tree_of c.in-While.is ∙ tree-While c.in-While.test c.in-While.a ∙
-    ap (λ t. While t (trees_of c.in-While.a)) (ap test_tree c.in-Source-test.is ∙ test-Source c.in-Source-test.e)
-    ∙ ap (λ xs. While (Source (expression_tree c.in-Source-test.e)) (trees_of xs)) (sym c.as_slice-in-Source-test.ensures.value) in
-    IfOk-weaker c.enter_while.result _ _ (λ n h. h i) c.enter_while.ensures.ok
+pub returns-in-None-clause-ok : goal.returns-in-None-clause-ok
+returns-in-None-clause-ok c x below q e =
+    goes_on c.args.store.now c.args.store.now 0 c.args.tasks.now c.args.tasks.now c.args.values.now (stays c.args.store.now (tasks_of c.args.tasks.now))
 
-pub returns-in_default-test : goal.returns-in_default-test
-returns-in_default-test c = record { names = refl; most = omega arith; ok = λ x below q e. stays c.args.store.now (tasks_of c.args.tasks.now) }
-
-pub returns-in_default-test-2 : goal.returns-in_default-test-2
-returns-in_default-test-2 c = record { names = refl; most = omega arith; ok = λ x below q e. stays c.args.store.now (tasks_of c.args.tasks.now) }
-
-pub returns-in_default : goal.returns-in_default
-returns-in_default c = record { names = refl; most = omega arith; ok = λ x below q e. stays c.args.store.now (tasks_of c.args.tasks.now) }
+pub returns-in_default-clause-ok : goal.returns-in_default-clause-ok
+returns-in_default-clause-ok c =
+    IfOk-weaker c.choose.result _ _
+    (λ n w x below q e. goes_on c.args.store.now c.args.store.now n c.args.tasks.now c.choose.new.tasks c.args.values.now (w x below q e)) c.choose.ensures.ok

@@ -9,7 +9,7 @@ returns-clause-done c =
     match_then _ c.stored.result c.stored.ensures.done
     (λ n d. (
       d.1,
-      λ h. assignment c.args.store.now c.stored.new.store c.args.e.now c.args.place.now c.args.value.now c.in-Some.found c.in-Some-computed.x _ n h
-          c.in-Some.ensures c.in-Some-computed.ensures.ok
-          (sym (to_z-of_z w128 c.in-Some-computed.x.number c.in-Some-computed.ensures.fits)) d.2 d.0,
+      λ h. assignment c.args.store.now c.stored.new.store c.args.e.now c.args.place.now c.args.value.now c.in-Some-found.found c.in-Some.x _ n h
+          c.in-Some-found.ensures c.in-Some.ensures.ok
+          (sym (to_z-of_z w128 c.in-Some.x.number c.in-Some.ensures.fits)) d.2 d.0,
     ))
