@@ -8,21 +8,24 @@ ghost use Rattle.step_interp.specs.Calls.{Called, CallsFunction};
 use crate::functions::routine_of;
 use crate::known::call_without_body;
 use crate::machine::{Machine, Next};
+use crate::spare::clear_values;
 use c_tree::Function;
 use c_types::{Memory, Name};
-use std::alloc::Global;
+use std::mem;
 use step_tasks::{Labels, Values};
 
-/// Takes so many of the values pending, so that the first of them is on top.
+/// Takes so many of the values pending, so that the first of them is on top. They stand in a stack whose
+/// entries were of no use.
 fn take_arguments<'a>(
-    alloc: Global,
+    spare: Values<'a>,
     values: &mut Values<'a>,
     count: u32,
 ) -> Result<Values<'a>, Memory>
     ensures taken { IfOk result (λ it. (ns : List (List ℕ)) → values_of ns it ≡ arguments_taken count (values_of ns values.old)) }
     ensures left { IfOk result (λ _. (ns : List (List ℕ)) → values_of ns values.new ≡ without_last count (values_of ns values.old)) }
 {
-    let mut arguments = Values::new(alloc);
+    let mut arguments = spare;
+    clear_values(&mut arguments);
     for _at in 0..count {
         match values.pop() {
             Some(value) => arguments.push(value)?,
@@ -60,7 +63,8 @@ pub fn invoke<'a>(machine: &mut Machine<'_, 'a>, name: &'a Name, count: u32) -> 
     ensures program { machine.new.program ≡ machine.old.program }
     ensures ok { IfOk result (λ next. Called name.now count machine.old next machine.new) }
 {
-    let arguments = take_arguments(machine.alloc, &mut machine.call.values, count)?;
+    let spare = mem::replace(&mut machine.spare_values, Values::new(machine.alloc));
+    let arguments = take_arguments(spare, &mut machine.call.values, count)?;
     match routine_of(machine.functions, name) {
         Some(routine) => call_function(machine, routine.function, &routine.labels, arguments),
         None => call_without_body(machine, name, false, arguments),

@@ -13,6 +13,7 @@ mod machine;
 mod runs;
 mod skipping;
 mod slots;
+mod spare;
 mod starts;
 mod steps;
 

@@ -14,12 +14,14 @@ ghost use Rattle.step_interp.specs.Moves.{EndsRun, Reaches, with_waiting};
 use crate::functions::Functions;
 use crate::lookup::cells_of;
 use crate::slots::rooms_at_start;
+use crate::spare::begun;
 use c_tree::{Function, Program};
-use c_types::{Bytes, Memory, Stack, Trap, convert};
+use c_types::{Bytes, Memory, Stack, Trap};
 use std::alloc::Global;
 use std::mem;
+use step_ahead::fitted;
 use step_memory::{Store, Value};
-use step_tasks::{Call, Labels, Values, drops_next, integer, leave_number, take};
+use step_tasks::{Call, Labels, Tasks, Values, drops_next, integer, leave_number, take};
 
 /// The most calls in one another.
 pub const MOST_CALLS: u32 = 10000;
@@ -28,7 +30,8 @@ pub const MOST_CALLS: u32 = 10000;
 pub const MOST_CELLS: u64 = 4194304;
 
 /// A run at one time: the functions of its program, its variables, the newest call, the calls that wait
-/// for it, the newest first, and the number of cells of arrays that are present.
+/// for it, the newest first, and the number of cells of arrays that are present. What stands in the spare
+/// stacks is of no use: the next call takes their memory.
 #[derive(Drop)]
 pub struct Machine<'t, 'a> {
     pub alloc: Global,
@@ -38,6 +41,8 @@ pub struct Machine<'t, 'a> {
     pub call: Call<'t, 'a>,
     pub waiting: Stack<Call<'t, 'a>>,
     pub cells: u64,
+    pub spare_tasks: Tasks<'a>,
+    pub spare_values: Values<'a>,
 }
 
 /// What a step comes to.
@@ -104,6 +109,8 @@ impl<'t, 'a> Machine<'t, 'a> {
             .cells
             .saturating_sub(cells_of(&self.call.function.slots));
         self.store.leave();
+        mem::swap(&mut self.spare_tasks, &mut self.call.tasks);
+        mem::swap(&mut self.spare_values, &mut self.call.values);
         self.call = caller;
         Ok(Next::Goes)
     }
@@ -128,7 +135,7 @@ impl<'t, 'a> Machine<'t, 'a> {
     {
         let value = take(&mut self.call.values);
         match self.call.function.result {
-            Some(kind) => self.leave(Value::Integer(convert(kind, integer(value)))),
+            Some(kind) => self.leave(Value::Integer(fitted(kind, integer(value)))),
             None => self.leave(Value::Missing),
         }
     }
@@ -165,8 +172,10 @@ impl<'t, 'a> Machine<'t, 'a> {
         if cells > MOST_CELLS {
             return Ok(Next::Traps(Trap::Cells));
         }
-        let rooms = rooms_at_start(self.alloc, function, arguments)?;
-        let call = Call::new(self.alloc, function, labels)?;
+        let mut arguments = arguments;
+        let rooms = rooms_at_start(self.alloc, function, &mut arguments)?;
+        let tasks = mem::replace(&mut self.spare_tasks, Tasks::new(self.alloc));
+        let call = begun(self.alloc, function, labels, tasks, arguments)?;
         self.store.enter(rooms)?;
         self.cells = cells;
         let caller = mem::replace(&mut self.call, call);

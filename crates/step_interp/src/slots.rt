@@ -6,8 +6,9 @@ ghost use Rattle.step_memory.specs.Values.{value_of, values_of};
 ghost use Rattle.step_interp.specs.Numbers.{IsNumberRoom};
 
 use c_tree::{Function, Slot};
-use c_types::{List, Memory, convert};
+use c_types::{List, Memory};
 use std::alloc::Global;
+use step_ahead::fitted;
 use step_memory::{Cells, FIRST, Room, Rooms, Value};
 use step_tasks::{Values, integer, take};
 
@@ -21,7 +22,7 @@ fn number_room(slot: &Slot, number: i128) -> Result<Room, Memory>
     }
     Ok(Room {
         kind: slot.kind,
-        cells: Cells::Number(convert(slot.kind, number)),
+        cells: Cells::Number(fitted(slot.kind, number)),
     })
 }
 
@@ -44,18 +45,17 @@ fn parameter_rooms<'a>(
     alloc: Global,
     function: &Function,
     count: usize,
-    arguments: Values<'a>,
+    arguments: &mut Values<'a>,
 ) -> Result<List<Room>, Memory>
     requires slots { count ≤ length function.now.slots }
     requires parameters { count ≤ function.now.params }
     ensures count { IfOk result (λ rooms. length rooms ≡ count) }
-    ensures slots { IfOk result (λ rooms. (ns : List (List ℕ)) → AreSlots ns rooms (slot_at_start (function_tree function.now) (values_of ns arguments.entry))) }
+    ensures slots { IfOk result (λ rooms. (ns : List (List ℕ)) → AreSlots ns rooms (slot_at_start (function_tree function.now) (values_of ns arguments.old))) }
 {
     let slots = function.slots.as_slice();
-    let mut arguments = arguments;
     let mut rooms = List::from_vec(Vec::with_capacity(alloc, slots.len().min(FIRST))?);
     for slot in &slots[..count] {
-        rooms.push(parameter(slot, take(&mut arguments))?)?;
+        rooms.push(parameter(slot, take(arguments))?)?;
     }
     Ok(rooms)
 }
@@ -79,10 +79,10 @@ fn parameter_count(function: &Function) -> usize
 pub fn rooms_at_start<'a>(
     alloc: Global,
     function: &'a Function,
-    arguments: Values<'a>,
+    arguments: &mut Values<'a>,
 ) -> Result<Rooms<'a>, Memory>
     ensures count { IfOk result (λ rooms. length rooms ≡ length function.now.slots) }
-    ensures slots { IfOk result (λ rooms. (ns : List (List ℕ)) → AreSlots ns rooms (slot_at_start (function_tree function.now) (values_of ns arguments.entry))) }
+    ensures slots { IfOk result (λ rooms. (ns : List (List ℕ)) → AreSlots ns rooms (slot_at_start (function_tree function.now) (values_of ns arguments.old))) }
 {
     let count = parameter_count(function);
     let rooms = parameter_rooms(alloc, function, count, arguments)?;

@@ -13,7 +13,7 @@ use c_tree::Program;
 use c_types::{Memory, Name, Stack};
 use std::alloc::Global;
 use step_memory::Value;
-use step_tasks::{Call, Values};
+use step_tasks::{Call, Tasks, Values};
 
 /// Leaves an argument.
 fn leave_argument<'a>(values: &mut Values<'a>, number: &i128) -> Result<(), Memory>
@@ -47,8 +47,8 @@ fn machine_at_start<'t, 'a>(
     ensures { IfOk result (λ m. BeginsIn program.now functions.now routine.now.function.now routine.now.labels arguments.now cells m) }
 {
     let function = routine.function;
-    let values = first_values(alloc, arguments)?;
-    let rooms = rooms_at_start(alloc, function, values)?;
+    let mut values = first_values(alloc, arguments)?;
+    let rooms = rooms_at_start(alloc, function, &mut values)?;
     let mut store = store_at_start(alloc, program)?;
     store.enter(rooms)?;
     let call = Call::new(alloc, function, &routine.labels)?;
@@ -60,6 +60,8 @@ fn machine_at_start<'t, 'a>(
         call,
         waiting: Stack::new(alloc),
         cells,
+        spare_tasks: Tasks::new(alloc),
+        spare_values: Values::new(alloc),
     })
 }
 

@@ -17,7 +17,7 @@ use Rattle.step_interp.proofs.calling.invoke.Goals as goal
 pub returns-in-Some-clause-ok : goal.returns-in-Some-clause-ok
 returns-in-Some-clause-ok c =
     let old = c.args.machine.now in
-    let mid = record old { call = record old.call { values = c.take_arguments.new.values } } in
+    let mid = record old { spare_values = c.replace-spare.new.dest; call = record old.call { values = c.take_arguments.new.values } } in
     let ns = names_of old.store in
     let n = c.args.name.now in
     let f = c.in-Some.routine.now.function.now in
@@ -37,7 +37,7 @@ returns-in-Some-clause-ok c =
 pub returns-in-None-clause-ok : goal.returns-in-None-clause-ok
 returns-in-None-clause-ok c =
     let old = c.args.machine.now in
-    let mid = record old { call = record old.call { values = c.take_arguments.new.values } } in
+    let mid = record old { spare_values = c.replace-spare.new.dest; call = record old.call { values = c.take_arguments.new.values } } in
     let ns = names_of old.store in
     let n = c.args.name.now in
     let vs = values_of ns old.call.values in

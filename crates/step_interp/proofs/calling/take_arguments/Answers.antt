@@ -36,8 +36,8 @@ loop-at-init c =
     let whole : c.args.count - 0 ≡ c.args.count = omega arith in
     record {
       taken = λ ns.
-          ap (λ k. last_values k (values_of ns c.new-arguments.result) (values_of ns c.args.values.now)) whole
-          ∙ ap (λ a. last_values c.args.count (values_of ns a) (values_of ns c.args.values.now)) c.new-arguments.ensures;
+          ap (λ k. last_values k (values_of ns c.clear_values.new.values) (values_of ns c.args.values.now)) whole
+          ∙ ap (λ a. last_values c.args.count (values_of ns a) (values_of ns c.args.values.now)) c.clear_values.ensures;
       left = λ ns. ap (λ k. without_last k (values_of ns c.args.values.now)) whole;
     }
 

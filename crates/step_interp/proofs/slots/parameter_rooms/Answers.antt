@@ -22,14 +22,14 @@ loop-slot-preserved c =
     record {
       count = ap length c.in_ok-push.ensures.ok ∙ length-append c.loop-slot.rooms (room ∷ []) ∙ ap (λ n. n + 1) c.loop-slot.invariant.count;
       slots = λ ns.
-          let vs = values_of ns c.args.arguments in
+          let vs = values_of ns c.args.arguments.now in
           subst (λ rooms. AreSlots ns rooms (slot_at_start f vs)) (sym c.in_ok-push.ensures.ok)
           (one_slot_more ns c.loop-slot.rooms room (slot_at_start f vs) (c.loop-slot.invariant.slots ns)
           (subst (λ n. IsRoom ns room (slot_at_start f vs n)) (sym c.loop-slot.invariant.count)
           (subst (IsRoom ns room) (ap (parameter s) (c.take.ensures.value ns) ∙
           next_slot f vs (values_of ns c.loop-slot.arguments) i s is_parameter there item (c.loop-slot.invariant.arguments ns))
           (c.in_ok-parameter.ensures ns))));
-      arguments = λ ns. c.take.ensures.left ns ∙ next_arguments (values_of ns c.args.arguments) (values_of ns c.loop-slot.arguments) i
+      arguments = λ ns. c.take.ensures.left ns ∙ next_arguments (values_of ns c.args.arguments.now) (values_of ns c.loop-slot.arguments) i
           (c.loop-slot.invariant.arguments ns);
     }
 

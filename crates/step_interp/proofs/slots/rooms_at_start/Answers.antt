@@ -15,9 +15,9 @@ returns-clause-slots c =
     let rooms = c.in_ok-rooms.rooms in
     let count = c.parameter_count-count.result in
     IfOk-weaker c.new.result (λ it. it ≡ rooms ++ map room_at_start _)
-    (λ it. (ns : List (List ℕ)) → AreSlots ns it (slot_at_start f (values_of ns c.args.arguments)))
-    (λ it e ns. subst (λ xs. AreSlots ns xs (slot_at_start f (values_of ns c.args.arguments)))
+    (λ it. (ns : List (List ℕ)) → AreSlots ns it (slot_at_start f (values_of ns c.args.arguments.now)))
+    (λ it e ns. subst (λ xs. AreSlots ns xs (slot_at_start f (values_of ns c.args.arguments.now)))
     (sym (e ∙ ap (λ ss. rooms ++ map room_at_start ss) (take_rest c.as_slice-slots.result.now count ∙ ap (drop count) c.as_slice-slots.ensures.value)))
-    (rest_slots ns f (values_of ns c.args.arguments) rooms count c.in_ok-rooms.ensures.count c.parameter_count-count.ensures.all
+    (rest_slots ns f (values_of ns c.args.arguments.now) rooms count c.in_ok-rooms.ensures.count c.parameter_count-count.ensures.all
     (c.in_ok-rooms.ensures.slots ns)))
     c.new.ensures
