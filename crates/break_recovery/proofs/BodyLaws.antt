@@ -99,10 +99,10 @@ first_by : (h : ℕ) (x : Tree) (xs l : Forest) (o : Option Tree) → ((y : Tree
 first_by h x xs l (Some y) i e = sym (ap (λ o. option_map_or (declares h) o false) e) ∙ ap (λ b. b || declares h xs) (i y refl)
 first_by h x xs l None i e = cc
 
-abbrev KeepsKind : Tree → ℕ × Tree → Type 0
+abbrev pub KeepsKind : Tree → ℕ × Tree → Type 0
 KeepsKind x c = (h : ℕ) → is_declaration h c.1 ≡ is_declaration h x
 
-items_keep : (p k n : ℕ) (x : Tree) → Each (KeepsKind x) (changed_items p k n x)
+pub items_keep : (p k n : ℕ) (x : Tree) → Each (KeepsKind x) (changed_items p k n x)
 items_keep p k n (If t a b) =
     each_append (KeepsKind (If t a b)) (around (λ c. If t c b) (changed_lists p k n a)) (around (If t a) (changed_lists p k n b))
     (each_around (KeepsKind (If t a b)) (λ c. If t c b) (changed_lists p k n a)

@@ -22,3 +22,8 @@ pub mod Outermost
 pub mod Ways
 pub mod Likeness
 pub mod Steadily
+pub mod Rows
+pub mod RowsWithin
+pub mod Walks
+pub mod FrontLaws
+pub mod Rests

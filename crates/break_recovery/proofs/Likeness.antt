@@ -10,7 +10,7 @@ use Rattle.c_tree.specs.TestTrees.{test_tree, selector_tree}
 use Rattle.c_tree.specs.Trees as Trees
 use Rattle.c_tree.specs.declared.tree.Section as Real
 use Rattle.c_tree.specs.Paths.{list_of}
-use Rattle.c_tree.specs.Trees.{Tree, Forest, Nil, Then, trees_of, sections_of, join}
+use Rattle.c_tree.specs.Trees.{Tree, Forest, Then, trees_of, sections_of, join}
 use Rattle.c_tree.specs.Views.{tree_at}
 use Rattle.c_tree.proofs.TreeLaws.{trees-none}
 use Rattle.c_tree.proofs.Views.{trees-first, trees-at, section-first, at-If, at-While, at-Do, at-For, at-Switch, at-Block}
@@ -105,7 +105,7 @@ said_more s sure P Q h q g e i = h g (q g e i)
 
 -- ---- ways
 
-empty_back : (w : List ℕ) → reverse w ≡ [] → w ≡ []
+pub empty_back : (w : List ℕ) → reverse w ≡ [] → w ≡ []
 empty_back w e = sym (reverse-reverse w) ∙ ap reverse e
 
 -- an item on a sure way was asked

@@ -10,7 +10,7 @@ use Rattle.tidy_loops.specs.Slots.{Tells}
 use Rattle.break_recovery.specs.Underway.{TreeChangedTimes, Underway}
 use Rattle.break_recovery.proofs.RealTrees.{real_body}
 use Rattle.break_recovery.proofs.Underway.{starts, goes_on, settles, numbered}
-use Rattle.break_recovery.specs.Ends.{with_body, IsBodyChanged, WentOn, AreMade, IsNumbered, FunctionChangedTimes, IsFunctionTidied}
+use Rattle.break_recovery.specs.Ends.{with_body, IsBodyChanged, WentOn, WentOnBy, AreMade, IsNumbered, FunctionChangedTimes, IsFunctionTidied}
 use Rattle.break_recovery.proofs.Undeclared.{no_body}
 
 pub set_past : {A : Type 0} (xs : List A) (i : ℕ) (x : A) → length xs ≤ i → xs ≡ slice_set xs i x
@@ -63,6 +63,28 @@ goes n m f gone gone_then counts counts_then h k e w g = record {
 pub fewer_left : (n : ℕ) (f : Function) (gone gone_then : List Bool) (counts counts_then : List ℕ) (h k : Function) →
     WentOn true gone counts h gone_then counts_then k → Going n f gone counts h → length (left gone_then k.slots) < length (left gone h.slots)
 fewer_left n f gone gone_then counts counts_then h k w g = let e = (w.1 n (function_tree f) g.underway).1 in omega (arith, e)
+
+-- one, and so many behind it
+pub goes_by : (n m o : ℕ) (f : Function) (gone gone_mid gone_then : List Bool) (counts counts_mid counts_then : List ℕ) (h k z : Function) →
+    o ≡ suc (n + m) → WentOn true gone counts h gone_mid counts_mid k → WentOnBy m gone_mid counts_mid k gone_then counts_then z →
+    Going n f gone counts h → Going o f gone_then counts_then z
+goes_by n m o f gone gone_mid gone_then counts counts_mid counts_then h k z e w r g =
+    let a = goes n (suc n) f gone gone_mid counts counts_mid h k refl w g in
+    let i : suc n + m ≡ o = omega (arith, e) in
+    record {
+      kept = r.0 ∙ ap {A = Function} (λ (y : Function). record y { body = z.body }) a.kept;
+      same = λ j. absurd (omega (arith, e, j));
+      underway = subst (λ j. Underway j (function_tree f) gone_then counts_then (function_tree z)) i (r.1 (suc n) (function_tree f) a.underway).0;
+    }
+
+pub fewer_by : (n m : ℕ) (f : Function) (gone gone_mid gone_then : List Bool) (counts counts_mid counts_then : List ℕ) (h k z : Function) →
+    WentOn true gone counts h gone_mid counts_mid k → WentOnBy m gone_mid counts_mid k gone_then counts_then z → Going n f gone counts h →
+    length (left gone_then z.slots) < length (left gone h.slots)
+fewer_by n m f gone gone_mid gone_then counts counts_mid counts_then h k z w r g =
+    let a = goes n (suc n) f gone gone_mid counts counts_mid h k refl w g in
+    let i = (r.1 (suc n) (function_tree f) a.underway).1 in
+    let j = fewer_left n f gone gone_mid counts counts_mid h k w g in
+    omega (arith, i, j)
 
 pub all_made : (n : ℕ) (f : Function) (gone gone_then : List Bool) (counts counts_then : List ℕ) (h k : Function) →
     WentOn false gone counts h gone_then counts_then k → Going n f gone counts h → AreMade n f gone_then k

@@ -161,7 +161,7 @@ fewer_counted f h counts after s e t u g = by (set_or counts s g)
     by (inl k) = inl (now ∙ k ∙ t g)
     by (inr k) = inr (now ∙ k)
 
-set_zero : (xs : List ℕ) (s : ℕ) → get_or (slice_set xs s 0) s 0 ≡ 0
+pub set_zero : (xs : List ℕ) (s : ℕ) → get_or (slice_set xs s 0) s 0 ≡ 0
 set_zero [] s = refl
 set_zero (x ∷ xs) zero = refl
 set_zero (x ∷ xs) (suc s) = set_zero xs s

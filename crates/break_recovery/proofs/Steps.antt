@@ -190,7 +190,7 @@ module _ (xs : List Item) (i : ℕ) (x : Item) (h : i < length xs) (e : x ≡ ge
 
 -- ---- sections
 
-before_with : (s t : Real.Section) (d : Sections) → t ≡ Paths.with_list (list_of t) s → before t d ≡ with_list (trees_of (list_of t)) s d
+pub before_with : (s t : Real.Section) (d : Sections) → t ≡ Paths.with_list (list_of t) s → before t d ≡ with_list (trees_of (list_of t)) s d
 before_with s t d e =
     let o = Real.out-Section s in
     ap (λ c. before c d) e
@@ -244,7 +244,7 @@ no_here xs i f n s a k h = nothing (join (trees_of (take i xs))) (changed_to s a
 -- ---- the forms of an item
 
 -- a change of one of two lists, in an item that has both
-either_in : (F : Forest → Forest → Tree) (o p : Option (ℕ × Forest)) (a b : Forest)
+pub either_in : (F : Forest → Forest → Tree) (o p : Option (ℕ × Forest)) (a b : Forest)
     → put (λ (c : Forest × Forest). F c.0 c.1) (or_else (put (λ c. (c, b)) o) (put (λ c. (a, c)) p)) ≡ or_else (put (λ c. F c b) o) (put (F a) p)
 either_in F None None a b = refl
 either_in F None (Some d) a b = refl

@@ -1,5 +1,5 @@
 -- The changes of a function, of what stands at file scope, and of a program, one after another.
-use Rattle.std.specs.Prelude.{ℕ, zero, suc, ◌-◌, ◌≡◌, Bool, true, false, List, [], ◌∷◌, length, All, Option, Some, None, option_map}
+use Rattle.std.specs.Prelude.{ℕ, zero, suc, ◌+◌, ◌-◌, ◌≡◌, Bool, true, false, List, [], ◌∷◌, length, All, Option, Some, None, option_map}
 use Rattle.c_tree.specs.declared.tree.Function.{Function}
 use Rattle.c_tree.specs.declared.tree.Item.{Item}
 use Rattle.c_tree.specs.declared.tree.Top.{Top}
@@ -29,6 +29,13 @@ WentOn true gone counts f gone_then counts_then h =
     → Underway (suc n) start gone_then counts_then (function_tree h) × (suc (length (left gone_then h.slots)) ≡ length (left gone f.slots)))
 WentOn false gone counts f gone_then counts_then h = (Tells counts (function_tree f) → changes_of (function_tree f) ≡ []) × (h ≡ f) ×
     (gone_then ≡ gone) × (counts_then ≡ counts)
+
+-- so many changes are made with the old numbers, one after another, and as many slots more are gone
+abbrev pub WentOnBy : ℕ → List Bool → List ℕ → Function → List Bool → List ℕ → Function → Type 0
+WentOnBy m gone counts f gone_then counts_then h =
+    (h ≡ record f { body = h.body })
+    × ((n : ℕ) (start : FunctionTree) → Underway n start gone counts (function_tree f)
+    → Underway (n + m) start gone_then counts_then (function_tree h) × (m + length (left gone_then h.slots) ≡ length (left gone f.slots)))
 
 -- n changes are made with the old numbers, and then none applies
 pub record AreMade (n : ℕ) (f : Function) (gone : List Bool) (h : Function) : Type 0 where

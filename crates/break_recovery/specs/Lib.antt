@@ -7,3 +7,5 @@ pub mod Ways
 pub mod Ends
 pub mod Loops
 pub mod Starts
+pub mod InARow
+pub mod Fronts

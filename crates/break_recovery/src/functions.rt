@@ -1,15 +1,22 @@
-ghost use Rattle.std.specs.Prelude.{◌≡◌, ◌+◌, ℕ, suc, false, true, length, replicate, reverse, slice_set, option_map, Some, None, IfOk, OnOk};
+ghost use Rattle.std.specs.Prelude.{◌≡◌, ◌+◌, ◌<◌, ℕ, suc, [], false, true, length, replicate, reverse, slice_set, option_map, Some, None, IfOk, OnOk};
 ghost use Rattle.c_tree.specs.Trees.{trees_of};
 ghost use Rattle.jump_meaning.specs.Code.{FunctionTree, function_tree};
 ghost use Rattle.tidy_loops.specs.Slots.{Tells};
 ghost use Rattle.break_recovery.specs.Ways.{LeadsOn, IsAhead};
 ghost use Rattle.tidy_laws.specs.Renamed.{renamed_list};
 ghost use Rattle.tidy_slots.specs.Numbers.{number};
+ghost use Rattle.break_recovery.specs.Places.{behind, AreQuiet, AreQuietBut};
+ghost use Rattle.break_recovery.specs.Ways.{first_item};
+ghost use Rattle.break_recovery.specs.Fronts.{holds_none as the_holds_none, DeclaresFirst, all_marked, all_undeclared};
 ghost use Rattle.break_recovery.specs.Starts.{IsStart};
-ghost use Rattle.break_recovery.specs.Ends.{with_body, IsBodyChanged, WentOn, AreMade, IsNumbered, IsFunctionTidied, TopTidied, AreTidied};
+ghost use Rattle.break_recovery.specs.Underway.{Underway};
+ghost use Rattle.break_recovery.specs.Ends.{with_body, IsBodyChanged, WentOn, WentOnBy, AreMade, IsNumbered, IsFunctionTidied, TopTidied, AreTidied};
 
 use crate::boxes::{boxed, unboxed, undeclare};
+use crate::fronts::{declares_first, holds_none};
 use crate::places::{Start, behind_change, change_from, keep_way};
+use crate::rest::change_on_in;
+use crate::search::was_asked;
 use c_tree::{Function, Item, Top};
 use c_types::{Boxed, List, Memory};
 use std::alloc::Global;
@@ -30,6 +37,7 @@ fn change_list_of(
 ) -> Result<Option<u32>, Memory>
     ensures made { IfOk result (λ it. (f : FunctionTree) → Tells counts.now f → IsAhead sure.old f 2 start.old.doubt start.old.from (reverse way.old) (trees_of list.old) → f.body ≡ Some (trees_of list.old) → IsBodyChanged f it (Some (trees_of list.new))) }
     ensures kept { IfOk result (λ it. it ≡ None → list.new ≡ list.old) }
+    ensures first { IfOk result (λ it. (f : FunctionTree) → Tells counts.now f → IsAhead sure.old f 2 start.old.doubt start.old.from (reverse way.old) (trees_of list.old) → DeclaresFirst (trees_of list.old) → DeclaresFirst (trees_of list.new)) }
     ensures start { IfOk result (λ it. LeadsOn counts.now it (λ g. g) (λ f. IsAhead sure.old f 2 start.old.doubt start.old.from (reverse way.old) (trees_of list.old)) (λ (g : ℕ) h. IsAhead sure.new h 2 start.new.doubt start.new.from (reverse way.new) (trees_of list.new))) }
 {
     let change = change_from(alloc, counts, 2, list, *start, way, sure)?;
@@ -54,7 +62,7 @@ fn mark(slot: u32, gone: &mut List<bool>)
 }
 
 /// Counts a slot no more.
-fn forget(slot: u32, counts: &mut List<u64>)
+pub fn forget(slot: u32, counts: &mut List<u64>)
     ensures { counts.new ≡ slice_set counts.old slot 0 }
 {
     if (slot as usize) < counts.len() {
@@ -74,6 +82,7 @@ fn change_once(
 ) -> Result<bool, Memory>
     ensures went { IfOk result (λ went. (f : Function) → IsStart counts.old start.old sure.old (reverse way.old) (trees_of list.old) → WentOn went gone.old counts.old (with_body f list.old) gone.new counts.new (with_body f list.new)) }
     ensures start { IfOk result (λ went. went ≡ true → (f : Function) → Tells counts.old (function_tree (with_body f list.old)) → IsStart counts.old start.old sure.old (reverse way.old) (trees_of list.old) → IsStart counts.new start.new sure.new (reverse way.new) (trees_of list.new)) }
+    ensures first { IfOk result (λ went. (f : Function) → Tells counts.old (function_tree (with_body f list.old)) → IsStart counts.old start.old sure.old (reverse way.old) (trees_of list.old) → DeclaresFirst (trees_of list.old) → DeclaresFirst (trees_of list.new)) }
 {
     let change = change_list_of(alloc, counts, start, way, sure, list)?;
     match change {
@@ -86,6 +95,81 @@ fn change_once(
     }
 }
 
+/// Whether no change can apply at the place in doubt, which holds no list or is none in front of the other.
+fn is_doubtless(start: Start, list: &List<Boxed<Item>>) -> bool
+    requires { start.from < length list.now }
+    ensures { result ≡ true → (f : FunctionTree) (n : ℕ) → AreQuietBut f n start.doubt start.from (trees_of list.now) → AreQuiet f n start.from (trees_of list.now) }
+{
+    if start.doubt >= start.from {
+        return true;
+    }
+    holds_none(list.as_slice()[start.doubt].get())
+}
+
+/// Whether changes can be made in a row in the item where the search goes on: the way to the last change leads into it
+/// and is sure, and no change can apply in front of it.
+fn goes_in(start: Start, way: &List<usize>, sure: bool, list: &List<Boxed<Item>>) -> bool
+    ensures sure { result ≡ true → (sure ≡ true) × (way.now ≡ [] → ⊥) }
+    ensures there { result ≡ true → (start.from < length list.now) × (the_holds_none (first_item (behind start.from (trees_of list.now))) ≡ false) }
+    ensures quiet { result ≡ true → (f : FunctionTree) (n : ℕ) → AreQuietBut f n start.doubt start.from (trees_of list.now) → AreQuiet f n start.from (trees_of list.now) }
+{
+    if !was_asked(way, sure) {
+        return false;
+    }
+    if start.from >= list.len() {
+        return false;
+    }
+    if holds_none(list.as_slice()[start.from].get()) {
+        return false;
+    }
+    is_doubtless(start, list)
+}
+
+/// Marks the slots as gone and takes their declarations out.
+fn undeclare_all(slots: &List<u32>, gone: &mut List<bool>, list: &mut List<Boxed<Item>>)
+    ensures marked { gone.new ≡ all_marked gone.old slots.now }
+    ensures gone { trees_of list.new ≡ all_undeclared slots.now (trees_of list.old) }
+{
+    let all = slots.as_slice();
+    for i in 0..all.len() {
+        let slot = &all[i];
+        mark(*slot, gone);
+        undeclare(*slot, list);
+    }
+}
+
+/// Makes changes in a row in the list of the last change, without a search from the outermost list on for each, and says
+/// how many. It is only done where the declarations stand first: then none in front of the list has to be asked again
+/// once one goes, so that they go together at the end.
+fn change_rest(
+    alloc: Global,
+    first: bool,
+    start: &mut Start,
+    way: &mut List<usize>,
+    sure: bool,
+    gone: &mut List<bool>,
+    counts: &mut List<u64>,
+    list: &mut List<Boxed<Item>>,
+) -> Result<u64, Memory>
+    ensures went { IfOk result (λ m. (f : Function) → IsStart counts.old start.old sure (reverse way.old) (trees_of list.old) → (first ≡ true → DeclaresFirst (trees_of list.old)) → WentOnBy m gone.old counts.old (with_body f list.old) gone.new counts.new (with_body f list.new)) }
+    ensures start { IfOk result (λ m. (f : Function) (n : ℕ) (s : FunctionTree) → Underway n s gone.old counts.old (function_tree (with_body f list.old)) → IsStart counts.old start.old sure (reverse way.old) (trees_of list.old) → (first ≡ true → DeclaresFirst (trees_of list.old)) → IsStart counts.new start.new sure (reverse way.new) (trees_of list.new) × (first ≡ true → DeclaresFirst (trees_of list.new))) }
+{
+    if !first {
+        return Ok(0);
+    }
+    if !goes_in(*start, way, sure, list) {
+        return Ok(0);
+    }
+    let slots = change_on_in(alloc, counts, 2, list.at_mut(start.from).get_mut(), way)?;
+    let before = list.len();
+    undeclare_all(&slots, gone, list);
+    let after = list.len();
+    let from = start.from.saturating_sub(before.saturating_sub(after));
+    *start = Start { doubt: from, from };
+    let count = slots.len();
+    Ok(count as u64)
+}
+
 /// One more. `Memory` where no `u64` counts it.
 fn one_more(count: u64) -> Result<u64, Memory>
     ensures { IfOk result (λ n. n ≡ suc count) }
@@ -94,6 +178,14 @@ fn one_more(count: u64) -> Result<u64, Memory>
         Some(n) => Ok(n),
         None => Err(Memory),
     }
+}
+
+/// One more, and so many beside it. `Memory` where no `u64` counts them.
+fn one_and(count: u64, more: u64) -> Result<u64, Memory>
+    ensures { IfOk result (λ n. n ≡ suc (count + more)) }
+{
+    let both = sum(count, more)?;
+    one_more(both)
 }
 
 fn none_gone(alloc: Global, count: usize) -> Result<List<bool>, Memory>
@@ -118,6 +210,7 @@ fn change_boxes(
     ensures { IfOk result (λ r. AreMade r.0 (with_body function.now list.old) r.1 (with_body function.now list.new)) }
 {
     let mut counts = counts;
+    let first = declares_first(list);
     let mut gone = none_gone(alloc, function.slots.len())?;
     let mut start = Start { doubt: 0, from: 0 };
     let mut way = List::new(alloc);
@@ -132,7 +225,17 @@ fn change_boxes(
         &mut counts,
         list,
     )? {
-        count = one_more(count)?;
+        let more = change_rest(
+            alloc,
+            first,
+            &mut start,
+            &mut way,
+            sure,
+            &mut gone,
+            &mut counts,
+            list,
+        )?;
+        count = one_and(count, more)?;
     }
     Ok((count, gone))
 }

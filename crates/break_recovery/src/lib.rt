@@ -3,13 +3,17 @@
 #![tactic(auto)]
 
 mod boxes;
+mod fronts;
 mod functions;
 mod here;
 mod places;
 mod program;
+mod quiet;
+mod rest;
 mod search;
 mod search_law;
 mod steady;
+mod walk;
 
 pub use program::tidy;
 pub use search_law::search_laws;

@@ -16,7 +16,7 @@ use std::mem;
 use tidy_loops::deeper;
 
 /// The next step of a way, 0 where it ends. The way stands with its last step in front.
-fn next_step(way: &mut List<usize>) -> usize
+pub fn next_step(way: &mut List<usize>) -> usize
     ensures { IsStep (reverse way.old) result (reverse way.new) }
 {
     match way.pop() {

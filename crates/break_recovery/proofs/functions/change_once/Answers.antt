@@ -26,6 +26,7 @@ returns-in-Some c =
           let k = function_tree (with_body f a) in
           c.in_ok-change.ensures.start g c.in-Some.is k h t (fewer_counted k h c.args.counts.now c.forget.new.counts g c.forget.ensures t u)
           (none_counted h c.args.counts.now c.forget.new.counts g c.forget.ensures u) (s k t);
+      first = λ f t s d. let h = function_tree (with_body f a) in c.in_ok-change.ensures.first h t (s h t) d;
     }
 
 pub returns-in-None : goal.returns-in-None
@@ -41,4 +42,5 @@ returns-in-None c =
             refl,
           );
       start = λ w. false_true w;
+      first = λ f t s d. let h = function_tree (with_body f a) in c.in_ok-change.ensures.first h t (s h t) d;
     }

@@ -1,0 +1,20 @@
+use Rattle.std.proofs.Common.{◌≡◌, get_or, ap, ◌∙◌}
+use Rattle.c_tree.specs.Trees.{trees_of}
+use Rattle.c_tree.specs.Views.{tree_at}
+use Rattle.tidy_loops.proofs.Counted.{if_ok_more}
+use Rattle.tidy_loops.specs.Slots.{count_in}
+use Rattle.break_recovery.specs.Loops.{change_there}
+use Rattle.break_recovery.proofs.Loops.{before_rest}
+use Rattle.break_recovery.proofs.quiet.find.Goals as goal
+
+pub returns : goal.returns
+returns c =
+    let xs = c.args.items.now in
+    let at = c.args.at in
+    let k = count_in c.args.counts.now in
+    let x = c.index-items-at.result in
+    let e : x ≡ get_or xs at x = c.index-items-at.is in
+    if_ok_more c.change_of.result _ _
+    (λ it h. h ∙ ap (λ b. change_there k c.args.level (tree_at x) (trees_of b)) c.split_at.ensures.back ∙
+    before_rest k c.args.level xs at x c.requires e)
+    c.change_of.ensures

@@ -1,0 +1,29 @@
+use Rattle.std.proofs.Common.{drop, sym, ap, ◌∙◌}
+use Rattle.c_tree.specs.Trees.{trees_of}
+use Rattle.tidy_loops.specs.Slots.{count_in}
+use Rattle.break_recovery.specs.Loops.{change_first}
+use Rattle.break_recovery.specs.InARow.{closed}
+use Rattle.break_recovery.proofs.Walks.{on_ok_more, none_more}
+use Rattle.break_recovery.proofs.walk.step.Goals as goal
+
+pub returns-in-Some : goal.returns-in-Some
+returns-in-Some c =
+    let w = c.args.walk.now in
+    let a = trees_of (drop w.at (closed w.at w.next c.args.list.now)) in
+    record {
+      within = c.change_steadily.ensures.within;
+      row = λ n e. c.change_steadily.ensures.row n
+          (sym c.in-Some.is ∙ c.in_ok-change.ensures ∙ ap (λ i. change_first (count_in c.args.counts.now) i a) e);
+    }
+
+pub returns-in-None : goal.returns-in-None
+returns-in-None c =
+    let w = c.args.walk.now in
+    let v = c.pass.new.walk in
+    record {
+      within = c.pass.ensures.within;
+      row = λ n e. on_ok_more c.pass.result _ _
+          (none_more n c.args.counts.now c.args.slots.now w.at v.at (trees_of (closed w.at w.next c.args.list.now))
+          (trees_of (closed v.at v.next c.pass.new.list)))
+          (c.pass.ensures.row n e (sym c.in-None.is ∙ c.in_ok-change.ensures));
+    }
