@@ -99,16 +99,11 @@ nearer_pos ULong a n l h = record { from_least = grind (arith, ints); to_greates
 nearer_neg : (k : IntKind) (a n : ℕ) → n ≤ suc a → IsInRange k (negsuc a) → IsInRange k (neg_ℤ (pos n))
 nearer_neg Char a zero l h = record { from_least = grind (arith, ints); to_greatest = grind (arith, ints) }
 nearer_neg Char a (suc n) l h = record { from_least = grind (arith, ints); to_greatest = grind (arith, ints) }
-nearer_neg UChar a zero l h = record { from_least = grind (arith, ints); to_greatest = grind (arith, ints) }
-nearer_neg UChar a (suc n) l h = record { from_least = grind (arith, ints); to_greatest = grind (arith, ints) }
-nearer_neg Int a zero l h = record { from_least = grind (arith, ints); to_greatest = grind (arith, ints) }
-nearer_neg Int a (suc n) l h = record { from_least = grind (arith, ints); to_greatest = grind (arith, ints) }
-nearer_neg UInt a zero l h = record { from_least = grind (arith, ints); to_greatest = grind (arith, ints) }
-nearer_neg UInt a (suc n) l h = record { from_least = grind (arith, ints); to_greatest = grind (arith, ints) }
-nearer_neg Long a zero l h = record { from_least = grind (arith, ints); to_greatest = grind (arith, ints) }
-nearer_neg Long a (suc n) l h = record { from_least = grind (arith, ints); to_greatest = grind (arith, ints) }
-nearer_neg ULong a zero l h = record { from_least = grind (arith, ints); to_greatest = grind (arith, ints) }
-nearer_neg ULong a (suc n) l h = record { from_least = grind (arith, ints); to_greatest = grind (arith, ints) }
+nearer_neg UChar a _ l h = record { from_least = grind (arith, ints); to_greatest = grind (arith, ints) }
+nearer_neg Int a _ l h = record { from_least = grind (arith, ints); to_greatest = grind (arith, ints) }
+nearer_neg UInt a _ l h = record { from_least = grind (arith, ints); to_greatest = grind (arith, ints) }
+nearer_neg Long a _ l h = record { from_least = grind (arith, ints); to_greatest = grind (arith, ints) }
+nearer_neg ULong a _ l h = record { from_least = grind (arith, ints); to_greatest = grind (arith, ints) }
 
 pub rem_in_range : (k : IntKind) (a b : ℤ) → IsInRange k a → IsInRange k (int_rem a b)
 rem_in_range k (pos a) b h = nearer_pos k a (a % unsigned_abs b) (mod-le a (unsigned_abs b)) h

@@ -5,9 +5,21 @@ ghost use Rattle.c_types.specs.Numbers.{IsInRange, converted, arith_result};
 use crate::{ArithOp, IntKind, Trap};
 
 /// The number of the kind that equals the value modulo 2 to the width of the kind
-/// (ISO/IEC 9899:2011, 6.3.1.3; docs/MEANING.md for the signed kinds).
-#[tactic(auto, unfolding(crate::specs::Numbers::converted))]
+/// (ISO/IEC 9899:2011, 6.3.1.3; docs/MEANING.md for the signed kinds). Most values are numbers of the kind already,
+/// and only the others are divided.
 pub fn convert(kind: IntKind, value: i128) -> i128
+    ensures value { result ≡ converted kind value }
+    ensures in_range { IsInRange kind result }
+{
+    if kind.contains(value) {
+        return value;
+    }
+    residue_of(kind, value)
+}
+
+/// The number of the kind that equals the value modulo 2 to the width of the kind.
+#[tactic(auto, unfolding(crate::specs::Numbers::converted))]
+fn residue_of(kind: IntKind, value: i128) -> i128
     ensures value { result ≡ converted kind value }
     ensures in_range { IsInRange kind result }
 {

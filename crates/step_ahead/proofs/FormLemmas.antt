@@ -104,13 +104,7 @@ is_decided s e a b OrElse x r h l d i =
     (λ v w q. refl) l
     (λ v w q. ap (λ c. cond c (Does [] (Meant.Integer (pos 1) ∷ v) w) (Does (Computes (expression_tree b) ∷ Judges ∷ []) v w)) d
     ∙ ap (λ y. Does [] (Meant.Integer y ∷ v) w) (same_number (pos 1) r.number i.0)))
-is_decided s e a b (Arith op) x r h l d i = absurd (cc)
-is_decided s e a b Less x r h l d i = absurd (cc)
-is_decided s e a b Greater x r h l d i = absurd (cc)
-is_decided s e a b AtMost x r h l d i = absurd (cc)
-is_decided s e a b AtLeast x r h l d i = absurd (cc)
-is_decided s e a b Equal x r h l d i = absurd (cc)
-is_decided s e a b Unequal x r h l d i = absurd (cc)
+is_decided s e a b _ x r h l d i = absurd (cc)
 
 steps_of_three : (r m n : ℕ) → r ≡ m + n + 2 → r ≡ suc (m + (n + 1))
 steps_of_three r m n e = omega (arith, e)

@@ -3,7 +3,7 @@ use Rattle.std.proofs.Common.{◌≡◌, ℕ, ◌+◌, List, ◌∷◌, sym, ap,
 use Rattle.jump_meaning.specs.Values as Meant
 use Rattle.jump_meaning.specs.Code.{Code}
 use Rattle.jump_meaning.specs.World.{World}
-use Rattle.jump_meaning.specs.Effects.{Op, Effect, Does, Fails, Stops, Invokes, Leaves, Drops, effect, rest}
+use Rattle.jump_meaning.specs.Effects.{Op, Effect, Does, Leaves, Drops, effect, rest}
 use Rattle.jump_meaning.specs.Tasks.{Task, Works}
 use Rattle.jump_meaning.specs.Step.{Guards, Frame, At, perform}
 use Rattle.jump_meaning.specs.Runs.{run}
@@ -23,10 +23,7 @@ comes_to : (P : Code) (E : Effect) (f : List ℕ) (g : Guards) (before after : L
     → Comes E before after vs w → perform P E f g before cs ≡ At f g after vs cs w
 comes_to P (Does os v u) f g before after cs vs w c =
     ap (λ k. At f g k v cs u) (sym c.0) ∙ ap (λ x. At f g after x cs u) (sym c.1) ∙ ap (λ x. At f g after vs cs x) (sym c.2)
-comes_to P (Fails t u) f g before after cs vs w c = absurd c
-comes_to P (Stops n u) f g before after cs vs w c = absurd c
-comes_to P (Invokes m xs v u) f g before after cs vs w c = absurd c
-comes_to P (Leaves x u) f g before after cs vs w c = absurd c
+comes_to P _ f g before after cs vs w c = absurd c
 
 pub passes_on : (s t : Store) (n : ℕ) (k : List Task) (tasks left : List Work) (values new : List Value) → tasks_of tasks ≡ k
     → Passes s t n k (tasks_of left) values new → GoesOn s t n tasks left values new

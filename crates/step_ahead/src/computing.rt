@@ -10,8 +10,7 @@ ghost use Rattle.step_ahead.specs.Taken.{IsAfter, IsComputed, IsFound};
 
 use crate::finding::{Found, cell, number_in, value, variable};
 use crate::marks::{Computed, after, constant, operand_kind};
-use crate::numbers::{fitted, marked};
-use c_constants::unary_result;
+use c_constants::{binary_result, unary_result};
 use c_tree::{BinaryOp, Expression, Node, Place, UnaryOp};
 use c_types::{IntKind, convert};
 use step_memory::Store;
@@ -44,7 +43,7 @@ fn cast(kind: Option<IntKind>, a: Computed) -> Option<Computed>
     ensures fits { IfSome result (λ r. FitsSigned w128 r.number) }
 {
     match kind {
-        Some(kind) => after(Ok(fitted(kind, a.number)), a.steps, 2, 0),
+        Some(kind) => after(Ok(convert(kind, a.number)), a.steps, 2, 0),
         None => None,
     }
 }
@@ -98,7 +97,7 @@ fn of_both(
         BinaryOp::AndThen => judged(a, b),
         BinaryOp::OrElse => judged(a, b),
         _ => {
-            let number = marked(op, operand_kind(j), operand_kind(k), a.number, b.number);
+            let number = binary_result(op, operand_kind(j), operand_kind(k), a.number, b.number);
             after(number, a.steps, b.steps, 2)
         }
     }

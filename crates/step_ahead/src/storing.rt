@@ -11,9 +11,9 @@ ghost use Rattle.step_ahead.specs.Taken.{IsEvaluated};
 use crate::computing::{DEPTH, computed, found};
 use crate::finding::Found;
 use crate::marks::{after, operand_kind};
-use crate::numbers::{difference_in, marked, sum_in};
+use c_constants::binary_result;
 use c_tree::{BinaryOp, Expression, Node, Place};
-use c_types::{ArithOp, IntKind, Memory, Trap, promote};
+use c_types::{ArithOp, IntKind, Memory, Trap, arith, promote};
 use step_memory::Store;
 
 /// Stores a number in a cell, where that takes at most so many steps.
@@ -74,7 +74,7 @@ fn updated(
         return None;
     };
     let (j, k) = (operand_kind(e.kind), operand_kind(value.kind));
-    let number = marked(BinaryOp::Arith(op), j, k, old, x.number);
+    let number = binary_result(BinaryOp::Arith(op), j, k, old, x.number);
     let Some(y) = after(number, found.steps, x.steps, 5) else {
         return None;
     };
@@ -87,9 +87,9 @@ fn stepped(kind: IntKind, old: i128, up: bool) -> Result<i128, Trap>
     ensures { result ≡ arith_result (count_mark up) kind old (pos 1) }
 {
     if up {
-        sum_in(kind, old, 1)
+        arith(ArithOp::Add, kind, old, 1)
     } else {
-        difference_in(kind, old, 1)
+        arith(ArithOp::Sub, kind, old, 1)
     }
 }
 

@@ -16,7 +16,7 @@ use Rattle.step_tasks.specs.Controls.{guards_of}
 use Rattle.step_tasks.specs.Tasks.{tasks_of}
 use Rattle.step_interp.specs.declared.machine.Machine.{Machine}
 use Rattle.step_interp.specs.declared.machine.Next.{Next}
-use Rattle.step_interp.specs.declared.machine.Next.TheVariants.{Goes, Reads, Writes, Prints, Ends, Traps}
+use Rattle.step_interp.specs.declared.machine.Next.TheVariants.{Goes, Reads, Traps}
 use Rattle.step_interp.specs.Machines.{HasWorld, IsRead, IsGiven, frames_of, state_of}
 use Rattle.step_interp.specs.Moves.{Reaches, StandsFor}
 use Rattle.step_interp.specs.Calls.{QuietlyReaches, settled}
@@ -31,10 +31,7 @@ at_once R s w next m r = record { events = []; quiet = refl; reaches = subst (λ
 pub reaches_weaker : (R S : Type 0) (s : State) (w : World) (next : Next) (m : Machine) → (R → S) → Reaches R s w next m → Reaches S s w next m
 reaches_weaker R S s w Goes m f h = h
 reaches_weaker R S s w Reads m f h = (f h.0, h.1)
-reaches_weaker R S s w (Writes b) m f h = h
-reaches_weaker R S s w (Prints bs) m f h = h
-reaches_weaker R S s w (Ends z) m f h = h
-reaches_weaker R S s w (Traps t) m f h = h
+reaches_weaker R S s w _ m f h = h
 
 pub quietly_weaker : (R S : Type 0) (s : State) (w : World) (next : Next) (m : Machine) → (R → S) → QuietlyReaches R s w next m → QuietlyReaches S s w next m
 quietly_weaker R S s w next m f h = record { events = h.events; quiet = h.quiet; reaches = reaches_weaker R S s (emit h.events w) next m f h.reaches }

@@ -2,7 +2,7 @@
 use Rattle.std.proofs.Common.{ℕ, List, ◌∷◌, map, false, ◌≡◌, refl, sym, ap, ◌∙◌, subst, true≢false}
 use Rattle.c_types.specs.declared.trap.Trap.{Trap}
 use Rattle.jump_meaning.specs.Code.{Code, code_of, items_of}
-use Rattle.jump_meaning.specs.Effects.{Op, Effect, Does, Fails, Stops, Invokes, Leaves, effect}
+use Rattle.jump_meaning.specs.Effects.{Op, Effect, Does, effect}
 use Rattle.jump_meaning.specs.Step.{Guards, Frame, At, HasTrapped, step, move, view, perform}
 use Rattle.jump_meaning.specs.Tasks as T
 use Rattle.jump_meaning.specs.Values as Meant
@@ -40,32 +40,14 @@ op_of My.Out e = absurd (true≢false e)
 op_of (My.Ask t) e = absurd (true≢false e)
 op_of (My.AskSelector s) e = absurd (true≢false e)
 op_of (My.Arm l) e = absurd (true≢false e)
-op_of (My.Find p) e = (_, refl)
-op_of My.DropValue e = (_, refl)
-op_of (My.Index h) e = (_, refl)
-op_of My.Load e = (_, refl)
-op_of My.Fetch e = (_, refl)
-op_of (My.Unary op k) e = (_, refl)
-op_of (My.Binary op j k) e = (_, refl)
-op_of (My.Convert k) e = (_, refl)
-op_of My.LeaveNothing e = (_, refl)
-op_of My.Judge e = (_, refl)
-op_of My.Store e = (_, refl)
-op_of (My.Count up after) e = (_, refl)
-op_of (My.Call m n) e = (_, refl)
-op_of (My.End b) e = (_, refl)
-op_of (My.Set x i es) e = (_, refl)
-op_of (My.Clear x n) e = (_, refl)
+op_of _ e = (_, refl)
 
 -- the state after an effect that goes on
 pub comes_to : (P : Code) (E : Effect) (f : List ℕ) (g : Guards) (before after : List T.Task) (cs : List Frame) (vs : List Meant.Value) (w : World)
     → Comes E before after vs w → perform P E f g before cs ≡ At f g after vs cs w
 comes_to P (Does os v u) f g before after cs vs w c =
     ap (λ k. At f g k v cs u) (sym c.0) ∙ ap (λ x. At f g after x cs u) (sym c.1) ∙ ap (λ x. At f g after vs cs x) (sym c.2)
-comes_to P (Fails t u) f g before after cs vs w c = absurd c
-comes_to P (Stops n u) f g before after cs vs w c = absurd c
-comes_to P (Invokes m xs v u) f g before after cs vs w c = absurd c
-comes_to P (Leaves x u) f g before after cs vs w c = absurd c
+comes_to P _ f g before after cs vs w c = absurd c
 
 -- ---- of a machine
 

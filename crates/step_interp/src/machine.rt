@@ -16,10 +16,9 @@ use crate::lookup::cells_of;
 use crate::slots::rooms_at_start;
 use crate::spare::begun;
 use c_tree::{Function, Program};
-use c_types::{Bytes, Memory, Stack, Trap};
+use c_types::{Bytes, Memory, Stack, Trap, convert};
 use std::alloc::Global;
 use std::mem;
-use step_ahead::fitted;
 use step_memory::{Store, Value};
 use step_tasks::{Call, Labels, Tasks, Values, drops_next, integer, leave_number, take};
 
@@ -135,7 +134,7 @@ impl<'t, 'a> Machine<'t, 'a> {
     {
         let value = take(&mut self.call.values);
         match self.call.function.result {
-            Some(kind) => self.leave(Value::Integer(fitted(kind, integer(value)))),
+            Some(kind) => self.leave(Value::Integer(convert(kind, integer(value)))),
             None => self.leave(Value::Missing),
         }
     }

@@ -6,9 +6,8 @@ ghost use Rattle.step_memory.specs.Values.{value_of, values_of};
 ghost use Rattle.step_interp.specs.Numbers.{IsNumberRoom};
 
 use c_tree::{Function, Slot};
-use c_types::{List, Memory};
+use c_types::{List, Memory, convert};
 use std::alloc::Global;
-use step_ahead::fitted;
 use step_memory::{Cells, FIRST, Room, Rooms, Value};
 use step_tasks::{Values, integer, take};
 
@@ -22,7 +21,7 @@ fn number_room(slot: &Slot, number: i128) -> Result<Room, Memory>
     }
     Ok(Room {
         kind: slot.kind,
-        cells: Cells::Number(fitted(slot.kind, number)),
+        cells: Cells::Number(convert(slot.kind, number)),
     })
 }
 

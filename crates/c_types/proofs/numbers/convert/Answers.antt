@@ -1,9 +1,11 @@
-use Rattle.std.proofs.Common.{arith}
-use Rattle.std.proofs.lemmas.Grind.{common_steps}
-use Rattle.c_types.specs.Numbers.{converted}
-use Rattle.c_types.proofs.Residues.{in_range_if_converted}
+use Rattle.std.proofs.Common.{sym, subst, ◌∙◌}
+use Rattle.std.specs.Int.{w128}
+use Rattle.std.proofs.lemmas.Int.{to_z-of_z}
+use Rattle.c_types.specs.Numbers.{IsInRange}
+use Rattle.c_types.proofs.Residues.{converted-in_kind}
 use Rattle.c_types.proofs.numbers.convert.Goals as goal
 
-pub returns-else-rest-greatest-clause-in_range : goal.returns-else-rest-greatest-clause-in_range
-unfolding converted
-returns-else-rest-greatest-clause-in_range c = in_range_if_converted c.args.kind c.args.value _ (grind (arith, common_steps))
+pub returns-then-contains-clause-value : goal.returns-then-contains-clause-value
+returns-then-contains-clause-value c =
+    to_z-of_z w128 c.args.value c.ranges.value ∙ sym (converted-in_kind c.args.kind c.args.value
+    (subst (IsInRange c.args.kind) (to_z-of_z w128 c.args.value c.ranges.value) (c.contains.ensures.fact.0 c.if-contains.true)))

@@ -17,8 +17,8 @@ returns-clause-done c =
     let same_old = to_z-of_z w128 c.in-Ok.old c.in-Ok.ensures.fits in
     let same_x = to_z-of_z w128 x.number c.in-Some-computed.ensures.fits in
     let result = result_at (binary_result (Arith c.args.op)) (operand_kind (out-Expression c.args.e.now).kind)
-    _ (operand_kind (out-Expression c.args.value.now).kind) _ c.in-Ok.old _ x.number _ c.marked-number.result y.number
-    c.operand_kind-j.ensures c.operand_kind-k.ensures same_old same_x c.marked-number.ensures c.in-Some-after.ensures.ok.0 in
+    _ (operand_kind (out-Expression c.args.value.now).kind) _ c.in-Ok.old _ x.number _ c.binary_result-number.result y.number
+    c.operand_kind-j.ensures c.operand_kind-k.ensures same_old same_x c.binary_result-number.ensures c.in-Some-after.ensures.ok.0 in
     match_then _ c.stored.result c.stored.ensures.done
     (λ n d. (
       d.1,

@@ -23,7 +23,7 @@ returns-in-Some-clause-ok c =
     let other = record c.args.self.now { call = record c.args.self.now.call { values = c.take-value.new.values } } in
     IfOk-weaker c.leave.result
     (λ next. (w : World) → HasWorld other w → Reaches ⊥ (leave (function_tree c.args.self.now.call.function.now)
-    (value_of (names_of c.args.self.now.store) (My.Integer (to_z w128 (of_z w128 c.fitted.result))))
+    (value_of (names_of c.args.self.now.store) (My.Integer (to_z w128 (of_z w128 c.convert.result))))
     (frames_of (names_of c.args.self.now.store) c.args.self.now.waiting) w) w next c.leave.new.self)
     (λ next. (w : World) → HasWorld c.args.self.now w → Reaches ⊥
     (leave (function_tree c.args.self.now.call.function.now)
@@ -31,7 +31,7 @@ returns-in-Some-clause-ok c =
     (frames_of (names_of c.args.self.now.store) c.args.self.now.waiting) w) w next c.leave.new.self)
     (λ next k w h. subst (λ v. Reaches ⊥ (leave (function_tree c.args.self.now.call.function.now) v
     (frames_of (names_of c.args.self.now.store) c.args.self.now.waiting) w) w next c.leave.new.self)
-    (ap Meant.Integer (to_z-of_z w128 c.fitted.result (record { sfits = c.fitted.type_inv }) ∙ c.fitted.ensures.value ∙
+    (ap Meant.Integer (to_z-of_z w128 c.convert.result (record { sfits = c.convert.type_inv }) ∙ c.convert.ensures.value ∙
     ap (converted c.in-Some.kind) (to_z-of_z w128 c.integer.result (record { sfits = c.integer.type_inv }) ∙
     c.integer.ensures (names_of c.args.self.now.store) ∙ ap Meant.integer (c.take-value.ensures.value (names_of c.args.self.now.store)))) ∙
     sym (ap (λ o. option_map_or (λ k. converted_value k (top (values_of (names_of c.args.self.now.store) c.args.self.now.call.values))) o
