@@ -12,11 +12,9 @@ pub mod NothingBefore
 pub mod SteadyChanges
 pub mod Alike
 pub mod WaysSearched
-pub mod Chains
 pub mod Steps
 pub mod Undeclared
 pub mod Loops
-mod Sizes
 pub mod Numbered
 pub mod Outermost
 pub mod Ways
@@ -27,3 +25,9 @@ pub mod RowsWithin
 pub mod Walks
 pub mod FrontLaws
 pub mod Rests
+pub mod Within
+pub mod WithinAfter
+pub mod Lacking
+pub mod ExitsTold
+pub mod ExitsPlaced
+pub mod Chains

@@ -98,7 +98,7 @@ module _ (g h : ℕ) (other : eqb g h ≡ false) where
 
   module _ (l : Tree) (k : item_count h l ≡ 0) where
     mutual
-      tailed_other : (a : Forest) → list_count h (tailed g l a) ≡ list_count h a
+      pub tailed_other : (a : Forest) → list_count h (tailed g l a) ≡ list_count h a
       tailed_other Nil = refl
       tailed_other (Then x xs) =
           let p = chosen_other (item_count h x) (is_end g xs) (tailed_item g l x) (inner_item g x) (tailed_item_other x) (inner_item_other x) in

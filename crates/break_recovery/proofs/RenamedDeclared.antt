@@ -1,6 +1,6 @@
 -- Declarations where slots have other numbers, each its own.
 use mathlib.Core.Path.{ap₂}
-use Rattle.std.proofs.Common.{ℕ, Bool, true, false, cond, ◌&&◌, ◌||◌, eqb, List, [], ◌∷◌, Option, Some, None, ◌≡◌, refl, ◌∙◌}
+use Rattle.std.proofs.Common.{ℕ, Bool, true, false, cond, ◌&&◌, ◌||◌, eqb, List, [], ◌∷◌, Option, Some, ◌≡◌, refl, ◌∙◌}
 use Rattle.c_tree.specs.ExpressionTrees.{ExpressionTree}
 use Rattle.c_tree.specs.Trees.{Tree, Forest, Nil, Then, Local}
 use Rattle.tidy_laws.specs.Changes.{is_zero_value, is_declaration, undeclared, declares}
@@ -10,9 +10,7 @@ use Rattle.break_recovery.proofs.RenamedExits.{number_same}
 module _ (s : ℕ → ℕ) (same : (x y : ℕ) → eqb (s x) (s y) ≡ eqb x y) where
   zero_same : (es : Option (List ExpressionTree)) → is_zero_value (renamed_values s es) ≡ is_zero_value es
   zero_same (Some (e ∷ [])) = number_same s same 0 e
-  zero_same (Some []) = refl
-  zero_same (Some (e ∷ d ∷ es)) = refl
-  zero_same None = refl
+  zero_same _ = refl
 
   declaration_same : (g : ℕ) (x : Tree) → is_declaration (s g) (renamed_item s x) ≡ is_declaration g x
   declaration_same g (Local x es) = ap₂ (λ a b. a && b) (same x g) (zero_same es)

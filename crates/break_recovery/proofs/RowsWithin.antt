@@ -15,7 +15,7 @@ use Rattle.c_tree.specs.Trees.{Tree, Forest, Nil, Then, Sections, Section, expre
 use Rattle.c_tree.specs.Views.{tree_at, before}
 use Rattle.c_tree.proofs.TreeLaws.{trees-none}
 use Rattle.c_tree.proofs.PathLemmas.{set_same}
-use Rattle.c_tree.proofs.Views.{trees-first, trees-at, section-first, at-If, at-While, at-Do, at-For, at-Switch, at-Block}
+use Rattle.c_tree.proofs.Views.{trees-first, section-first, at-If, at-While, at-Do, at-For, at-Switch, at-Block}
 use Rattle.jump_meaning.specs.Code.{FunctionTree}
 use Rattle.tidy_loops.specs.Slots.{counts_of}
 use Rattle.break_recovery.specs.Next.{or_else, put, next_list, next_item, next_sections, next_either, next_here, next_at}

@@ -1,12 +1,13 @@
 -- A change of a loop that is steady leaves the checks of each other slot.
-use Rattle.std.proofs.Common.{ℕ, ◌+◌, Bool, true, false, not, cond, ◌&&◌, eqb, eqb-true, is_some, Option, Some, None, ◌≡◌, refl, sym, ap, ◌∙◌, arith}
+use Rattle.std.proofs.Common.{ℕ, ◌+◌, ◌⊎◌, inl, inr, Bool, true, false, not, cond, ◌&&◌, eqb, eqb-true, is_some, Option, Some, None, ◌≡◌, refl, sym, ap, ◌∙◌, arith}
+use Rattle.std.proofs.lemmas.Bool.{and_parts, and_cases, not-true, not-false}
 use Rattle.c_tree.specs.declared.tree.Home.TheVariants as H
 use Rattle.c_tree.specs.ExpressionTrees.{ExpressionTree, Typed, Var, Assign}
 use Rattle.c_tree.specs.TestTrees.{TestTree, Source}
 use Rattle.c_tree.specs.Trees.{Tree, Forest, Nil, Then, Sections, NoSection, Section, Evaluate, If, While, Do, For, Switch, Block, join}
 use Rattle.c_tree.specs.Changed.{one}
 use Rattle.tidy_laws.specs.Tails.{is_off, is_end}
-use Rattle.tidy_laws.specs.Mentions.{lacks}
+use Rattle.tidy_laws.specs.Mentions.{lacks, list_lacks}
 use Rattle.tidy_laws.specs.Changes.{is_narrow_expression, set_value, is_number, has_local, checks, unchecked, set_or, inner, inner_item, inner_sections, tailed, tailed_item}
 use Rattle.tidy_slots.specs.Counts.{one_if}
 use Rattle.tidy_loops.specs.Views.{off_slot, is_it}
@@ -14,20 +15,7 @@ use Rattle.tidy_loops.proofs.FormLaws.{off_it}
 use Rattle.tidy_loops.specs.Exits.{checks_in, checks_of, checks_within}
 use Rattle.tidy_loops.specs.Slots.{last_reset, but_last}
 use Rattle.break_recovery.specs.Steady.{has_else, is_steady, item_is_steady, sections_are_steady}
-
--- ---- truth values
-
-left_so : (a b : Bool) → (a && b) ≡ true → a ≡ true
-left_so true b e = refl
-left_so false b e = e
-
-right_so : (a b : Bool) → (a && b) ≡ true → b ≡ true
-right_so true b e = e
-right_so false b e = cc
-
-not_so : (a : Bool) → not a ≡ true → a ≡ false
-not_so true e = cc
-not_so false e = refl
+use Rattle.break_recovery.proofs.Lacking.{inner_lacking, tailed_lacking}
 
 -- ---- what is no `!x` is no check
 
@@ -51,11 +39,12 @@ module _ (h : ℕ) where
   source_checks e Nil i = i
   source_checks e (Then x xs) i = refl
 
-  -- an `if` that isn't one with `!x` and an else-list is a check whatever its else-list becomes, if that stays empty
-  kept_check : (t : TestTree) (b w : Forest) → (b ≡ Nil → w ≡ Nil) → has_else t b ≡ false → checks h t w ≡ checks h t b
-  kept_check t Nil w k i = ap (checks h t) (k refl)
-  kept_check (Source e) (Then x xs) w k i = source_checks e w (not_off h e i)
-  kept_check _ (Then x xs) w k i = refl
+  -- an `if` stays a check, or none, where its else-list stays, or stays empty, or its test is no `!x`
+  kept_check : (t : TestTree) (b w : Forest) → (b ≡ Nil → w ≡ Nil) → (has_else t b ≡ false) ⊎ (w ≡ b) → checks h t w ≡ checks h t b
+  kept_check t b w k (inr e) = ap (checks h t) e
+  kept_check t Nil w k (inl i) = ap (checks h t) (k refl)
+  kept_check (Source e) (Then x xs) w k (inl i) = source_checks e w (not_off h e i)
+  kept_check _ (Then x xs) w k (inl i) = refl
 
 module _ (g h : ℕ) (other : eqb g h ≡ false) where
   not_it : (s : Option ℕ) → is_it g s ≡ true → is_it h s ≡ false
@@ -67,7 +56,7 @@ module _ (g h : ℕ) (other : eqb g h ≡ false) where
   check_other (Source e) (Then x xs) i = cc
   check_other _ b i = cc
 
-  if_checks : (t : TestTree) (a b v w : Forest) (c : Bool) → checks g t b ≡ c → (b ≡ Nil → w ≡ Nil) → has_else t b ≡ false →
+  if_checks : (t : TestTree) (a b v w : Forest) (c : Bool) → checks g t b ≡ c → (b ≡ Nil → w ≡ Nil) → (has_else t b ≡ false) ⊎ (w ≡ b) →
       checks_in h v ≡ checks_in h a → checks_in h w ≡ checks_in h b
       → checks_in h (unchecked c t v w) ≡ checks_of h (If t a b)
   if_checks t a b v w true i k n p q =
@@ -80,12 +69,17 @@ module _ (g h : ℕ) (other : eqb g h ≡ false) where
       let m = ap one_if (kept_check h t b w k n) in
       omega (arith, m, p, q)
 
-  if_steady : (t : TestTree) (a b : Forest) → item_is_steady g (If t a b) ≡ true → (has_else t b ≡ false) × ((is_steady g a ≡ true) × (is_steady g b ≡ true))
-  if_steady t a b e =
-      let k = right_so (not (has_else t b)) (is_steady g a && is_steady g b) e in (
-        not_so (has_else t b) (left_so (not (has_else t b)) (is_steady g a && is_steady g b) e),
-        (left_so (is_steady g a) (is_steady g b) k, right_so (is_steady g a) (is_steady g b) k),
-      )
+  -- in a steady `if` that tests `!x` an else-list lacks the slot, so it stays
+  if_steady : (t : TestTree) (a b w : Forest) → (list_lacks g b ≡ true → w ≡ b) → item_is_steady g (If t a b) ≡ true →
+      ((has_else t b ≡ false) ⊎ (w ≡ b)) × ((is_steady g a ≡ true) × (is_steady g b ≡ true))
+  if_steady t a b w k e =
+      let n = has_else t b && not (list_lacks g b) in
+      let p = and_parts (not n) (is_steady g a && is_steady g b) e in
+      (kept (and_cases (has_else t b) (not (list_lacks g b)) (not-true n p.0)), and_parts (is_steady g a) (is_steady g b) p.1)
+    where
+      kept : ((has_else t b ≡ false) ⊎ (not (list_lacks g b) ≡ false)) → (has_else t b ≡ false) ⊎ (w ≡ b)
+      kept (inl i) = inl i
+      kept (inr i) = inr (k (not-false (list_lacks g b) i))
 
   inner_none : (b : Forest) → b ≡ Nil → inner g b ≡ Nil
   inner_none b e = ap (inner g) e
@@ -94,14 +88,14 @@ module _ (g h : ℕ) (other : eqb g h ≡ false) where
     inner_checks : (a : Forest) → is_steady g a ≡ true → checks_in h (inner g a) ≡ checks_in h a
     inner_checks Nil e = refl
     inner_checks (Then x xs) e =
-        let p = inner_item_checks x (left_so (item_is_steady g x) (is_steady g xs) e) in
-        let q = inner_checks xs (right_so (item_is_steady g x) (is_steady g xs) e) in
+        let p = inner_item_checks x (and_parts (item_is_steady g x) (is_steady g xs) e).0 in
+        let q = inner_checks xs (and_parts (item_is_steady g x) (is_steady g xs) e).1 in
         let r = checks_join h (inner_item g x) (inner g xs) in
         omega (arith, p, q, r)
 
     inner_item_checks : (x : Tree) → item_is_steady g x ≡ true → checks_in h (inner_item g x) ≡ checks_of h x
     inner_item_checks (If t a b) e =
-        let s = if_steady t a b e in
+        let s = if_steady t a b (inner g b) (inner_lacking g b) e in
         if_checks t a b (inner g a) (inner g b) (checks g t b) refl (inner_none b) s.0 (inner_checks a s.1.0) (inner_checks b s.1.1)
     inner_item_checks (While t a) e = let p = inner_checks a e in omega (arith, p)
     inner_item_checks (Do a t) e = let p = inner_checks a e in omega (arith, p)
@@ -113,8 +107,8 @@ module _ (g h : ℕ) (other : eqb g h ≡ false) where
     inner_sections_checks : (c : Sections) → sections_are_steady g c ≡ true → checks_within h (inner_sections g c) ≡ checks_within h c
     inner_sections_checks NoSection e = refl
     inner_sections_checks (Section cases default a ends c) e =
-        let p = inner_checks a (left_so (is_steady g a) (sections_are_steady g c) e) in
-        let q = inner_sections_checks c (right_so (is_steady g a) (sections_are_steady g c) e) in
+        let p = inner_checks a (and_parts (is_steady g a) (sections_are_steady g c) e).0 in
+        let q = inner_sections_checks c (and_parts (is_steady g a) (sections_are_steady g c) e).1 in
         omega (arith, p, q)
 
   -- ---- sets
@@ -126,7 +120,7 @@ module _ (g h : ℕ) (other : eqb g h ≡ false) where
 
   set_at : (l : Tree) → checks_of h l ≡ 0 → (e v : ExpressionTree) (a b : Bool) → not (a && is_some (off_slot v)) ≡ true →
       checks_in h (one (set_or l e (cond (a && b) (Some v) None))) ≡ 0
-  set_at l k e v true true i = let p = leaving_checks l v (is_number 1 v) k (not_so (is_some (off_slot v)) i) in omega (arith, p)
+  set_at l k e v true true i = let p = leaving_checks l v (is_number 1 v) k (not-true (is_some (off_slot v)) i) in omega (arith, p)
   set_at l k e v true false i = omega arith
   set_at l k e v false b i = omega arith
 
@@ -146,16 +140,16 @@ module _ (g h : ℕ) (other : eqb g h ≡ false) where
       pub tailed_checks : (a : Forest) → is_steady g a ≡ true → checks_in h (tailed g l a) ≡ checks_in h a
       tailed_checks Nil e = refl
       tailed_checks (Then x xs) e =
-          let s = left_so (item_is_steady g x) (is_steady g xs) e in
+          let s = (and_parts (item_is_steady g x) (is_steady g xs) e).0 in
           let p = chosen_checks (checks_of h x) (is_end g xs) (tailed_item g l x) (inner_item g x) (tailed_item_checks x s) (inner_item_checks x s) in
-          let q = tailed_checks xs (right_so (item_is_steady g x) (is_steady g xs) e) in
+          let q = tailed_checks xs (and_parts (item_is_steady g x) (is_steady g xs) e).1 in
           let r = checks_join h (cond (is_end g xs) (tailed_item g l x) (inner_item g x)) (tailed g l xs) in
           omega (arith, p, q, r)
 
       tailed_item_checks : (x : Tree) → item_is_steady g x ≡ true → checks_in h (tailed_item g l x) ≡ checks_of h x
       tailed_item_checks (Evaluate e) i = set_checks l k e i
       tailed_item_checks (If t a b) e =
-          let s = if_steady t a b e in
+          let s = if_steady t a b (tailed g l b) (tailed_lacking g l b) e in
           if_checks t a b (tailed g l a) (tailed g l b) (checks g t b) refl (tailed_none b) s.0 (tailed_checks a s.1.0) (tailed_checks b s.1.1)
       tailed_item_checks x e = inner_item_checks x e
 
@@ -165,8 +159,8 @@ pub steady_front : (g : ℕ) (a : Forest) → is_steady g a ≡ true → is_stea
 steady_front g Nil e = refl
 steady_front g (Then x Nil) e = refl
 steady_front g (Then x (Then y ys)) e =
-    ap (λ z. z && is_steady g (but_last (Then y ys))) (left_so (item_is_steady g x) (is_steady g (Then y ys)) e)
-    ∙ steady_front g (Then y ys) (right_so (item_is_steady g x) (is_steady g (Then y ys)) e)
+    ap (λ z. z && is_steady g (but_last (Then y ys))) (and_parts (item_is_steady g x) (is_steady g (Then y ys)) e).0
+    ∙ steady_front g (Then y ys) (and_parts (item_is_steady g x) (is_steady g (Then y ys)) e).1
 
 reset_checks : (h g : ℕ) (x : Tree) → last_reset (Then x Nil) ≡ Some g → checks_of h x ≡ 0
 reset_checks h g (Evaluate e) i = refl

@@ -42,7 +42,7 @@ slice_there (y ∷ ys) (suc i) x h e = slice_there ys i x (omega (arith, h)) e
 
 -- ---- the list that is meant
 
-drop_at : {A : Type 0} (xs : List A) (i : ℕ) (x : A) → slice_get xs i ≡ Some x → drop i xs ≡ x ∷ drop (i + 1) xs
+pub drop_at : {A : Type 0} (xs : List A) (i : ℕ) (x : A) → slice_get xs i ≡ Some x → drop i xs ≡ x ∷ drop (i + 1) xs
 drop_at [] i x e = cc
 drop_at (y ∷ ys) zero x e = cc
 drop_at (y ∷ ys) (suc i) x e = let j : suc i + 1 ≡ suc (i + 1) = omega arith in drop_at ys i x e ∙ sym (ap (λ m. x ∷ drop m (y ∷ ys)) j)

@@ -9,3 +9,5 @@ pub mod Loops
 pub mod Starts
 pub mod InARow
 pub mod Fronts
+pub mod Within
+pub mod Exits

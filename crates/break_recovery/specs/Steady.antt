@@ -5,6 +5,7 @@ use Rattle.c_tree.specs.TestTrees.{TestTree, Source}
 use Rattle.c_tree.specs.Trees.{Tree, Forest, Nil, Then, Sections, NoSection, Section, Evaluate, If, While, Do, For, Switch, Block}
 use Rattle.jump_meaning.specs.Code.{FunctionTree}
 use Rattle.tidy_laws.specs.Tails.{is_check, is_end}
+use Rattle.tidy_laws.specs.Mentions.{list_lacks}
 use Rattle.tidy_laws.specs.Changes.{are_low, is_low}
 use Rattle.tidy_loops.specs.Views.{place_slot, off_slot, is_it}
 use Rattle.tidy_loops.specs.Exits.{checks_in, checks_of, checks_within, exits_in, exits_of}
@@ -23,20 +24,20 @@ abbrev pub sets_off : ℕ → ExpressionTree → Bool
 sets_off g (Typed k (Assign p e)) = assigns_off g p e
 sets_off g _ = false
 
--- an `if (!x)` with an else-list, which is a check of x where the else-list goes
+-- an `if (!x)` with an else-list: without its else-list it is a check of x
 abbrev pub has_else : TestTree → Forest → Bool
 has_else (Source e) (Then x xs) = is_some (off_slot e)
 has_else _ _ = false
 
 abbrev mutual
-  -- a list holds neither, at any depth
+  -- a list holds no such set, and no such `if` whose else-list names the slot, at any depth; an else-list that lacks the slot stays
   pub is_steady : ℕ → Forest → Bool
   is_steady g Nil = true
   is_steady g (Then x xs) = item_is_steady g x && is_steady g xs
 
   pub item_is_steady : ℕ → Tree → Bool
   item_is_steady g (Evaluate e) = not (sets_off g e)
-  item_is_steady g (If t a b) = not (has_else t b) && (is_steady g a && is_steady g b)
+  item_is_steady g (If t a b) = not (has_else t b && not (list_lacks g b)) && (is_steady g a && is_steady g b)
   item_is_steady g (While t a) = is_steady g a
   item_is_steady g (Do a t) = is_steady g a
   item_is_steady g (For f t u a) = is_steady g a

@@ -1,7 +1,7 @@
 //! Changes in the outermost list of a function. Its items are boxed meanwhile, so that those behind an item that is
 //! taken out move by 8 bytes each.
 
-ghost use Rattle.std.specs.Prelude.{◌≡◌, ◌<◌, ℕ, length, take, drop, reverse, None, IfOk, OnOk};
+ghost use Rattle.std.specs.Prelude.{◌≡◌, ◌<◌, ℕ, length, take, drop, reverse, slice_get, Some, None, IfOk, OnOk};
 ghost use Rattle.c_tree.specs.Trees.{trees_of, join};
 ghost use Rattle.jump_meaning.specs.Code.{FunctionTree};
 ghost use Rattle.tidy_laws.specs.Changes.{undeclared};
@@ -10,8 +10,12 @@ ghost use Rattle.break_recovery.specs.Next.{put, next_at, next_here, changed_to}
 ghost use Rattle.break_recovery.specs.Places.{removed_at};
 ghost use Rattle.break_recovery.specs.Ways.{IsWayAt, LeadsOn};
 ghost use Rattle.break_recovery.specs.Loops.{change_first, list_after};
+ghost use Rattle.break_recovery.specs.Within.{AreApart};
+ghost use Rattle.break_recovery.specs.Exits.{HoldsAtMost};
+ghost use Rattle.c_tree.specs.declared.tree.Item.{Item};
+ghost use Rattle.c_tree.specs.Views.{tree_at};
 
-use crate::here::{Change, change_of, changed_loop, keeps_next, slot_of};
+use crate::here::{Change, change_of, changed_loop, exits_of, keeps_next, slot_of};
 use crate::search::{change_item, was_asked};
 use c_tree::Item;
 use c_types::{Boxed, List, Memory};
@@ -47,7 +51,8 @@ fn find(
     list: &List<Boxed<Item>>,
     at: usize,
 ) -> Result<Option<Change>, Memory>
-    requires { at < length list.now }
+    requires place { at < length list.now }
+    requires within { AreApart (count_in counts.now) (trees_of list.now) }
     ensures { IfOk result (λ it. it ≡ change_first (count_in counts.now) level (trees_of (drop at list.now))) }
 {
     let items = list.as_slice();
@@ -60,13 +65,15 @@ fn find(
 fn make(
     alloc: Global,
     change: Change,
+    exits: u64,
     list: &mut List<Boxed<Item>>,
     at: usize,
 ) -> Result<(), Memory>
-    requires { at < length list.old }
+    requires place { at < length list.old }
+    requires exits { (x : Item) → slice_get list.old at ≡ Some x → HoldsAtMost change exits (tree_at x) }
     ensures { OnOk result (trees_of list.new ≡ join (trees_of (take at list.old)) (list_after change (trees_of (drop at list.old)))) }
 {
-    changed_loop(alloc, change, list.at_mut(at).get_mut())?;
+    changed_loop(alloc, change, exits, list.at_mut(at).get_mut())?;
     if keeps_next(change) {
         return Ok(());
     }
@@ -84,13 +91,14 @@ fn change_here(
     list: &mut List<Boxed<Item>>,
     at: usize,
 ) -> Result<Option<u32>, Memory>
-    requires { at < length list.old }
+    requires place { at < length list.old }
+    requires within { AreApart (count_in counts.now) (trees_of list.old) }
     ensures made { IfOk result (λ it. (f : FunctionTree) → Tells counts.now f → changed_to it (trees_of list.new) ≡ put (join (trees_of (take at list.old))) (next_here f level (trees_of (drop at list.old)))) }
     ensures kept { IfOk result (λ it. it ≡ None → list.new ≡ list.old) }
 {
     match find(counts, level, list, at)? {
         Some(change) => {
-            make(alloc, change, list, at)?;
+            make(alloc, change, exits_of(counts, change), list, at)?;
             Ok(Some(slot_of(change)))
         }
         None => Ok(None),
@@ -108,7 +116,8 @@ pub fn change_at(
     way: &mut List<usize>,
     sure: &mut bool,
 ) -> Result<Option<u32>, Memory>
-    requires { at < length list.old }
+    requires place { at < length list.old }
+    requires within { AreApart (count_in counts.now) (trees_of list.old) }
     ensures made { IfOk result (λ it. (f : FunctionTree) → Tells counts.now f → IsWayAt sure.old f level (reverse way.old) (trees_of (drop at list.old)) → changed_to it (trees_of list.new) ≡ put (join (trees_of (take at list.old))) (next_at f level (trees_of (drop at list.old)))) }
     ensures kept { IfOk result (λ it. it ≡ None → list.new ≡ list.old) }
     ensures way { IfOk result (λ it. LeadsOn counts.now it (λ g. g) (λ f. IsWayAt sure.old f level (reverse way.old) (trees_of (drop at list.old))) (λ (g : ℕ) h. IsWayAt sure.new h level (reverse way.new) (trees_of (drop at list.new)))) }
@@ -129,7 +138,8 @@ fn change_asked(
     way: &mut List<usize>,
     sure: &mut bool,
 ) -> Result<Option<u32>, Memory>
-    requires { at < length list.old }
+    requires place { at < length list.old }
+    requires within { AreApart (count_in counts.now) (trees_of list.old) }
     ensures made { IfOk result (λ it. (f : FunctionTree) → Tells counts.now f → IsWayAt sure.old f level (reverse way.old) (trees_of (drop at list.old)) → changed_to it (trees_of list.new) ≡ put (join (trees_of (take at list.old))) (next_at f level (trees_of (drop at list.old)))) }
     ensures kept { IfOk result (λ it. it ≡ None → list.new ≡ list.old) }
     ensures way { IfOk result (λ it. LeadsOn counts.now it (λ g. g) (λ f. IsWayAt sure.old f level (reverse way.old) (trees_of (drop at list.old))) (λ (g : ℕ) h. IsWayAt sure.new h level (reverse way.new) (trees_of (drop at list.new)))) }
@@ -152,7 +162,8 @@ fn change_within(
     way: &mut List<usize>,
     sure: &mut bool,
 ) -> Result<Option<u32>, Memory>
-    requires { at < length list.old }
+    requires place { at < length list.old }
+    requires within { AreApart (count_in counts.now) (trees_of list.old) }
     ensures made { IfOk result (λ it. (f : FunctionTree) → Tells counts.now f → next_here f level (trees_of (drop at list.old)) ≡ None → IsWayAt sure.old f level (reverse way.old) (trees_of (drop at list.old)) → changed_to it (trees_of list.new) ≡ put (join (trees_of (take at list.old))) (next_at f level (trees_of (drop at list.old)))) }
     ensures kept { IfOk result (λ it. it ≡ None → list.new ≡ list.old) }
     ensures way { IfOk result (λ it. LeadsOn counts.now it (λ g. g) (λ f. (next_here f level (trees_of (drop at list.old)) ≡ None) × IsWayAt sure.old f level (reverse way.old) (trees_of (drop at list.old))) (λ (g : ℕ) h. IsWayAt sure.new h level (reverse way.new) (trees_of (drop at list.new)))) }

@@ -1,7 +1,7 @@
 ghost use Rattle.std.specs.Prelude.{◌≡◌, ◌+◌, ◌<◌, ℕ, suc, [], false, true, length, replicate, reverse, slice_set, option_map, Some, None, IfOk, OnOk};
 ghost use Rattle.c_tree.specs.Trees.{trees_of};
 ghost use Rattle.jump_meaning.specs.Code.{FunctionTree, function_tree};
-ghost use Rattle.tidy_loops.specs.Slots.{Tells};
+ghost use Rattle.tidy_loops.specs.Slots.{count_in, Tells};
 ghost use Rattle.break_recovery.specs.Ways.{LeadsOn, IsAhead};
 ghost use Rattle.tidy_laws.specs.Renamed.{renamed_list};
 ghost use Rattle.tidy_slots.specs.Numbers.{number};
@@ -11,6 +11,7 @@ ghost use Rattle.break_recovery.specs.Fronts.{holds_none as the_holds_none, Decl
 ghost use Rattle.break_recovery.specs.Starts.{IsStart};
 ghost use Rattle.break_recovery.specs.Underway.{Underway};
 ghost use Rattle.break_recovery.specs.Ends.{with_body, IsBodyChanged, WentOn, WentOnBy, AreMade, IsNumbered, IsFunctionTidied, TopTidied, AreTidied};
+ghost use Rattle.break_recovery.specs.Within.{AreApart};
 
 use crate::boxes::{boxed, unboxed, undeclare};
 use crate::fronts::{declares_first, holds_none};
@@ -35,6 +36,7 @@ fn change_list_of(
     sure: &mut bool,
     list: &mut List<Boxed<Item>>,
 ) -> Result<Option<u32>, Memory>
+    requires { AreApart (count_in counts.now) (trees_of list.old) }
     ensures made { IfOk result (λ it. (f : FunctionTree) → Tells counts.now f → IsAhead sure.old f 2 start.old.doubt start.old.from (reverse way.old) (trees_of list.old) → f.body ≡ Some (trees_of list.old) → IsBodyChanged f it (Some (trees_of list.new))) }
     ensures kept { IfOk result (λ it. it ≡ None → list.new ≡ list.old) }
     ensures first { IfOk result (λ it. (f : FunctionTree) → Tells counts.now f → IsAhead sure.old f 2 start.old.doubt start.old.from (reverse way.old) (trees_of list.old) → DeclaresFirst (trees_of list.old) → DeclaresFirst (trees_of list.new)) }
@@ -80,6 +82,7 @@ fn change_once(
     counts: &mut List<u64>,
     list: &mut List<Boxed<Item>>,
 ) -> Result<bool, Memory>
+    requires { AreApart (count_in counts.old) (trees_of list.old) }
     ensures went { IfOk result (λ went. (f : Function) → IsStart counts.old start.old sure.old (reverse way.old) (trees_of list.old) → WentOn went gone.old counts.old (with_body f list.old) gone.new counts.new (with_body f list.new)) }
     ensures start { IfOk result (λ went. went ≡ true → (f : Function) → Tells counts.old (function_tree (with_body f list.old)) → IsStart counts.old start.old sure.old (reverse way.old) (trees_of list.old) → IsStart counts.new start.new sure.new (reverse way.new) (trees_of list.new)) }
     ensures first { IfOk result (λ went. (f : Function) → Tells counts.old (function_tree (with_body f list.old)) → IsStart counts.old start.old sure.old (reverse way.old) (trees_of list.old) → DeclaresFirst (trees_of list.old) → DeclaresFirst (trees_of list.new)) }
@@ -151,6 +154,7 @@ fn change_rest(
     counts: &mut List<u64>,
     list: &mut List<Boxed<Item>>,
 ) -> Result<u64, Memory>
+    requires { AreApart (count_in counts.old) (trees_of list.old) }
     ensures went { IfOk result (λ m. (f : Function) → IsStart counts.old start.old sure (reverse way.old) (trees_of list.old) → (first ≡ true → DeclaresFirst (trees_of list.old)) → WentOnBy m gone.old counts.old (with_body f list.old) gone.new counts.new (with_body f list.new)) }
     ensures start { IfOk result (λ m. (f : Function) (n : ℕ) (s : FunctionTree) → Underway n s gone.old counts.old (function_tree (with_body f list.old)) → IsStart counts.old start.old sure (reverse way.old) (trees_of list.old) → (first ≡ true → DeclaresFirst (trees_of list.old)) → IsStart counts.new start.new sure (reverse way.new) (trees_of list.new) × (first ≡ true → DeclaresFirst (trees_of list.new))) }
 {

@@ -3,10 +3,11 @@
 ghost use Rattle.std.specs.Prelude.{◌≡◌, ◌<◌, ◌⊎◌, ℕ, [], reverse, Some, None, IfOk};
 ghost use Rattle.c_tree.specs.Trees.{trees_of};
 ghost use Rattle.jump_meaning.specs.Code.{FunctionTree};
-ghost use Rattle.tidy_loops.specs.Slots.{Tells};
+ghost use Rattle.tidy_loops.specs.Slots.{count_in, Tells};
 ghost use Rattle.break_recovery.specs.Next.{put, next_at, changed_to};
 ghost use Rattle.break_recovery.specs.Places.{behind, replaced, AreQuiet, IsFoundAt, GoesOn};
 ghost use Rattle.break_recovery.specs.Ways.{IsWayAt, LeadsOn, IsAhead, IsBefore, KeepsWay};
+ghost use Rattle.break_recovery.specs.Within.{AreApart};
 
 use crate::boxes::change_at;
 use c_tree::Item;
@@ -31,6 +32,7 @@ fn change_place(
     way: &mut List<usize>,
     sure: &mut bool,
 ) -> Result<Option<u32>, Memory>
+    requires { AreApart (count_in counts.now) (trees_of list.old) }
     ensures made { IfOk result (λ it. (f : FunctionTree) → Tells counts.now f → IsWayAt sure.old f level (reverse way.old) (behind place (trees_of list.old)) → changed_to it (trees_of list.new) ≡ put (λ c. replaced place c (trees_of list.old)) (next_at f level (behind place (trees_of list.old)))) }
     ensures kept { IfOk result (λ it. it ≡ None → list.new ≡ list.old) }
     ensures way { IfOk result (λ it. LeadsOn counts.now it (λ g. g) (λ f. IsWayAt sure.old f level (reverse way.old) (behind place (trees_of list.old))) (λ (g : ℕ) h. IsWayAt sure.new h level (reverse way.new) (behind place (trees_of list.new)))) }
@@ -51,6 +53,7 @@ fn change_behind(
     way: &mut List<usize>,
     sure: &mut bool,
 ) -> Result<Option<(u32, usize)>, Memory>
+    requires { AreApart (count_in counts.now) (trees_of list.old) }
     ensures made { IfOk result (λ it. (f : FunctionTree) → Tells counts.now f → AreQuiet f level from (trees_of list.old) → IsWayAt sure.old f level (reverse way.old) (behind from (trees_of list.old)) → IsFoundAt f level it (trees_of list.old) (trees_of list.new)) }
     ensures kept { IfOk result (λ it. it ≡ None → list.new ≡ list.old) }
     ensures way { IfOk result (λ it. LeadsOn counts.now it (λ c. c.0) (λ f. AreQuiet f level from (trees_of list.old) × IsWayAt sure.old f level (reverse way.old) (behind from (trees_of list.old))) (λ (c : ℕ × ℕ) h. IsWayAt sure.new h level (reverse way.new) (behind c.1 (trees_of list.new)))) }
@@ -79,7 +82,8 @@ fn change_doubt(
     way: &mut List<usize>,
     sure: &mut bool,
 ) -> Result<Option<(u32, usize)>, Memory>
-    requires { start.doubt < start.from }
+    requires place { start.doubt < start.from }
+    requires within { AreApart (count_in counts.now) (trees_of list.old) }
     ensures made { IfOk result (λ it. (f : FunctionTree) → Tells counts.now f → IsAhead sure.old f level start.doubt start.from (reverse way.old) (trees_of list.old) → IsFoundAt f level it (trees_of list.old) (trees_of list.new)) }
     ensures kept { IfOk result (λ it. it ≡ None → list.new ≡ list.old) }
     ensures way { IfOk result (λ it. LeadsOn counts.now it (λ c. c.0) (λ f. IsAhead sure.old f level start.doubt start.from (reverse way.old) (trees_of list.old)) (λ (c : ℕ × ℕ) h. IsWayAt sure.new h level (reverse way.new) (behind c.1 (trees_of list.new)))) }
@@ -115,6 +119,7 @@ pub fn change_from(
     way: &mut List<usize>,
     sure: &mut bool,
 ) -> Result<Option<(u32, usize)>, Memory>
+    requires { AreApart (count_in counts.now) (trees_of list.old) }
     ensures made { IfOk result (λ it. (f : FunctionTree) → Tells counts.now f → IsAhead sure.old f level start.doubt start.from (reverse way.old) (trees_of list.old) → IsFoundAt f level it (trees_of list.old) (trees_of list.new)) }
     ensures kept { IfOk result (λ it. it ≡ None → list.new ≡ list.old) }
     ensures way { IfOk result (λ it. LeadsOn counts.now it (λ c. c.0) (λ f. IsAhead sure.old f level start.doubt start.from (reverse way.old) (trees_of list.old)) (λ (c : ℕ × ℕ) h. IsWayAt sure.new h level (reverse way.new) (behind c.1 (trees_of list.new)))) }

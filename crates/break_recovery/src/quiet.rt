@@ -8,6 +8,7 @@ ghost use Rattle.tidy_loops.specs.Slots.{Tells, count_in};
 ghost use Rattle.break_recovery.specs.Next.{next_list, next_at, next_item, next_sections};
 ghost use Rattle.break_recovery.specs.Places.{behind};
 ghost use Rattle.break_recovery.specs.Loops.{change_first};
+ghost use Rattle.break_recovery.specs.Within.{IsWithin, AreSectionsWithin, AreWithin};
 
 use crate::here::{Change, change_of};
 use c_tree::{Item, Section};
@@ -16,7 +17,8 @@ use tidy_loops::deeper;
 
 /// The change at this place, whose lists stand at this level.
 fn find(counts: &List<u64>, level: u32, items: &[Item], at: usize) -> Result<Option<Change>, Memory>
-    requires { at < length items.now }
+    requires place { at < length items.now }
+    requires within { IsWithin (count_in counts.now) (trees_of items.now) }
     ensures { IfOk result (λ it. it ≡ change_first (count_in counts.now) level (trees_of (drop at items.now))) }
 {
     let (_, rest) = items.split_at(at + 1);
@@ -26,6 +28,7 @@ fn find(counts: &List<u64>, level: u32, items: &[Item], at: usize) -> Result<Opt
 /// Whether no change applies in a list at this level.
 #[cycle(quiet)]
 fn is_quiet(counts: &List<u64>, level: u32, list: &List<Item>) -> Result<bool, Memory>
+    requires { IsWithin (count_in counts.now) (trees_of list.now) }
     ensures { IfOk result (λ q. q ≡ true → (f : FunctionTree) → Tells counts.now f → next_list f level (trees_of list.now) ≡ None) }
 {
     let inside = deeper(level)?;
@@ -35,6 +38,7 @@ fn is_quiet(counts: &List<u64>, level: u32, list: &List<Item>) -> Result<bool, M
 /// Whether no change applies at these items, whose lists stand at this level.
 #[cycle(quiet)]
 fn items_are_quiet(counts: &List<u64>, level: u32, items: &[Item]) -> Result<bool, Memory>
+    requires { IsWithin (count_in counts.now) (trees_of items.now) }
     ensures { IfOk result (λ q. q ≡ true → (f : FunctionTree) → Tells counts.now f → (j : ℕ) → next_at f level (behind j (trees_of items.now)) ≡ None) }
 {
     for i in 0..items.len() {
@@ -53,6 +57,7 @@ fn items_are_quiet(counts: &List<u64>, level: u32, items: &[Item]) -> Result<boo
 /// Whether no change applies in an item whose lists stand at this level.
 #[cycle(quiet)]
 pub fn item_is_quiet(counts: &List<u64>, level: u32, item: &Item) -> Result<bool, Memory>
+    requires { AreWithin (count_in counts.now) (tree_at item.now) }
     ensures { IfOk result (λ q. q ≡ true → (f : FunctionTree) → Tells counts.now f → next_item f level (tree_at item.now) ≡ None) }
 {
     match item {
@@ -80,6 +85,7 @@ pub fn item_is_quiet(counts: &List<u64>, level: u32, item: &Item) -> Result<bool
 
 #[cycle(quiet)]
 fn sections_are_quiet(counts: &List<u64>, level: u32, sections: &[Section]) -> Result<bool, Memory>
+    requires { AreSectionsWithin (count_in counts.now) (sections_of sections.now) }
     ensures { IfOk result (λ q. q ≡ true → (f : FunctionTree) → Tells counts.now f → next_sections f level (sections_of sections.now) ≡ None) }
 {
     for i in 0..sections.len() {

@@ -8,6 +8,8 @@ ghost use Rattle.break_recovery.specs.Next.{next_list, next_item, next_either, n
 ghost use Rattle.break_recovery.specs.Steady.{AreAlike, AreAlikeOf, AreSectionsAlike, IsAlike};
 ghost use Rattle.break_recovery.specs.Ways.{IsStep, IsWay, IsWayIn, IsWayOf, IsWayThrough};
 ghost use Rattle.break_recovery.specs.InARow.{IsRow};
+ghost use Rattle.tidy_loops.specs.Slots.{count_in};
+ghost use Rattle.break_recovery.specs.Within.{IsWithin, AreSectionsWithin, AreWithin};
 
 use crate::search::next_step;
 use crate::walk::change_along;
@@ -43,6 +45,7 @@ fn change_on(
     list: &mut List<Item>,
     way: &mut List<usize>,
 ) -> Result<List<u32>, Memory>
+    requires { IsWithin (count_in counts.old) (trees_of list.old) }
     ensures { IfOk result (λ gs. IsRow (λ f. next_list f level) AreAlike (λ f. IsWay true f level) counts.old counts.new gs (reverse way.old) (reverse way.new) (trees_of list.old) (trees_of list.new)) }
 {
     let mut at = next_step(way);
@@ -63,7 +66,8 @@ fn change_on_at(
     at: usize,
     way: &mut List<usize>,
 ) -> Result<List<u32>, Memory>
-    requires { way.old ≡ [] → ⊥ }
+    requires on { way.old ≡ [] → ⊥ }
+    requires within { IsWithin (count_in counts.old) (trees_of list.old) }
     ensures { IfOk result (λ gs. (v : List ℕ) → IsStep v at (reverse way.old) → IsRow (λ f. next_list f level) AreAlike (λ f. IsWay true f level) counts.old counts.new gs v (reverse way.new) (trees_of list.old) (trees_of list.new)) }
 {
     let inside = deeper(level)?;
@@ -84,6 +88,7 @@ pub fn change_on_in(
     item: &mut Item,
     way: &mut List<usize>,
 ) -> Result<List<u32>, Memory>
+    requires { AreWithin (count_in counts.old) (tree_at item.old) }
     ensures { IfOk result (λ gs. IsRow (λ f. next_item f level) IsAlike (λ f. IsWayIn true f level) counts.old counts.new gs (reverse way.old) (reverse way.new) (tree_at item.old) (tree_at item.new)) }
 {
     match mem::replace(item, Item::Break) {
@@ -133,6 +138,7 @@ fn change_on_either(
     second: &mut List<Item>,
     way: &mut List<usize>,
 ) -> Result<List<u32>, Memory>
+    requires { IsWithin (count_in counts.old) (trees_of first.old) × IsWithin (count_in counts.old) (trees_of second.old) }
     ensures { IfOk result (λ gs. IsRow (λ f (c : Forest × Forest). next_either f level c.0 c.1) (λ g (c d : Forest × Forest). AreAlikeOf g c.0 c.1 d.0 d.1) (λ f w (c : Forest × Forest). IsWayOf true f level w c.0 c.1) counts.old counts.new gs (reverse way.old) (reverse way.new) (trees_of first.old, trees_of second.old) (trees_of first.new, trees_of second.new)) }
 {
     if next_step(way) > 0 {
@@ -153,6 +159,7 @@ fn change_on_sections(
     sections: &mut List<Section>,
     way: &mut List<usize>,
 ) -> Result<List<u32>, Memory>
+    requires { AreSectionsWithin (count_in counts.old) (sections_of sections.old) }
     ensures { IfOk result (λ gs. IsRow (λ f. next_sections f level) AreSectionsAlike (λ f. IsWayThrough true f level) counts.old counts.new gs (reverse way.old) (reverse way.new) (sections_of sections.old) (sections_of sections.new)) }
 {
     let at = next_step(way);
@@ -172,6 +179,7 @@ fn change_on_section(
     section: &mut Section,
     way: &mut List<usize>,
 ) -> Result<List<u32>, Memory>
+    requires { IsWithin (count_in counts.old) (trees_of (list_of section.old)) }
     ensures row { IfOk result (λ gs. IsRow (λ f. next_list f level) AreAlike (λ f. IsWay true f level) counts.old counts.new gs (reverse way.old) (reverse way.new) (trees_of (list_of section.old)) (trees_of (list_of section.new))) }
     ensures rest { IfOk result (λ gs. section.new ≡ with_list (list_of section.new) section.old) }
 {

@@ -3,10 +3,11 @@ ghost use Rattle.c_tree.specs.Paths.{list_of, with_list};
 ghost use Rattle.c_tree.specs.Trees.{trees_of, sections_of, join};
 ghost use Rattle.jump_meaning.specs.Code.{FunctionTree};
 ghost use Rattle.c_tree.specs.Views.{tree_at};
-ghost use Rattle.tidy_loops.specs.Slots.{Tells};
+ghost use Rattle.tidy_loops.specs.Slots.{count_in, Tells};
 ghost use Rattle.break_recovery.specs.Next.{put, next_list, next_at, next_here, next_item, next_either, next_sections, changed_to};
 ghost use Rattle.break_recovery.specs.Steady.{AreAlike, AreAlikeOf, AreSectionsAlike, IsAlike, IsSaid};
 ghost use Rattle.break_recovery.specs.Ways.{IsWay, IsWayAt, IsWayIn, IsWayOf, IsWayThrough, IsStep, LeadsOn};
+ghost use Rattle.break_recovery.specs.Within.{IsWithin, AreSectionsWithin, AreWithin};
 
 use crate::here::change_here;
 use c_tree::{Item, Section};
@@ -45,6 +46,7 @@ fn change_list(
     way: &mut List<usize>,
     sure: &mut bool,
 ) -> Result<Option<u32>, Memory>
+    requires { IsWithin (count_in counts.now) (trees_of list.old) }
     ensures made { IfOk result (λ it. (f : FunctionTree) → Tells counts.now f → IsWay sure.old f level (reverse way.old) (trees_of list.old) → changed_to it (trees_of list.new) ≡ next_list f level (trees_of list.old)) }
     ensures kept { IfOk result (λ it. it ≡ None → list.new ≡ list.old) }
     ensures alike { IfOk result (λ it. IsSaid it sure.new (λ g. AreAlike g (trees_of list.old) (trees_of list.new))) }
@@ -74,7 +76,8 @@ fn change_at(
     way: &mut List<usize>,
     sure: &mut bool,
 ) -> Result<Option<u32>, Memory>
-    requires { at < length list.old }
+    requires place { at < length list.old }
+    requires within { IsWithin (count_in counts.now) (trees_of list.old) }
     ensures made { IfOk result (λ it. (f : FunctionTree) → Tells counts.now f → IsWayAt sure.old f level (reverse way.old) (trees_of (drop at list.old)) → changed_to it (trees_of list.new) ≡ put (join (trees_of (take at list.old))) (next_at f level (trees_of (drop at list.old)))) }
     ensures kept { IfOk result (λ it. it ≡ None → list.new ≡ list.old) }
     ensures alike { IfOk result (λ it. IsSaid it sure.new (λ g. AreAlike g (trees_of list.old) (trees_of list.new))) }
@@ -97,7 +100,8 @@ fn change_asked(
     way: &mut List<usize>,
     sure: &mut bool,
 ) -> Result<Option<u32>, Memory>
-    requires { at < length list.old }
+    requires place { at < length list.old }
+    requires within { IsWithin (count_in counts.now) (trees_of list.old) }
     ensures made { IfOk result (λ it. (f : FunctionTree) → Tells counts.now f → IsWayAt sure.old f level (reverse way.old) (trees_of (drop at list.old)) → changed_to it (trees_of list.new) ≡ put (join (trees_of (take at list.old))) (next_at f level (trees_of (drop at list.old)))) }
     ensures kept { IfOk result (λ it. it ≡ None → list.new ≡ list.old) }
     ensures alike { IfOk result (λ it. IsSaid it sure.new (λ g. AreAlike g (trees_of list.old) (trees_of list.new))) }
@@ -122,7 +126,8 @@ fn change_within(
     way: &mut List<usize>,
     sure: &mut bool,
 ) -> Result<Option<u32>, Memory>
-    requires { at < length list.old }
+    requires place { at < length list.old }
+    requires within { IsWithin (count_in counts.now) (trees_of list.old) }
     ensures made { IfOk result (λ it. (f : FunctionTree) → Tells counts.now f → next_here f level (trees_of (drop at list.old)) ≡ None → IsWayAt sure.old f level (reverse way.old) (trees_of (drop at list.old)) → changed_to it (trees_of list.new) ≡ put (join (trees_of (take at list.old))) (next_at f level (trees_of (drop at list.old)))) }
     ensures kept { IfOk result (λ it. it ≡ None → list.new ≡ list.old) }
     ensures alike { IfOk result (λ it. IsSaid it sure.new (λ g. AreAlike g (trees_of list.old) (trees_of list.new))) }
@@ -141,6 +146,7 @@ pub fn change_item(
     way: &mut List<usize>,
     sure: &mut bool,
 ) -> Result<Option<u32>, Memory>
+    requires { AreWithin (count_in counts.now) (tree_at item.old) }
     ensures made { IfOk result (λ it. (f : FunctionTree) → Tells counts.now f → IsWayIn sure.old f level (reverse way.old) (tree_at item.old) → changed_to it (tree_at item.new) ≡ next_item f level (tree_at item.old)) }
     ensures kept { IfOk result (λ it. it ≡ None → item.new ≡ item.old) }
     ensures alike { IfOk result (λ it. IsSaid it sure.new (λ g. IsAlike g (tree_at item.old) (tree_at item.new))) }
@@ -195,6 +201,7 @@ fn change_either(
     way: &mut List<usize>,
     sure: &mut bool,
 ) -> Result<Option<u32>, Memory>
+    requires { IsWithin (count_in counts.now) (trees_of first.old) × IsWithin (count_in counts.now) (trees_of second.old) }
     ensures made { IfOk result (λ it. (f : FunctionTree) → Tells counts.now f → IsWayOf sure.old f level (reverse way.old) (trees_of first.old) (trees_of second.old) → changed_to it (trees_of first.new, trees_of second.new) ≡ next_either f level (trees_of first.old) (trees_of second.old)) }
     ensures kept { IfOk result (λ it. it ≡ None → (first.new ≡ first.old) × (second.new ≡ second.old)) }
     ensures alike { IfOk result (λ it. IsSaid it sure.new (λ g. AreAlikeOf g (trees_of first.old) (trees_of second.old) (trees_of first.new) (trees_of second.new))) }
@@ -222,6 +229,7 @@ fn change_second(
     way: &mut List<usize>,
     sure: &mut bool,
 ) -> Result<Option<u32>, Memory>
+    requires { IsWithin (count_in counts.now) (trees_of second.old) }
     ensures made { IfOk result (λ it. (f : FunctionTree) → Tells counts.now f → IsWay sure.old f level (reverse way.old) (trees_of second.old) → changed_to it (trees_of second.new) ≡ next_list f level (trees_of second.old)) }
     ensures kept { IfOk result (λ it. it ≡ None → second.new ≡ second.old) }
     ensures alike { IfOk result (λ it. IsSaid it sure.new (λ g. AreAlike g (trees_of second.old) (trees_of second.new))) }
@@ -244,6 +252,7 @@ fn change_sections(
     way: &mut List<usize>,
     sure: &mut bool,
 ) -> Result<Option<u32>, Memory>
+    requires { AreSectionsWithin (count_in counts.now) (sections_of sections.old) }
     ensures made { IfOk result (λ it. (f : FunctionTree) → Tells counts.now f → IsWayThrough sure.old f level (reverse way.old) (sections_of sections.old) → changed_to it (sections_of sections.new) ≡ next_sections f level (sections_of sections.old)) }
     ensures kept { IfOk result (λ it. it ≡ None → sections.new ≡ sections.old) }
     ensures alike { IfOk result (λ it. IsSaid it sure.new (λ g. AreSectionsAlike g (sections_of sections.old) (sections_of sections.new))) }
@@ -271,6 +280,7 @@ fn change_section(
     way: &mut List<usize>,
     sure: &mut bool,
 ) -> Result<Option<u32>, Memory>
+    requires { IsWithin (count_in counts.now) (trees_of (list_of section.old)) }
     ensures made { IfOk result (λ it. (f : FunctionTree) → Tells counts.now f → IsWay sure.old f level (reverse way.old) (trees_of (list_of section.old)) → changed_to it (trees_of (list_of section.new)) ≡ next_list f level (trees_of (list_of section.old))) }
     ensures rest { IfOk result (λ it. section.new ≡ with_list (list_of section.new) section.old) }
     ensures kept { IfOk result (λ it. it ≡ None → section.new ≡ section.old) }

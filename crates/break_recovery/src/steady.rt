@@ -1,15 +1,17 @@
 //! Whether a change of a loop leaves the checks of all other slots as they are.
 
-ghost use Rattle.std.specs.Prelude.{◌≡◌};
+ghost use Rattle.std.specs.Prelude.{◌≡◌, ◌&&◌, not};
 ghost use Rattle.c_tree.specs.Trees.{trees_of, sections_of};
 ghost use Rattle.c_tree.specs.ExpressionTrees.{expression_tree, place_tree};
 ghost use Rattle.c_tree.specs.Views.{tree_at};
+ghost use Rattle.tidy_laws.specs.Mentions.{list_lacks};
 ghost use Rattle.tidy_loops.specs.Views.{expression_at, test_at};
 ghost use Rattle.break_recovery.specs.Steady.{assigns_off as the_assigns_off, sets_off as the_sets_off, has_else as the_has_else, is_steady as the_is_steady, item_is_steady as the_item_is_steady, sections_are_steady as the_sections_are_steady};
 
 use c_tree::{Expression, Item, Node, Place, Section, Test};
 use c_types::List;
 use tidy_loops::{is_it, off_slot, place_slot};
+use tidy_slots::list_names;
 
 fn assigns_off(slot: u32, place: &Place, value: &Expression) -> bool
     ensures { result ≡ the_assigns_off slot (place_tree place.now) (expression_tree value.now) }
@@ -40,7 +42,7 @@ fn has_else(test: &Test, other: &List<Item>) -> bool
     }
 }
 
-/// Whether a list holds no set of the slot to `!x`, and no `if (!x)` with an else-list.
+/// Whether a list holds no set of the slot to `!x`, and no `if (!x)` whose else-list names the slot.
 #[cycle(steady)]
 fn is_steady(slot: u32, list: &List<Item>) -> bool
     ensures { result ≡ the_is_steady slot (trees_of list.now) }
@@ -72,7 +74,7 @@ fn sections_are_steady(slot: u32, sections: &[Section]) -> bool
     true
 }
 
-/// Whether an item holds no set of the slot to `!x`, and no `if (!x)` with an else-list.
+/// Whether an item holds no set of the slot to `!x`, and no `if (!x)` whose else-list names the slot.
 #[cycle(steady)]
 pub fn item_is_steady(slot: u32, item: &Item) -> bool
     ensures { result ≡ the_item_is_steady slot (tree_at item.now) }
@@ -80,12 +82,14 @@ pub fn item_is_steady(slot: u32, item: &Item) -> bool
     match item {
         Item::Evaluate(e) => !sets_off(slot, e),
         Item::If(test, a, b) => {
-            if has_else(test, b) {
-                return false;
-            }
             let a = is_steady(slot, a);
+            // an else-list that lacks the slot is steady
+            if has_else(test, b) {
+                let named = list_names(slot, b);
+                return a & !named;
+            }
             let b = is_steady(slot, b);
-            a && b
+            a & b
         }
         Item::While(_, a) => is_steady(slot, a),
         Item::Do(a, _) => is_steady(slot, a),

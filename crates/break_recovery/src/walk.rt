@@ -2,7 +2,7 @@
 //! that the walk has come to, and the gap closes at the end of the walk: the items behind it move once, and not for each
 //! change.
 
-ghost use Rattle.std.specs.Prelude.{false, ◌≡◌, suc, ◌+◌, ◌<◌, ◌≤◌, ◌++◌, ℕ, List, [], length, take, drop, Some, None, IfOk, OnOk};
+ghost use Rattle.std.specs.Prelude.{false, ◌≡◌, suc, ◌+◌, ◌<◌, ◌≤◌, ◌++◌, ℕ, List, [], length, take, drop, slice_get, Some, None, IfOk, OnOk};
 ghost use Rattle.c_tree.specs.Trees.{trees_of, join};
 ghost use Rattle.tidy_loops.specs.Slots.{count_in};
 ghost use Rattle.break_recovery.specs.Next.{next_list};
@@ -10,11 +10,14 @@ ghost use Rattle.break_recovery.specs.Places.{AreQuiet};
 ghost use Rattle.break_recovery.specs.Loops.{change_first, list_after};
 ghost use Rattle.break_recovery.specs.Steady.{AreAlike};
 ghost use Rattle.break_recovery.specs.InARow.{IsRow, closed};
+ghost use Rattle.break_recovery.specs.Within.{IsWithin};
+ghost use Rattle.break_recovery.specs.Exits.{HoldsAtMost};
+ghost use Rattle.c_tree.specs.declared.tree.Item.{Item};
+ghost use Rattle.c_tree.specs.Views.{tree_at};
 
 use crate::functions::forget;
-use crate::here::{Change, change_of, changed_loop, keeps_next, slot_of};
+use crate::here::{Change, change_of, changed_loop, exits_of, keeps_next, leaves_others, slot_of};
 use crate::quiet::item_is_quiet;
-use crate::steady::item_is_steady;
 use c_tree::Item;
 use c_types::{List, Memory};
 use std::alloc::Global;
@@ -50,6 +53,7 @@ pub fn change_along(
     list: &mut List<Item>,
     place: &mut usize,
 ) -> Result<List<u32>, Memory>
+    requires { IsWithin (count_in counts.old) (trees_of list.old) }
     ensures { IfOk result (λ gs. IsRow (λ f. next_list f level) AreAlike (λ f. AreQuiet f (suc level)) counts.old counts.new gs place.old place.new (trees_of list.old) (trees_of list.new)) }
 {
     if are_few(list, *place) {
@@ -73,7 +77,8 @@ fn walk_on(
     list: &mut List<Item>,
     walk: &mut Walk,
 ) -> Result<List<u32>, Memory>
-    requires { (walk.old.at < walk.old.next) × (walk.old.next ≤ length list.old) }
+    requires place { (walk.old.at < walk.old.next) × (walk.old.next ≤ length list.old) }
+    requires within { IsWithin (count_in counts.old) (trees_of (closed walk.old.at walk.old.next list.old)) }
     ensures within { OnOk result ((walk.new.at < walk.new.next) × (walk.new.next ≤ length list.new)) }
     ensures row { IfOk result (λ gs. IsRow (λ f. next_list f level) AreAlike (λ f. AreQuiet f (suc level)) counts.old counts.new gs walk.old.at walk.new.at (trees_of (closed walk.old.at walk.old.next list.old)) (trees_of (closed walk.new.at walk.new.next list.new))) }
 {
@@ -99,7 +104,9 @@ fn step(
     walk: &mut Walk,
     slots: &mut List<u32>,
 ) -> Result<bool, Memory>
-    requires { (walk.old.at < walk.old.next) × (walk.old.next ≤ length list.old) }
+    requires place { (walk.old.at < walk.old.next) × (walk.old.next ≤ length list.old) }
+    requires within { IsWithin (count_in counts.old) (trees_of (closed walk.old.at walk.old.next list.old)) }
+    ensures less { OnOk result (IsWithin (count_in counts.new) (trees_of (closed walk.new.at walk.new.next list.new))) }
     ensures within { OnOk result ((walk.new.at < walk.new.next) × (walk.new.next ≤ length list.new)) }
     ensures row { (n : ℕ) → level ≡ suc n → OnOk result ((gs : List ℕ) × (slots.new ≡ slots.old ++ gs) × IsRow (λ f. next_list f n) AreAlike (λ f. AreQuiet f (suc n)) counts.old counts.new gs walk.old.at walk.new.at (trees_of (closed walk.old.at walk.old.next list.old)) (trees_of (closed walk.new.at walk.new.next list.new))) }
 {
@@ -116,7 +123,8 @@ fn find(
     list: &List<Item>,
     walk: Walk,
 ) -> Result<Option<Change>, Memory>
-    requires { (walk.at < walk.next) × (walk.next ≤ length list.now) }
+    requires place { (walk.at < walk.next) × (walk.next ≤ length list.now) }
+    requires within { IsWithin (count_in counts.now) (trees_of (closed walk.at walk.next list.now)) }
     ensures { IfOk result (λ it. it ≡ change_first (count_in counts.now) level (trees_of (drop walk.at (closed walk.at walk.next list.now)))) }
 {
     let items = list.as_slice();
@@ -134,29 +142,40 @@ fn change_steadily(
     walk: &mut Walk,
     slots: &mut List<u32>,
 ) -> Result<bool, Memory>
-    requires { (walk.old.at < walk.old.next) × (walk.old.next ≤ length list.old) }
+    requires place { (walk.old.at < walk.old.next) × (walk.old.next ≤ length list.old) }
+    requires found { (n : ℕ) × change_first (count_in counts.old) n (trees_of (drop walk.old.at (closed walk.old.at walk.old.next list.old))) ≡ Some change }
+    requires within { IsWithin (count_in counts.old) (trees_of (closed walk.old.at walk.old.next list.old)) }
+    ensures less { OnOk result (IsWithin (count_in counts.new) (trees_of (closed walk.new.at walk.new.next list.new))) }
     ensures within { OnOk result ((walk.new.at < walk.new.next) × (walk.new.next ≤ length list.new)) }
     ensures row { (n : ℕ) → Some change ≡ change_first (count_in counts.old) (suc n) (trees_of (drop walk.old.at (closed walk.old.at walk.old.next list.old))) → OnOk result ((gs : List ℕ) × (slots.new ≡ slots.old ++ gs) × IsRow (λ f. next_list f n) AreAlike (λ f. AreQuiet f (suc n)) counts.old counts.new gs walk.old.at walk.new.at (trees_of (closed walk.old.at walk.old.next list.old)) (trees_of (closed walk.new.at walk.new.next list.new))) }
 {
     let slot = slot_of(change);
     let at = walk.at;
-    if !item_is_steady(slot, &list.as_slice()[at]) {
+    let exits = exits_of(counts, change);
+    if !leaves_others(change, exits, &list.as_slice()[at]) {
         return Ok(false);
     }
-    make(alloc, change, list, walk)?;
+    make(alloc, change, exits, list, walk)?;
     forget(slot, counts);
     slots.push(slot)?;
     Ok(true)
 }
 
 /// Makes this change: what it takes out comes into the gap.
-fn make(alloc: Global, change: Change, list: &mut List<Item>, walk: &mut Walk) -> Result<(), Memory>
-    requires { (walk.old.at < walk.old.next) × (walk.old.next ≤ length list.old) }
+fn make(
+    alloc: Global,
+    change: Change,
+    exits: u64,
+    list: &mut List<Item>,
+    walk: &mut Walk,
+) -> Result<(), Memory>
+    requires place { (walk.old.at < walk.old.next) × (walk.old.next ≤ length list.old) }
+    requires exits { (x : Item) → slice_get list.old walk.old.at ≡ Some x → HoldsAtMost change exits (tree_at x) }
     ensures within { OnOk result ((walk.new.at < walk.new.next) × (walk.new.next ≤ length list.new)) }
     ensures place { OnOk result (walk.new.at ≡ walk.old.at) }
     ensures made { OnOk result (trees_of (closed walk.new.at walk.new.next list.new) ≡ join (trees_of (take walk.old.at (closed walk.old.at walk.old.next list.old))) (list_after change (trees_of (drop walk.old.at (closed walk.old.at walk.old.next list.old))))) }
 {
-    changed_loop(alloc, change, list.at_mut(walk.at))?;
+    changed_loop(alloc, change, exits, list.at_mut(walk.at))?;
     if keeps_next(change) {
         return Ok(());
     }
@@ -173,7 +192,9 @@ fn pass(
     list: &mut List<Item>,
     walk: &mut Walk,
 ) -> Result<bool, Memory>
-    requires { (walk.old.at < walk.old.next) × (walk.old.next ≤ length list.old) }
+    requires place { (walk.old.at < walk.old.next) × (walk.old.next ≤ length list.old) }
+    requires within { IsWithin (count_in counts.now) (trees_of (closed walk.old.at walk.old.next list.old)) }
+    ensures less { OnOk result (IsWithin (count_in counts.now) (trees_of (closed walk.new.at walk.new.next list.new))) }
     ensures within { OnOk result ((walk.new.at < walk.new.next) × (walk.new.next ≤ length list.new)) }
     ensures row { (n : ℕ) → level ≡ suc n → None ≡ change_first (count_in counts.now) level (trees_of (drop walk.old.at (closed walk.old.at walk.old.next list.old))) → OnOk result (IsRow (λ f. next_list f n) AreAlike (λ f. AreQuiet f (suc n)) counts.now counts.now [] walk.old.at walk.new.at (trees_of (closed walk.old.at walk.old.next list.old)) (trees_of (closed walk.new.at walk.new.next list.new))) }
 {

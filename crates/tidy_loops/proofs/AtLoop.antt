@@ -15,7 +15,8 @@ use Rattle.tidy_loops.specs.declared.exits.Exit.TheVariants as E
 use Rattle.tidy_loops.specs.Views.{place_slot, is_it, is_int_kind}
 use Rattle.tidy_loops.specs.Exits.{exits_in}
 use Rattle.tidy_loops.proofs.FormLaws.{off_it}
-use Rattle.tidy_loops.proofs.Gone.{off_once, exit_laws_hold}
+use Rattle.tidy_loops.proofs.ExitCounts.{off_one}
+use Rattle.tidy_loops.proofs.Gone.{exit_laws_hold}
 use Rattle.tidy_loops.specs.Fits.{is_declared_flag, fits}
 use Rattle.tidy_loops.specs.Slots.{may_go, counts_of, stop_slot, rest_test, reset_slot, first_reset, last_reset, but_last, but_first, allowed, breaks, continues, break_slot, continue_slot, broken, continued, broken_lists, continued_lists, found}
 use Rattle.tidy_loops.specs.LoopLaws.{LoopLaws}
@@ -98,7 +99,7 @@ last_once g (Then x Nil) h = let p = reset_once g x h in omega (arith, p)
 last_once g (Then x (Then y ys)) h = let p = last_once g (Then y ys) h in omega (arith, p)
 
 stop_once : (g : ℕ) (t : TestTree) → is_it g (stop_slot t) ≡ true → test_count g t ≡ suc (test_count g (rest_test t))
-stop_once g (Source (Typed k (Binary AndThen e t))) h = let p = off_once g e (off_it g e ∙ h) in omega (arith, p)
+stop_once g (Source (Typed k (Binary AndThen e t))) h = let p = off_one g e (off_it g e ∙ h) in omega (arith, p)
 stop_once g _ h = cc
 
 it_is : (s : ℕ) (so : Option ℕ) → so ≡ Some s → is_it s so ≡ true

@@ -10,6 +10,7 @@ use Rattle.c_tree.proofs.Views.{trees-first, trees-at, trees-end, trees-push}
 use Rattle.tidy_laws.specs.Tails.{is_check, is_end}
 use Rattle.tidy_laws.specs.Changes.{given_way, inner, inner_item, tailed, tailed_item}
 use Rattle.tidy_loops.specs.Exits.{then_list, inner_kept, tailed_kept, each_inner, each_tailed, has_check, checks_told, way_given, ways_given}
+use Rattle.tidy_loops.specs.Rewritten.{list_rewritten, each_rewritten}
 use Rattle.tidy_loops.proofs.Made.{inner_by, tailed_by, join_join, join_nil}
 
 -- ---- one item
@@ -116,3 +117,9 @@ ways_more (b ∷ bs) (y ∷ ys) x =
 -- with nothing behind it yet
 pub ways_none : (bs : List Bool) → ways_given bs (trees_of []) ≡ Nil
 ways_none bs = ap (ways_given bs) trees-none ∙ none_left bs
+
+-- at a tail or not
+pub rewritten_given : (tail : Bool) (g : ℕ) (l : Tree) (a : Forest) →
+    ways_given (cond (has_check g a) (checks_told g a) []) (each_rewritten tail g l a) ≡ list_rewritten tail g l a
+rewritten_given true g l a = tailed_given g l a
+rewritten_given false g l a = inner_given g a

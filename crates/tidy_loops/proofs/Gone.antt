@@ -1,12 +1,11 @@
 -- What goes with a change: of the times that the slot is named, as many as are counted.
-use Rattle.std.proofs.Common.{ℕ, ◌+◌, Bool, true, false, cond, ◌&&◌, eqb, eqb-true, is_some, Some, None, ◌≡◌, refl, sym, ap, ◌∙◌, arith}
-use Rattle.c_tree.specs.declared.tree.UnaryOp.TheVariants.{Not}
+use Rattle.std.proofs.Common.{ℕ, ◌+◌, Bool, true, false, cond, ◌&&◌, eqb, eqb-true, is_some, Some, None, ◌≡◌, refl, sym, ◌∙◌, arith}
 use Rattle.c_tree.specs.declared.tree.Home.TheVariants as H
-use Rattle.c_tree.specs.ExpressionTrees.{ExpressionTree, Typed, Var, Read, Unary, Assign}
+use Rattle.c_tree.specs.ExpressionTrees.{ExpressionTree, Typed, Var, Assign}
 use Rattle.c_tree.specs.TestTrees.{TestTree, Source}
 use Rattle.c_tree.specs.Trees.{Tree, Forest, Nil, Then, Sections, NoSection, Section, Evaluate, If, While, Do, For, Switch, Block}
 use Rattle.c_tree.specs.Changed.{one}
-use Rattle.tidy_laws.specs.Tails.{reads, is_off, is_end}
+use Rattle.tidy_laws.specs.Tails.{is_end}
 use Rattle.tidy_laws.specs.Mentions.{lacks}
 use Rattle.tidy_laws.specs.Changes.{is_narrow_expression, set_value, is_number, has_local, checks, unchecked, set_or, inner, inner_item, inner_sections, tailed, tailed_item}
 use Rattle.tidy_slots.specs.Counts.{one_if, expression_count, test_count, list_count, item_count, sections_count}
@@ -15,19 +14,7 @@ use Rattle.tidy_loops.specs.declared.exits.Exit.{Exit}
 use Rattle.tidy_loops.specs.declared.exits.Exit.TheVariants as E
 use Rattle.tidy_loops.specs.Exits.{checks_in, checks_of, checks_within, exits_in, exits_of, jump_of}
 use Rattle.tidy_loops.specs.ExitLaws.{ExitLaws}
-
-reads_once : (g : ℕ) (e : ExpressionTree) → reads g e ≡ true → expression_count g e ≡ 1
-reads_once g (Typed k (Read (Var (H.Slot x)))) h = ap one_if h
-reads_once g _ h = cc
-
-pub off_once : (g : ℕ) (e : ExpressionTree) → is_off g e ≡ true → expression_count g e ≡ 1
-off_once g (Typed k (Unary Not e)) h = reads_once g e h
-off_once g _ h = cc
-
-pub check_test : (g : ℕ) (t : TestTree) (b : Forest) → checks g t b ≡ true → test_count g t ≡ 1
-check_test g (Source e) Nil h = off_once g e h
-check_test g (Source e) (Then x xs) h = cc
-check_test g _ b h = cc
+use Rattle.tidy_loops.proofs.ExitCounts.{check_one}
 
 check_else : (g : ℕ) (t : TestTree) (b : Forest) → checks g t b ≡ true → list_count g b ≡ 0
 check_else g (Source e) Nil h = refl
@@ -42,7 +29,7 @@ if_gone : (g : ℕ) (t : TestTree) (a b v w : Forest) (m n : ℕ) (c : Bool) →
     list_count g b ≡ list_count g w + n
     → test_count g t + (list_count g a + list_count g b) ≡ list_count g (unchecked c t v w) + (one_if c + (m + n))
 if_gone g t a b v w m n true h p q =
-    let r = check_test g t b h in
+    let r = check_one g t b h in
     let s = check_else g t b h in
     let u = given_at g v (has_local v) in
     omega (arith, p, q, r, s, u)

@@ -1,10 +1,16 @@
 pub mod FormLaws
 pub mod Gone
-pub mod Counted
 pub mod Made
 pub mod Giving
 pub mod InPlace
 pub mod Single
 pub mod AtLoop
 pub mod Read
+pub mod ExitCounts
+pub mod LeftOver
+pub mod Unnamed
+pub mod Ends
+pub mod Sizes
+pub mod Outside
+pub mod Results
 pub mod Kept

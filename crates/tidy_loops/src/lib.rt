@@ -3,30 +3,26 @@
 #![tactic(auto)]
 
 mod allowing;
-mod counting;
 mod counts;
 mod exit_law;
 mod exits;
 mod forms;
-mod inside;
 mod levels;
 mod making;
 mod reading;
+mod remaining;
 mod tails;
 mod ways;
 
 ghost use Rattle.tidy_loops.specs.LoopLaws.{LoopLaws};
 
 pub use allowing::{break_slot, continue_slot};
-pub use counting::{count_exits, exits_in_items};
-pub use counts::guard_counts;
+pub use counts::{count_of, guard_counts};
 pub use exit_law::exit_laws;
-pub use exits::Exit;
-pub use forms::{is_int, is_it, is_number, off_slot, place_slot};
-pub use levels::{are_low, deeper, items_are_low};
+pub use forms::{is_it, off_slot, place_slot};
+pub use levels::deeper;
 pub use making::{broken, continued};
 pub use reading::is_declaration;
-pub use tails::tailed;
 
 /// At a loop at most one change by `break` and one by `continue` apply: those of the slots that are read.
 #[tactic(auto, using(crate::proofs::AtLoop::loop_laws_hold))]

@@ -1,17 +1,23 @@
-ghost use Rattle.std.specs.Prelude.{◌≡◌, cond, length, IfOk, OnOk};
+//! How a list at a tail is rewritten for a slot. The caller says how often the list names the slot at most, so this
+//! begins at the end of each list, and stops where no mention can be left.
+
+ghost use Rattle.std.specs.Prelude.{ℕ, ◌≡◌, ◌≤◌, ◌<◌, ◌+◌, ◌&&◌, leb, length, drop, is_some, IfOk, OnOk};
 ghost use Rattle.std.specs.Option.{option_map_or};
 ghost use Rattle.c_tree.specs.ExpressionTrees.{expression_tree};
-ghost use Rattle.c_tree.specs.Trees.{trees_of};
-ghost use Rattle.c_tree.specs.Views.{tree_at};
-ghost use Rattle.tidy_laws.specs.Changes.{leaving as the_leaving, tailed as the_tailed};
-ghost use Rattle.tidy_loops.specs.Exits.{jump_of, left_at, inner_kept, tailed_kept, each_tailed};
+ghost use Rattle.c_tree.specs.Trees.{NoSection, trees_of, sections_of};
+ghost use Rattle.c_tree.specs.Views.{tree_at, before};
+ghost use Rattle.tidy_laws.specs.Tails.{is_end};
+ghost use Rattle.tidy_laws.specs.Changes.{leaving as the_leaving, tailed as the_tailed, inner_sections};
+ghost use Rattle.tidy_slots.specs.Counts.{one_if, list_count, item_count, sections_count};
+ghost use Rattle.tidy_loops.specs.Exits.{jump_of, left_at, exits_in, checks_within};
+ghost use Rattle.tidy_loops.specs.Remaining.{exits_within, item_exits};
+ghost use Rattle.tidy_loops.specs.Rewritten.{list_rewritten, each_rewritten, item_rewritten, sets_of};
 
 use crate::exits::{Exit, jump};
-use crate::forms::{is_last, is_number, set_value};
-use crate::inside::inner_item;
+use crate::forms::{is_check, is_last, is_number, set_value};
 use crate::ways::{checks_among, give_ways};
 use c_copies::copy_expression;
-use c_tree::{Expression, Item, Test};
+use c_tree::{Expression, Item, Section, Test};
 use c_types::{List, Memory};
 use std::alloc::Global;
 use std::mem;
@@ -30,8 +36,9 @@ fn leaving(alloc: Global, exit: Exit, value: &Expression) -> Result<Item, Memory
 }
 
 /// What a set becomes, and none of any other item.
-fn left(alloc: Global, slot: u32, exit: Exit, item: &Item) -> Result<Option<Item>, Memory>
-    ensures { IfOk result (λ it. option_map_or tree_at it (tree_at item.now) ≡ left_at slot (jump_of exit) (tree_at item.now)) }
+fn left_by(alloc: Global, slot: u32, exit: Exit, item: &Item) -> Result<Option<Item>, Memory>
+    ensures made { IfOk result (λ it. option_map_or tree_at it (tree_at item.now) ≡ left_at slot (jump_of exit) (tree_at item.now)) }
+    ensures told { IfOk result (λ it. one_if (is_some it) ≡ sets_of slot (tree_at item.now)) }
 {
     match item {
         Item::Evaluate(e) => match set_value(slot, e) {
@@ -42,62 +49,206 @@ fn left(alloc: Global, slot: u32, exit: Exit, item: &Item) -> Result<Option<Item
     }
 }
 
-/// Makes a set what it becomes. Any other item stays as it is.
-fn leave(alloc: Global, slot: u32, exit: Exit, item: &mut Item) -> Result<(), Memory>
-    ensures { OnOk result (tree_at item.new ≡ left_at slot (jump_of exit) (tree_at item.old)) }
+/// Makes a set what it becomes, and counts it down. Any other item stays as it is.
+fn leave(alloc: Global, slot: u32, exit: Exit, item: &mut Item, left: u64) -> Result<u64, Memory>
+    requires { item_count slot (tree_at item.old) ≤ left }
+    ensures made { OnOk result (tree_at item.new ≡ left_at slot (jump_of exit) (tree_at item.old)) }
+    ensures left { IfOk result (λ n. n + sets_of slot (tree_at item.old) ≡ left) }
 {
-    match left(alloc, slot, exit, item)? {
+    match left_by(alloc, slot, exit, item)? {
         Some(made) => {
             drop(mem::replace(item, made));
-            Ok(())
+            Ok(left - 1)
         }
-        None => Ok(()),
+        None => Ok(left),
     }
 }
 
-/// Makes each set at a tail of a list at a tail the jump, and each check give way to its list. Items that stay are not
-/// moved where no item of their list is a check. After `Memory` the list is given up.
-#[cycle(tailed)]
-pub fn tailed(alloc: Global, slot: u32, exit: Exit, list: &mut List<Item>) -> Result<(), Memory>
-    ensures { OnOk result (trees_of list.new ≡ the_tailed slot (jump_of exit) (trees_of list.old)) }
+/// One less where it holds.
+fn fewer(holds: bool, left: u64) -> u64
+    requires { one_if holds ≤ left }
+    ensures { result + one_if holds ≡ left }
 {
-    let checks = checks_among(alloc, slot, list.as_slice())?;
-    tailed_items(alloc, slot, exit, list.as_mut_slice())?;
-    give_ways(alloc, &checks, list)
+    if holds { left - 1 } else { left }
 }
 
-/// The items behind one are as they were when it is asked whether it is at a tail.
-#[cycle(tailed)]
-fn tailed_items(alloc: Global, slot: u32, exit: Exit, items: &mut [Item]) -> Result<(), Memory>
-    ensures as_long { length items.new ≡ length items.old }
-    ensures made { OnOk result (trees_of items.new ≡ each_tailed slot (jump_of exit) (trees_of items.old)) }
+/// The place from which on the items of the list are at a tail. There is none in a list that is at none.
+fn first_at_tail(slot: u32, tail: bool, items: &[Item]) -> usize
+    ensures { (at : ℕ) → at < length items.now → leb result at ≡ (tail && is_end slot (trees_of (drop (at + 1) items.now))) }
 {
-    for i in 0..items.len() {
-        let last = is_last(slot, items, i);
-        tailed_item(alloc, slot, exit, last, &mut items[i])?;
+    let length = items.len();
+    if !tail || length == 0 {
+        return length;
     }
-    Ok(())
+    if length == 1 {
+        return 0;
+    }
+    if is_last(slot, items, length - 2) {
+        return length - 2;
+    }
+    length - 1
 }
 
-#[cycle(tailed)]
-fn tailed_item(
+/// Makes each set at a tail of a list at a tail the jump, and each check give way to its list; answers how many
+/// mentions may still be left. Items that stay are not moved where no item of their list is a check. After `Memory` the
+/// list is given up.
+pub fn tailed(
     alloc: Global,
     slot: u32,
     exit: Exit,
-    last: bool,
-    item: &mut Item,
-) -> Result<(), Memory>
-    ensures { OnOk result (tree_at item.new ≡ cond last (tailed_kept slot (jump_of exit) (tree_at item.old)) (inner_kept slot (tree_at item.old))) }
+    list: &mut List<Item>,
+    left: u64,
+) -> Result<u64, Memory>
+    requires { list_count slot (trees_of list.old) ≤ left }
+    ensures made { OnOk result (trees_of list.new ≡ the_tailed slot (jump_of exit) (trees_of list.old)) }
+    ensures left { IfOk result (λ n. n + exits_in slot (trees_of list.old) ≡ left) }
 {
-    if !last {
-        return inner_item(alloc, slot, item);
+    rewrite_list(alloc, slot, exit, true, list, left)
+}
+
+/// The same for a list that may be at no tail. What it takes away from the number is no more than the list names the slot,
+/// so the number bounds the mentions before it too.
+#[cycle(rewrite)]
+fn rewrite_list(
+    alloc: Global,
+    slot: u32,
+    exit: Exit,
+    tail: bool,
+    list: &mut List<Item>,
+    left: u64,
+) -> Result<u64, Memory>
+    requires { list_count slot (trees_of list.old) ≤ left }
+    ensures made { OnOk result (trees_of list.new ≡ list_rewritten tail slot (jump_of exit) (trees_of list.old)) }
+    ensures left { IfOk result (λ n. n + exits_within tail slot (trees_of list.old) ≡ left) }
+    ensures behind { IfOk result (λ n. left ≤ n + list_count slot (trees_of list.old)) }
+{
+    if left == 0 {
+        return Ok(0);
     }
-    match item {
-        Item::Evaluate(_) => leave(alloc, slot, exit, item),
-        Item::If(_, a, b) => {
-            tailed(alloc, slot, exit, a)?;
-            tailed(alloc, slot, exit, b)
+    let checks = checks_among(alloc, slot, list.as_slice())?;
+    let still = rewrite_items(alloc, slot, exit, tail, list.as_mut_slice(), left)?;
+    give_ways(alloc, &checks, list)?;
+    Ok(still)
+}
+
+/// Which items are at a tail is asked before any of them is rewritten.
+#[cycle(rewrite)]
+fn rewrite_items(
+    alloc: Global,
+    slot: u32,
+    exit: Exit,
+    tail: bool,
+    items: &mut [Item],
+    left: u64,
+) -> Result<u64, Memory>
+    requires { list_count slot (trees_of items.old) ≤ left }
+    ensures as_long { length items.new ≡ length items.old }
+    ensures made { OnOk result (trees_of items.new ≡ each_rewritten tail slot (jump_of exit) (trees_of items.old)) }
+    ensures left { IfOk result (λ n. n + exits_within tail slot (trees_of items.old) ≡ left) }
+{
+    let first = first_at_tail(slot, tail, items);
+    let mut still = left;
+    let mut ahead = items.len();
+    'items: while ahead > 0 {
+        if still == 0 {
+            return Ok(0);
         }
-        _ => inner_item(alloc, slot, item),
+        let at = ahead - 1;
+        still = rewrite_item(alloc, slot, exit, first <= at, &mut items[at], still)?;
+        ahead = at;
     }
+    Ok(still)
+}
+
+#[cycle(rewrite)]
+fn rewrite_item(
+    alloc: Global,
+    slot: u32,
+    exit: Exit,
+    tail: bool,
+    item: &mut Item,
+    left: u64,
+) -> Result<u64, Memory>
+    requires { item_count slot (tree_at item.old) ≤ left }
+    ensures made { OnOk result (tree_at item.new ≡ item_rewritten tail slot (jump_of exit) (tree_at item.old)) }
+    ensures left { IfOk result (λ n. n + item_exits tail slot (tree_at item.old) ≡ left) }
+{
+    let check = is_check(slot, item);
+    match item {
+        Item::Evaluate(_) => {
+            if tail {
+                leave(alloc, slot, exit, item, left)
+            } else {
+                Ok(left)
+            }
+        }
+        Item::If(_, a, b) => {
+            let still = fewer(check, left);
+            let still = rewrite_list(alloc, slot, exit, tail, b, still)?;
+            rewrite_list(alloc, slot, exit, tail, a, still)
+        }
+        Item::While(_, a) => rewrite_list(alloc, slot, exit, false, a, left),
+        Item::Do(a, _) => rewrite_list(alloc, slot, exit, false, a, left),
+        Item::For(_, _, _, a) => rewrite_list(alloc, slot, exit, false, a, left),
+        Item::Switch(_, sections) => rewrite_switch(alloc, slot, exit, sections, left),
+        Item::Block(a) => rewrite_list(alloc, slot, exit, false, a, left),
+        // No other item holds a list.
+        _ => Ok(left),
+    }
+}
+
+#[cycle(rewrite)]
+fn rewrite_switch(
+    alloc: Global,
+    slot: u32,
+    exit: Exit,
+    sections: &mut List<Section>,
+    left: u64,
+) -> Result<u64, Memory>
+    requires { sections_count slot (sections_of sections.old) ≤ left }
+    ensures made { OnOk result (sections_of sections.new ≡ inner_sections slot (sections_of sections.old)) }
+    ensures left { IfOk result (λ n. n + checks_within slot (sections_of sections.old) ≡ left) }
+{
+    rewrite_sections(alloc, slot, exit, sections.as_mut_slice(), left)
+}
+
+#[cycle(rewrite)]
+fn rewrite_sections(
+    alloc: Global,
+    slot: u32,
+    exit: Exit,
+    sections: &mut [Section],
+    left: u64,
+) -> Result<u64, Memory>
+    requires { sections_count slot (sections_of sections.old) ≤ left }
+    ensures as_long { length sections.new ≡ length sections.old }
+    ensures made { OnOk result (sections_of sections.new ≡ inner_sections slot (sections_of sections.old)) }
+    ensures left { IfOk result (λ n. n + checks_within slot (sections_of sections.old) ≡ left) }
+{
+    let mut still = left;
+    let mut ahead = sections.len();
+    'sections: while ahead > 0 {
+        if still == 0 {
+            return Ok(0);
+        }
+        let at = ahead - 1;
+        still = rewrite_section(alloc, slot, exit, &mut sections[at], still)?;
+        ahead = at;
+    }
+    Ok(still)
+}
+
+#[cycle(rewrite)]
+fn rewrite_section(
+    alloc: Global,
+    slot: u32,
+    exit: Exit,
+    section: &mut Section,
+    left: u64,
+) -> Result<u64, Memory>
+    requires { sections_count slot (before section.old NoSection) ≤ left }
+    ensures made { OnOk result (before section.new NoSection ≡ inner_sections slot (before section.old NoSection)) }
+    ensures left { IfOk result (λ n. n + checks_within slot (before section.old NoSection) ≡ left) }
+{
+    rewrite_list(alloc, slot, exit, false, &mut section.list, left)
 }

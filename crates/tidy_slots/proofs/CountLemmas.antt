@@ -56,17 +56,17 @@ mutual
   none_arguments g (Argument x xs) = two (lacks g x) (arguments_lack g xs) (expression_count g x) (arguments_count g xs) (none_expression g x)
       (none_arguments g xs)
 
-none_test : (g : ℕ) (t : TestTree) → test_lacks g t ≡ eqb (test_count g t) 0
+pub none_test : (g : ℕ) (t : TestTree) → test_lacks g t ≡ eqb (test_count g t) 0
 none_test g (Source e) = none_expression g e
 none_test g (AndOff l t) = none_test g t
 none_test g (OrOn l t) = none_test g t
 none_test g _ = refl
 
-none_selector : (g : ℕ) (s : SelectorTree) → selector_lacks g s ≡ eqb (selector_count g s) 0
+pub none_selector : (g : ℕ) (s : SelectorTree) → selector_lacks g s ≡ eqb (selector_count g s) 0
 none_selector g (Selects e) = none_expression g e
 none_selector g (Pick l n s) = none_selector g s
 
-none_option : (g : ℕ) (e : Option ExpressionTree) → option_lacks g e ≡ eqb (option_count g e) 0
+pub none_option : (g : ℕ) (e : Option ExpressionTree) → option_lacks g e ≡ eqb (option_count g e) 0
 none_option g None = refl
 none_option g (Some e) = none_expression g e
 
@@ -79,11 +79,11 @@ none_values g None = refl
 none_values g (Some es) = none_all g es
 
 mutual
-  none_list : (g : ℕ) (a : Forest) → list_lacks g a ≡ eqb (list_count g a) 0
+  pub none_list : (g : ℕ) (a : Forest) → list_lacks g a ≡ eqb (list_count g a) 0
   none_list g Nil = refl
   none_list g (Then x xs) = two (item_lacks g x) (list_lacks g xs) (item_count g x) (list_count g xs) (none_item g x) (none_list g xs)
 
-  none_item : (g : ℕ) (x : Tree) → item_lacks g x ≡ eqb (item_count g x) 0
+  pub none_item : (g : ℕ) (x : Tree) → item_lacks g x ≡ eqb (item_count g x) 0
   none_item g (If t a b) = three (test_lacks g t) (list_lacks g a) (list_lacks g b) (test_count g t) (list_count g a) (list_count g b) (none_test g t)
       (none_list g a) (none_list g b)
   none_item g (While t a) = two (test_lacks g t) (list_lacks g a) (test_count g t) (list_count g a) (none_test g t) (none_list g a)

@@ -22,7 +22,8 @@ pub fn test_names(slot: u32, test: &Test) -> bool
     }
 }
 
-fn selector_names(slot: u32, selector: &Selector) -> bool
+/// Whether a selector does.
+pub fn selector_names(slot: u32, selector: &Selector) -> bool
     ensures { result ≡ not (selector_lacks slot (selector_tree selector.now)) }
 {
     match selector {
@@ -40,7 +41,8 @@ fn option_names(slot: u32, e: &Option<Expression>) -> bool
     }
 }
 
-fn part_names(slot: u32, e: &Option<Boxed<Expression>>) -> bool
+/// Whether a part of the head of a `for` does.
+pub fn part_names(slot: u32, e: &Option<Boxed<Expression>>) -> bool
     ensures { result ≡ not (option_lacks slot (option_map expression_tree e.now)) }
 {
     match e {

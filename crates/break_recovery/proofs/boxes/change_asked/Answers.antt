@@ -2,20 +2,22 @@ use Rattle.std.proofs.Common.{◌≡◌, None, length, take, drop, reverse, sym,
 use Rattle.c_tree.specs.Trees.{trees_of, join}
 use Rattle.jump_meaning.specs.Code.{FunctionTree}
 use Rattle.tidy_loops.specs.Slots.{Tells}
-use Rattle.tidy_loops.proofs.Counted.{if_ok_more}
+use Rattle.tidy_loops.proofs.Results.{if_ok_more}
 use Rattle.break_recovery.specs.Next.{put, next_at, next_here}
 use Rattle.break_recovery.specs.Ways.{IsWayAt}
 use Rattle.break_recovery.proofs.WaysSearched.{no_way}
 use Rattle.break_recovery.proofs.Steps.{an_entry, no_answer, a_slot, an_answer, here_found, no_here}
+use Rattle.tidy_loops.specs.Slots.{count_in}
+use Rattle.break_recovery.specs.Within.{AreApart}
 use Rattle.break_recovery.proofs.boxes.change_asked.Goals as goal
 
 pub returns-then-is_some : goal.returns-then-is_some
 returns-then-is_some c =
     let xs = c.args.list.now in
-    let x = an_entry xs c.args.at c.requires in
+    let x = an_entry xs c.args.at c.requires.place in
     let n = sym c.is_some.ensures ∙ c.if-is_some.true in
     record {
-      made = λ f h p. here_found xs c.args.at x.0 f c.args.level _ c.requires x.1 (c.in_ok-here.ensures.made f h)
+      made = λ f h p. here_found xs c.args.at x.0 f c.args.level _ c.requires.place x.1 (c.in_ok-here.ensures.made f h)
           (a_slot c.in_ok-here.here (trees_of c.change_here.new.list) n);
       kept = an_answer c.in_ok-here.here n;
       way = λ g r f h d l z p. no_way c.args.sure.now h c.args.level (reverse c.new.result) (trees_of (drop c.args.at c.change_here.new.list))
@@ -25,7 +27,10 @@ returns-then-is_some c =
 pub change_within-requires : goal.change_within-requires
 change_within-requires c =
     let q = c.in_ok-here.ensures.kept (no_answer c.in_ok-here.here (sym c.is_some.ensures ∙ c.if-is_some.false)) in
-    omega (arith, c.requires, ap length q)
+    record {
+      place = omega (arith, c.requires.place, ap length q);
+      within = subst (λ zs. AreApart (count_in c.args.counts.now) (trees_of zs)) (sym q) c.requires.within;
+    }
 
 pub returns : goal.returns
 returns c =

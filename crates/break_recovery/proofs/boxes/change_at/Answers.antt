@@ -1,6 +1,6 @@
 use Rattle.std.proofs.Common.{drop}
 use Rattle.c_tree.specs.Trees.{trees_of}
-use Rattle.tidy_loops.proofs.Counted.{if_ok_more}
+use Rattle.tidy_loops.proofs.Results.{if_ok_more}
 use Rattle.break_recovery.proofs.Likeness.{was_asked}
 use Rattle.break_recovery.proofs.boxes.change_at.Goals as goal
 

@@ -5,6 +5,7 @@ use Rattle.break_recovery.proofs.WaysSearched.{no_way}
 use Rattle.break_recovery.specs.Fronts.{DeclaresFirst}
 use Rattle.break_recovery.specs.Ends.{with_body, WentOn}
 use Rattle.break_recovery.proofs.Numbered.{going, goes, goes_by, fewer_by, all_made}
+use Rattle.break_recovery.proofs.Within.{outermost_apart}
 use Rattle.break_recovery.proofs.functions.change_boxes.Goals as goal
 
 pub changes-init : goal.changes-init
@@ -61,3 +62,19 @@ returns c =
     (c.in_ok-change_once.ensures.went f c.changes.invariant.1.0) in
     all_made c.changes.count (with_body f c.args.list.now) c.changes.gone c.change_once.new.gone c.changes.counts c.change_once.new.counts h k w
     c.changes.invariant.0
+
+pub change_once-requires : goal.change_once-requires
+change_once-requires c =
+    outermost_apart c.changes.counts (function_tree (with_body c.args.function.now c.changes.list)) c.changes.invariant.0.underway.told
+
+pub change_rest-requires : goal.change_rest-requires
+change_rest-requires c =
+    let f = c.args.function.now in
+    let h = with_body f c.changes.list in
+    let k = with_body f c.change_once.new.list in
+    let i = c.changes.invariant in
+    let w = subst (λ b. WentOn b c.changes.gone c.changes.counts h c.change_once.new.gone c.change_once.new.counts k) c.if-branch.true
+    (c.in_ok-change_once.ensures.went f i.1.0) in
+    let g = goes c.changes.count (suc c.changes.count) (with_body f c.args.list.now) c.changes.gone c.change_once.new.gone c.changes.counts
+    c.change_once.new.counts h k refl w i.0 in
+    outermost_apart c.change_once.new.counts (function_tree k) g.underway.told

@@ -1,4 +1,4 @@
-use Rattle.std.proofs.Common.{◌≡◌, ◌+◌, ◌-◌, [], ◌<◌, true, length, reverse, refl, sym, ap, subst, ◌∙◌, arith}
+use Rattle.std.proofs.Common.{◌≡◌, ◌-◌, [], true, length, reverse, refl, sym, ap, subst, ◌∙◌, arith}
 use Rattle.std.proofs.lemmas.List.{length-set}
 use Rattle.c_tree.specs.Trees.{trees_of}
 use Rattle.c_tree.specs.Views.{tree_at}
@@ -12,6 +12,10 @@ use Rattle.break_recovery.specs.Fronts.{holds_none}
 use Rattle.break_recovery.proofs.Likeness.{empty_back}
 use Rattle.break_recovery.proofs.RowsWithin.{RowOfItem}
 use Rattle.break_recovery.proofs.Rests.{first_there, none_went, rest_went, rest_starts}
+use Rattle.tidy_loops.specs.Slots.{count_in}
+use Rattle.break_recovery.specs.Within.{AreWithin}
+use Rattle.break_recovery.proofs.Steps.{entry_is}
+use Rattle.break_recovery.proofs.Within.{in_apart}
 use Rattle.break_recovery.proofs.functions.change_rest.Goals as goal
 
 pub returns-then-not-first : goal.returns-then-not-first
@@ -64,3 +68,11 @@ returns c =
             λ b. r.1,
           );
     }
+
+pub change_on_in-requires : goal.change_on_in-requires
+change_on_in-requires c =
+    let xs = c.args.list.now in
+    let x = c.at_mut.result.now in
+    let there = c.goes_in.ensures.there c.if-not-goes_in.false in
+    subst (λ z. AreWithin (count_in c.args.counts.now) (tree_at z)) (sym c.get_mut.ensures.value)
+    (in_apart (count_in c.args.counts.now) xs c.args.start.now.from x there.0 (entry_is xs c.args.start.now.from x c.at_mut.ensures.value) c.requires)

@@ -1,6 +1,6 @@
 use Rattle.std.proofs.Common.{sym, subst}
 use Rattle.c_tree.specs.declared.tree.Top.TheVariants as T
-use Rattle.tidy_loops.proofs.Counted.{if_ok_more}
+use Rattle.tidy_loops.proofs.Results.{if_ok_more}
 use Rattle.break_recovery.specs.Ends.{TopTidied}
 use Rattle.break_recovery.proofs.Chains.{top_of}
 use Rattle.break_recovery.proofs.functions.change_top.Goals as goal

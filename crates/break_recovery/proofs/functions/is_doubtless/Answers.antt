@@ -1,4 +1,4 @@
-use Rattle.std.proofs.Common.{◌≡◌, ◌<◌, get_or, sym, ap, ◌∙◌, arith}
+use Rattle.std.proofs.Common.{◌≡◌, get_or, sym, ap, ◌∙◌, arith}
 use Rattle.c_tree.specs.Trees.{trees_of}
 use Rattle.c_tree.specs.Views.{tree_at}
 use Rattle.break_recovery.specs.Fronts.{holds_none}

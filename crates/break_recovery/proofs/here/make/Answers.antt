@@ -10,7 +10,7 @@ returns-then-keeps_next c =
     let xs = c.args.list.now in
     let at = c.args.at in
     let x = c.at_mut.result.now in
-    next_kept xs at x c.requires (entry_is xs at x c.at_mut.ensures.value) c.changed_loop.new.item c.args.change c.in_ok-changed_loop.ensures
+    next_kept xs at x c.requires.place (entry_is xs at x c.at_mut.ensures.value) c.changed_loop.new.item c.args.change c.in_ok-changed_loop.ensures
     (sym c.keeps_next.ensures ∙ c.if-keeps_next.true)
 
 pub returns-then-at-count : goal.returns-then-at-count
@@ -21,7 +21,7 @@ returns-then-at-count c =
     let y = c.changed_loop.new.item in
     let l : at + 1 < length xs = omega (arith, c.if-at-count.true, c.len-count.ensures.value, length-set xs at y) in
     ap trees_of c.remove.ensures.rest
-    ∙ next_taken xs at x c.requires (entry_is xs at x c.at_mut.ensures.value) y c.args.change c.in_ok-changed_loop.ensures
+    ∙ next_taken xs at x c.requires.place (entry_is xs at x c.at_mut.ensures.value) y c.args.change c.in_ok-changed_loop.ensures
     (sym c.keeps_next.ensures ∙ c.if-keeps_next.false) l
 
 pub returns-else-at-count : goal.returns-else-at-count
@@ -31,5 +31,8 @@ returns-else-at-count c =
     let x = c.at_mut.result.now in
     let y = c.changed_loop.new.item in
     let l : length xs ≤ at + 1 = omega (arith, c.if-at-count.false, c.len-count.ensures.value, length-set xs at y) in
-    none_next xs at x c.requires (entry_is xs at x c.at_mut.ensures.value) y c.args.change c.in_ok-changed_loop.ensures
+    none_next xs at x c.requires.place (entry_is xs at x c.at_mut.ensures.value) y c.args.change c.in_ok-changed_loop.ensures
     (sym c.keeps_next.ensures ∙ c.if-keeps_next.false) l
+
+pub changed_loop-requires : goal.changed_loop-requires
+changed_loop-requires c = c.requires.exits c.at_mut.result.now c.at_mut.ensures.value

@@ -2,7 +2,7 @@ use Rattle.std.proofs.Common.{true, reverse, sym, ap, subst, ◌∙◌}
 use Rattle.c_tree.specs.Trees.{trees_of}
 use Rattle.jump_meaning.specs.Code.{FunctionTree}
 use Rattle.tidy_loops.specs.Slots.{Tells, counts_of}
-use Rattle.tidy_loops.proofs.Counted.{if_ok_more}
+use Rattle.tidy_loops.proofs.Results.{if_ok_more}
 use Rattle.break_recovery.specs.Next.{next_at}
 use Rattle.break_recovery.specs.Places.{behind, replaced, AreQuiet, AreQuietBut, IsFoundAt}
 use Rattle.break_recovery.specs.Ways.{IsWayAt}
@@ -20,7 +20,7 @@ returns-in-Some c =
     record {
       made = λ f h q. one_found f n s.doubt a (trees_of c.change_place.new.list) c.in_ok-change.change c.in-Some.slot
           (c.in_ok-change.ensures.made f h (no_way true f n (reverse u) (behind s.doubt a) (ap reverse c.new-inside.ensures))) c.in-Some.is
-          (before_doubt f n s.doubt s.from a c.requires q.0);
+          (before_doubt f n s.doubt s.from a c.requires.place q.0);
       kept = λ e. some_none (c.in-Some.slot, s.doubt) e;
       way = λ x e f h d l z p.
           subst (λ j. IsWayAt c.change_place.new.sure h n (reverse c.change_place.new.way) (behind j (trees_of c.change_place.new.list)))

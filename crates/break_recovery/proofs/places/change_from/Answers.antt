@@ -1,5 +1,5 @@
 use Rattle.c_tree.specs.Trees.{trees_of}
-use Rattle.tidy_loops.proofs.Counted.{if_ok_more}
+use Rattle.tidy_loops.proofs.Results.{if_ok_more}
 use Rattle.break_recovery.proofs.Outermost.{no_doubt}
 use Rattle.break_recovery.proofs.places.change_from.Goals as goal
 

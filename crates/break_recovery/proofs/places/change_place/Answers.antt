@@ -1,5 +1,5 @@
 use Rattle.std.proofs.Common.{reverse, refl, sym, subst, ◌∙◌, arith}
-use Rattle.tidy_loops.proofs.Counted.{if_ok_more}
+use Rattle.tidy_loops.proofs.Results.{if_ok_more}
 use Rattle.break_recovery.specs.Ways.{IsWayAt}
 use Rattle.break_recovery.proofs.NothingBefore.{none_some}
 use Rattle.break_recovery.proofs.Outermost.{behind_is, at_place, past_place}

@@ -1,10 +1,12 @@
-use Rattle.std.proofs.Common.{◌≡◌, get_or, ap, ◌∙◌}
+use Rattle.std.proofs.Common.{◌≡◌, get_or, sym, ap, subst, ◌∙◌}
 use Rattle.c_tree.specs.Trees.{trees_of}
 use Rattle.c_tree.specs.Views.{tree_at}
-use Rattle.tidy_loops.proofs.Counted.{if_ok_more}
+use Rattle.tidy_loops.proofs.Results.{if_ok_more}
 use Rattle.tidy_loops.specs.Slots.{count_in}
 use Rattle.break_recovery.specs.Loops.{change_there}
 use Rattle.break_recovery.proofs.Loops.{before_rest}
+use Rattle.tidy_loops.specs.Remaining.{IsApart}
+use Rattle.break_recovery.proofs.Within.{apart_there, within_apart}
 use Rattle.break_recovery.proofs.quiet.find.Goals as goal
 
 pub returns : goal.returns
@@ -16,5 +18,14 @@ returns c =
     let e : x ≡ get_or xs at x = c.index-items-at.is in
     if_ok_more c.change_of.result _ _
     (λ it h. h ∙ ap (λ b. change_there k c.args.level (tree_at x) (trees_of b)) c.split_at.ensures.back ∙
-    before_rest k c.args.level xs at x c.requires e)
+    before_rest k c.args.level xs at x c.requires.place e)
     c.change_of.ensures
+
+pub change_of-requires : goal.change_of-requires
+change_of-requires c =
+    let xs = c.args.items.now in
+    let at = c.args.at in
+    let k = count_in c.args.counts.now in
+    let x = c.index-items-at.result in
+    subst (λ b. IsApart k (tree_at x) (trees_of b)) (sym c.split_at.ensures.back)
+    (apart_there k xs at x c.requires.place c.index-items-at.is (within_apart k (trees_of xs) c.requires.within))

@@ -1,19 +1,23 @@
-use Rattle.std.proofs.Common.{◌≡◌, ◌+◌, ◌<◌, ◌≤◌, [], ◌∷◌, length, slice_set, reverse, true, sym, ap, subst, ◌∙◌, arith}
-use Rattle.c_tree.specs.declared.tree.Item.{If, While, Do, For, Switch, Block}
+use Rattle.std.proofs.Common.{◌<◌, [], ◌∷◌, length, slice_set, reverse, true, sym, ap, subst, ◌∙◌, arith}
 use Rattle.c_tree.specs.Trees.{trees_of, sections_of}
 use Rattle.c_tree.specs.Views.{tree_at}
-use Rattle.tidy_loops.proofs.Counted.{if_ok_more}
+use Rattle.tidy_loops.proofs.Results.{if_ok_more}
 use Rattle.break_recovery.specs.Next.{next_list, next_item, next_sections}
 use Rattle.break_recovery.specs.Steady.{AreAlike, AreSectionsAlike, IsAlike}
 use Rattle.break_recovery.specs.Ways.{IsWay, IsWayIn, IsWayThrough}
-use Rattle.break_recovery.proofs.Sizes.{of_if, of_while, of_do, of_for, of_switch, of_block, item_within, section_within}
+use Rattle.tidy_loops.proofs.Sizes.{of_if, of_while, of_do, of_for, of_switch, of_block, item_within, section_within}
 use Rattle.break_recovery.proofs.Ways.{way_told}
 use Rattle.break_recovery.proofs.RowsWithin.{RowOfList, RowOfItem, RowOfSections, RowOfTwo, while_row, do_row, block_row, switch_row, if_row, for_row, list_row, last_row, no_row, sections_row, first_row, second_row}
 use Rattle.break_recovery.proofs.Likeness.{empty_back}
+use Rattle.c_tree.proofs.Views.{at-If, at-While, at-Do, at-For, at-Switch, at-Block}
+use Rattle.tidy_loops.specs.Slots.{count_in}
+use Rattle.break_recovery.specs.Within.{AreWithin}
+use Rattle.break_recovery.proofs.Steps.{entry_is}
+use Rattle.break_recovery.proofs.Within.{in_list, section_in}
 use Rattle.break_recovery.proofs.rest.+rest.Goals as goal
 
 pub change_on-change_on_at-requires : goal.change_on-change_on_at-requires
-change_on-change_on_at-requires t c = (omega (arith, c.decreases), c.goes_on.ensures.on c.if-goes_on.true)
+change_on-change_on_at-requires t c = (omega (arith, c.decreases), (c.goes_on.ensures.on c.if-goes_on.true, c.requires))
 
 pub change_on-returns-then-goes_on : goal.change_on-returns-then-goes_on
 change_on-returns-then-goes_on t c =
@@ -34,8 +38,13 @@ change_on-returns t c =
 
 pub change_on_at-change_on_in-requires : goal.change_on_at-change_on_in-requires
 change_on_at-change_on_in-requires t c =
-    let n = item_within c.args.list.now c.args.at c.at_mut.result.now c.at_mut.ensures.value in
-    (omega (arith, n, c.decreases), tt)
+    let xs = c.args.list.now in
+    let x = c.at_mut.result.now in
+    let n = item_within xs c.args.at x c.at_mut.ensures.value in
+    let h : c.args.at < length xs = omega (arith, c.if-at-len.false, c.len.ensures.value) in (
+      omega (arith, n, c.decreases),
+      in_list (count_in c.args.counts.now) xs c.args.at x h (entry_is xs c.args.at x c.at_mut.ensures.value) c.requires.within,
+    )
 
 pub change_on_at-returns-then-at-len : goal.change_on_at-returns-then-at-len
 change_on_at-returns-then-at-len t c =
@@ -60,16 +69,16 @@ change_on_at-returns t c =
     λ v i. subst (λ u. RowOfList n c.args.counts.now s gs v u (trees_of xs) (trees_of (slice_set xs at y)))
     (sym (way_told c.push.new.self w at c.in_ok-push.ensures.ok))
     (list_row n c.in_ok-inside.inside c.args.counts.now s gs v (reverse c.args.way.now) (reverse w) xs at x y c.in_ok-inside.ensures h
-    c.at_mut.ensures.value i (λ e. c.requires (empty_back c.args.way.now e)) c.in_ok-slots.ensures)
+    c.at_mut.ensures.value i (λ e. c.requires.on (empty_back c.args.way.now e)) c.in_ok-slots.ensures)
 
 pub change_on_section-change_on-requires : goal.change_on_section-change_on-requires
-change_on_section-change_on-requires t c = (omega (arith, c.decreases), tt)
+change_on_section-change_on-requires t c = (omega (arith, c.decreases), c.requires)
 
 pub change_on_either-change_on-requires : goal.change_on_either-change_on-requires
-change_on_either-change_on-requires t c = (omega (arith, c.decreases), tt)
+change_on_either-change_on-requires t c = (omega (arith, c.decreases), c.requires.1)
 
 pub change_on_either-change_on-requires-2 : goal.change_on_either-change_on-requires-2
-change_on_either-change_on-requires-2 t c = (omega (arith, c.decreases), tt)
+change_on_either-change_on-requires-2 t c = (omega (arith, c.decreases), c.requires.0)
 
 pub change_on_either-returns-then-next_step-gt0 : goal.change_on_either-returns-then-next_step-gt0
 change_on_either-returns-then-next_step-gt0 t c =
@@ -101,8 +110,12 @@ change_on_either-returns t c =
 
 pub change_on_sections-change_on_section-requires : goal.change_on_sections-change_on_section-requires
 change_on_sections-change_on_section-requires t c =
-    let n = section_within c.args.sections.now c.next_step-at.result c.at_mut.result.now c.at_mut.ensures.value in
-    (omega (arith, n, c.decreases), tt)
+    let cs = c.args.sections.now in
+    let at = c.next_step-at.result in
+    let s = c.at_mut.result.now in
+    let n = section_within cs at s c.at_mut.ensures.value in
+    let h : at < length cs = omega (arith, c.if-at-len.false, c.len.ensures.value) in
+    (omega (arith, n, c.decreases), section_in (count_in c.args.counts.now) cs at s h (entry_is cs at s c.at_mut.ensures.value) c.requires)
 
 pub change_on_sections-returns-then-at-len : goal.change_on_sections-returns-then-at-len
 change_on_sections-returns-then-at-len t c =
@@ -133,33 +146,45 @@ change_on_sections-returns t c =
 
 pub change_on_in-change_on_either-slots-requires : goal.change_on_in-change_on_either-slots-requires
 change_on_in-change_on_either-slots-requires t c =
-    let n = of_if c.args.item.now c.in-If.test c.in-If.a c.in-If.b (sym c.replace.ensures.value ∙ c.in-If.is) in
-    (omega (arith, n, c.decreases), tt)
+    let n = of_if c.args.item.now c.in-If.test c.in-If.a c.in-If.b (sym c.replace.ensures.value ∙ c.in-If.is) in (
+      omega (arith, n, c.decreases),
+      subst (AreWithin (count_in c.args.counts.now)) (ap tree_at (sym c.replace.ensures.value ∙ c.in-If.is) ∙ at-If c.in-If.test c.in-If.a c.in-If.b) c.requires,
+    )
 
 pub change_on_in-change_on-slots-requires : goal.change_on_in-change_on-slots-requires
 change_on_in-change_on-slots-requires t c =
-    let n = of_while c.args.item.now c.in-While.test c.in-While.a (sym c.replace.ensures.value ∙ c.in-While.is) in
-    (omega (arith, n, c.decreases), tt)
+    let n = of_while c.args.item.now c.in-While.test c.in-While.a (sym c.replace.ensures.value ∙ c.in-While.is) in (
+      omega (arith, n, c.decreases),
+      subst (AreWithin (count_in c.args.counts.now)) (ap tree_at (sym c.replace.ensures.value ∙ c.in-While.is) ∙ at-While c.in-While.test c.in-While.a) c.requires,
+    )
 
 pub change_on_in-change_on-slots-requires-in-Do : goal.change_on_in-change_on-slots-requires-in-Do
 change_on_in-change_on-slots-requires-in-Do t c =
-    let n = of_do c.args.item.now c.in-Do.test c.in-Do.a (sym c.replace.ensures.value ∙ c.in-Do.is) in
-    (omega (arith, n, c.decreases), tt)
+    let n = of_do c.args.item.now c.in-Do.test c.in-Do.a (sym c.replace.ensures.value ∙ c.in-Do.is) in (
+      omega (arith, n, c.decreases),
+      subst (AreWithin (count_in c.args.counts.now)) (ap tree_at (sym c.replace.ensures.value ∙ c.in-Do.is) ∙ at-Do c.in-Do.a c.in-Do.test) c.requires,
+    )
 
 pub change_on_in-change_on_either-slots-requires-in-For : goal.change_on_in-change_on_either-slots-requires-in-For
 change_on_in-change_on_either-slots-requires-in-For t c =
-    let n = of_for c.args.item.now c.in-For.first c.in-For.test c.in-For.third c.in-For.a (sym c.replace.ensures.value ∙ c.in-For.is) in
-    (omega (arith, n, c.decreases), tt)
+    let n = of_for c.args.item.now c.in-For.first c.in-For.test c.in-For.third c.in-For.a (sym c.replace.ensures.value ∙ c.in-For.is) in (
+      omega (arith, n, c.decreases),
+      subst (AreWithin (count_in c.args.counts.now)) (ap tree_at (sym c.replace.ensures.value ∙ c.in-For.is) ∙ at-For c.in-For.first c.in-For.test c.in-For.third c.in-For.a) c.requires,
+    )
 
 pub change_on_in-change_on_sections-slots-requires : goal.change_on_in-change_on_sections-slots-requires
 change_on_in-change_on_sections-slots-requires t c =
-    let n = of_switch c.args.item.now c.in-Switch.selector c.in-Switch.sections (sym c.replace.ensures.value ∙ c.in-Switch.is) in
-    (omega (arith, n, c.decreases), tt)
+    let n = of_switch c.args.item.now c.in-Switch.selector c.in-Switch.sections (sym c.replace.ensures.value ∙ c.in-Switch.is) in (
+      omega (arith, n, c.decreases),
+      subst (AreWithin (count_in c.args.counts.now)) (ap tree_at (sym c.replace.ensures.value ∙ c.in-Switch.is) ∙ at-Switch c.in-Switch.selector c.in-Switch.sections) c.requires,
+    )
 
 pub change_on_in-change_on-slots-requires-in-Block : goal.change_on_in-change_on-slots-requires-in-Block
 change_on_in-change_on-slots-requires-in-Block t c =
-    let n = of_block c.args.item.now c.in-Block.a (sym c.replace.ensures.value ∙ c.in-Block.is) in
-    (omega (arith, n, c.decreases), tt)
+    let n = of_block c.args.item.now c.in-Block.a (sym c.replace.ensures.value ∙ c.in-Block.is) in (
+      omega (arith, n, c.decreases),
+      subst (AreWithin (count_in c.args.counts.now)) (ap tree_at (sym c.replace.ensures.value ∙ c.in-Block.is) ∙ at-Block c.in-Block.a) c.requires,
+    )
 
 pub change_on_in-returns-in-If : goal.change_on_in-returns-in-If
 change_on_in-returns-in-If t c =

@@ -1,7 +1,7 @@
 use Rattle.std.proofs.Common.{◌+◌, ◌*◌}
 use Rattle.c_tree.specs.Paths.{list_of}
 use Rattle.c_tree.specs.Trees.{tree_of, trees_of, sections_of}
-use Rattle.break_recovery.proofs.Sizes.{items, items_of, items_in}
+use Rattle.tidy_loops.proofs.Sizes.{items, items_of, items_in}
 use Rattle.break_recovery.proofs.rest.+rest.Given as goal
 
 abbrev pub decreases-change_on_in : goal.decreases-change_on_in

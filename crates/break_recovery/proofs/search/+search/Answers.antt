@@ -3,9 +3,9 @@ use Rattle.std.proofs.Common.{◌≡◌, suc, ◌+◌, ◌<◌, ◌≤◌, inl, 
 use Rattle.c_tree.specs.declared.tree.Item.{If, While, Do, For, Switch, Block}
 use Rattle.c_tree.specs.Trees.{trees_of, sections_of, join}
 use Rattle.c_tree.proofs.PathLemmas.{set_same}
-use Rattle.tidy_loops.proofs.Counted.{if_ok_more}
+use Rattle.tidy_loops.proofs.Results.{if_ok_more}
 use Rattle.break_recovery.specs.Next.{put, next_list, next_at, next_here, changed_to}
-use Rattle.break_recovery.proofs.Sizes.{items, items_in, of_if, of_while, of_do, of_for, of_switch, of_block, item_within, section_within}
+use Rattle.tidy_loops.proofs.Sizes.{items, items_in, of_if, of_while, of_do, of_for, of_switch, of_block, item_within, section_within}
 use Rattle.break_recovery.specs.Places.{behind, replaced}
 use Rattle.break_recovery.specs.Steady.{AreAlike, AreAlikeOf, AreSectionsAlike, IsAlike}
 use Rattle.break_recovery.specs.Ways.{list_there, IsWay, IsWayAt, IsWayOf, IsWayThrough}
@@ -19,6 +19,10 @@ use Rattle.break_recovery.proofs.Outermost.{none_found, more_quiet, all_quiet}
 use Rattle.break_recovery.proofs.Ways.{way_told, no_way_of_list, list_stepped, premise_at, at_told, list_found, list_way, item_in, nothing_made, second_alone, first_out, second_out, if_in, if_out, while_in, while_out, do_in, do_out, for_in, for_out, switch_out, block_in, block_out, more_quiet_sections, list_there_is, section_way, switch_in}
 use Rattle.break_recovery.proofs.Likeness.{if_ok_both, alike_set, sections_alike, said_more, was_asked, item_goes_in, if_is_alike, while_is_alike, do_is_alike, for_is_alike, switch_is_alike, block_is_alike}
 use Rattle.break_recovery.proofs.Steps.{section_found, sections_end, an_entry, no_answer, a_slot, an_answer, item_changed, entry_is, here_found, no_here, first_changed, if_changed, while_changed, do_changed, for_changed, switch_changed, block_changed, leaf_stays, section_changed, quiet_go}
+use Rattle.c_tree.proofs.Views.{at-If, at-While, at-Do, at-For, at-Switch, at-Block}
+use Rattle.tidy_loops.specs.Slots.{count_in}
+use Rattle.break_recovery.specs.Within.{IsWithin, AreWithin, AreSectionsWithin}
+use Rattle.break_recovery.proofs.Within.{in_list, section_in}
 use Rattle.break_recovery.proofs.search.+search.Goals as goal
 
 pub change_list-loop-i-init : goal.change_list-loop-i-init
@@ -28,7 +32,7 @@ pub change_list-change_at-requires : goal.change_list-change_at-requires
 change_list-change_at-requires t c =
     let e = ap (λ xs. items (trees_of xs)) c.loop-i.invariant.0 in
     let l : c.loop-i.i < length c.loop-i.list = omega (arith, c.loop-i-test.true, c.len.ensures.value) in
-    (omega (arith, e, c.decreases), l)
+    (omega (arith, e, c.decreases), (l, subst (λ ys. IsWithin (count_in c.args.counts.now) (trees_of ys)) (sym c.loop-i.invariant.0) c.requires))
 
 pub change_list-loop-i-preserved : goal.change_list-loop-i-preserved
 change_list-loop-i-preserved t c =
@@ -94,10 +98,10 @@ change_list-returns t c =
     }
 
 pub change_at-change_asked-requires : goal.change_at-change_asked-requires
-change_at-change_asked-requires t c = (omega (arith, c.decreases), c.requires)
+change_at-change_asked-requires t c = (omega (arith, c.decreases), (c.requires.place, c.requires.within))
 
 pub change_at-change_within-requires : goal.change_at-change_within-requires
-change_at-change_within-requires t c = (omega (arith, c.decreases), c.requires)
+change_at-change_within-requires t c = (omega (arith, c.decreases), (c.requires.place, c.requires.within))
 
 pub change_at-returns-then-was_asked : goal.change_at-returns-then-was_asked
 change_at-returns-then-was_asked t c =
@@ -118,11 +122,11 @@ change_asked-returns-then-is_some t c =
     let xs = c.args.list.now in
     let ys = c.change_here.new.list in
     let at = c.args.at in
-    let x = an_entry xs at c.requires in
+    let x = an_entry xs at c.requires.place in
     let s = c.in_ok-here.here in
     let n = sym c.is_some.ensures ∙ c.if-is_some.true in
     record {
-      made = λ f h p. here_found xs at x.0 f c.args.level _ c.requires x.1 (c.in_ok-here.ensures.made f h) (a_slot s (trees_of ys) n);
+      made = λ f h p. here_found xs at x.0 f c.args.level _ c.requires.place x.1 (c.in_ok-here.ensures.made f h) (a_slot s (trees_of ys) n);
       kept = an_answer s n;
       alike = c.in_ok-here.ensures.alike;
       way = λ g r f h d l z p. no_way c.change_here.new.sure h c.args.level (reverse c.new.result) (trees_of (drop at ys)) (ap reverse c.new.ensures);
@@ -131,8 +135,10 @@ change_asked-returns-then-is_some t c =
 pub change_asked-change_within-requires : goal.change_asked-change_within-requires
 change_asked-change_within-requires t c =
     let q = (c.in_ok-here.ensures.kept (no_answer c.in_ok-here.here (sym c.is_some.ensures ∙ c.if-is_some.false))).0 in
-    let e = ap (λ xs. items (trees_of xs)) q in
-    (omega (arith, e, c.decreases), omega (arith, c.requires, ap length q))
+    let e = ap (λ xs. items (trees_of xs)) q in (
+      omega (arith, e, c.decreases),
+      (omega (arith, c.requires.place, ap length q), subst (λ zs. IsWithin (count_in c.args.counts.now) (trees_of zs)) (sym q) c.requires.within),
+    )
 
 pub change_asked-returns : goal.change_asked-returns
 change_asked-returns t c =
@@ -164,8 +170,12 @@ change_asked-returns t c =
 
 pub change_within-change_item-requires : goal.change_within-change_item-requires
 change_within-change_item-requires t c =
-    let n = item_within c.args.list.now c.args.at c.at_mut.result.now c.at_mut.ensures.value in
-    (omega (arith, n, c.decreases), tt)
+    let xs = c.args.list.now in
+    let x = c.at_mut.result.now in
+    let n = item_within xs c.args.at x c.at_mut.ensures.value in (
+      omega (arith, n, c.decreases),
+      in_list (count_in c.args.counts.now) xs c.args.at x c.requires.place (entry_is xs c.args.at x c.at_mut.ensures.value) c.requires.within,
+    )
 
 pub change_within-returns : goal.change_within-returns
 change_within-returns t c =
@@ -181,27 +191,27 @@ change_within-returns t c =
     let i = item_in c.args.sure.now in
     record {
       made = if_ok_more c.change_item.result _ _
-          (λ it k f h o p. item_changed xs at x c.requires e f n y it o (k f h (i f n at v xs xs x c.requires e refl p)))
+          (λ it k f h o p. item_changed xs at x c.requires.place e f n y it o (k f h (i f n at v xs xs x c.requires.place e refl p)))
           c.change_item.ensures.made;
       kept = if_ok_more c.change_item.result _ _ (λ it k i. ap (slice_set xs at) (k i) ∙ set_same xs at x c.at_mut.ensures.value) c.change_item.ensures.kept;
       alike = if_ok_more c.change_item.result _ _
           (λ it k. said_more it sure (λ g. IsAlike g (tree_at x) (tree_at y)) (λ g. AreAlike g (trees_of xs) (trees_of (slice_set xs at y)))
-          (λ g. alike_set g xs at x y c.requires e) k)
+          (λ g. alike_set g xs at x y c.requires.place e) k)
           c.change_item.ensures.alike;
       way = if_ok_both c.change_item.result _ _ _
-          (λ it a k g r f h d l z p. item_goes_in sure f h g l z n at w xs x y c.requires e (a g r) p.0
-          (k g r f h d l z (i f n at v xs xs x c.requires e refl p.1)))
+          (λ it a k g r f h d l z p. item_goes_in sure f h g l z n at w xs x y c.requires.place e (a g r) p.0
+          (k g r f h d l z (i f n at v xs xs x c.requires.place e refl p.1)))
           c.change_item.ensures.alike c.change_item.ensures.way;
     }
 
 pub change_either-change_second-requires : goal.change_either-change_second-requires
-change_either-change_second-requires t c = (omega (arith, c.decreases), tt)
+change_either-change_second-requires t c = (omega (arith, c.decreases), c.requires.1)
 
 pub change_either-change_list-requires : goal.change_either-change_list-requires
-change_either-change_list-requires t c = (omega (arith, c.decreases), tt)
+change_either-change_list-requires t c = (omega (arith, c.decreases), c.requires.0)
 
 pub change_either-change_second-requires-2 : goal.change_either-change_second-requires-2
-change_either-change_second-requires-2 t c = (omega (arith, c.decreases), tt)
+change_either-change_second-requires-2 t c = (omega (arith, c.decreases), c.requires.1)
 
 pub change_either-returns-then-next_step-gt0 : goal.change_either-returns-then-next_step-gt0
 change_either-returns-then-next_step-gt0 t c =
@@ -282,7 +292,7 @@ change_either-returns t c =
     }
 
 pub change_second-change_list-requires : goal.change_second-change_list-requires
-change_second-change_list-requires t c = (omega (arith, c.decreases), tt)
+change_second-change_list-requires t c = (omega (arith, c.decreases), c.requires)
 
 pub change_second-returns-then-is_some : goal.change_second-returns-then-is_some
 change_second-returns-then-is_some t c =
@@ -309,7 +319,7 @@ change_second-returns t c =
     }
 
 pub change_section-change_list-requires : goal.change_section-change_list-requires
-change_section-change_list-requires t c = (omega (arith, c.decreases), tt)
+change_section-change_list-requires t c = (omega (arith, c.decreases), c.requires)
 
 pub change_sections-loop-i-init : goal.change_sections-loop-i-init
 change_sections-loop-i-init t c = (refl, λ f h q. q)
@@ -318,7 +328,12 @@ pub change_sections-change_section-requires : goal.change_sections-change_sectio
 change_sections-change_section-requires t c =
     let e = ap (λ cs. items_in (sections_of cs)) c.loop-i.invariant.0 in
     let n = section_within c.loop-i.sections c.loop-i.i c.at_mut.result.now c.at_mut.ensures.value in
-    (omega (arith, e, n, c.decreases), tt)
+    let l : c.loop-i.i < length c.loop-i.sections = omega (arith, c.loop-i-test.true, c.len.ensures.value) in (
+      omega (arith, e, n, c.decreases),
+      section_in (count_in c.args.counts.now) c.loop-i.sections c.loop-i.i c.at_mut.result.now l
+          (entry_is c.loop-i.sections c.loop-i.i c.at_mut.result.now c.at_mut.ensures.value)
+          (subst (λ cs. AreSectionsWithin (count_in c.args.counts.now) (sections_of cs)) (sym c.loop-i.invariant.0) c.requires),
+    )
 
 pub change_sections-loop-i-preserved : goal.change_sections-loop-i-preserved
 change_sections-loop-i-preserved t c =
@@ -399,27 +414,43 @@ change_sections-returns t c =
 
 pub change_item-change_either-change-requires : goal.change_item-change_either-change-requires
 change_item-change_either-change-requires t c = let n = of_if c.args.item.now c.in-If.test c.in-If.a c.in-If.b
-    (sym c.replace.ensures.value ∙ c.in-If.is) in (omega (arith, n, c.decreases), tt)
+    (sym c.replace.ensures.value ∙ c.in-If.is) in (
+      omega (arith, n, c.decreases),
+      subst (AreWithin (count_in c.args.counts.now)) (ap tree_at (sym c.replace.ensures.value ∙ c.in-If.is) ∙ at-If c.in-If.test c.in-If.a c.in-If.b) c.requires,
+    )
 
 pub change_item-change_list-change-requires : goal.change_item-change_list-change-requires
 change_item-change_list-change-requires t c = let n = of_while c.args.item.now c.in-While.test c.in-While.a
-    (sym c.replace.ensures.value ∙ c.in-While.is) in (omega (arith, n, c.decreases), tt)
+    (sym c.replace.ensures.value ∙ c.in-While.is) in (
+      omega (arith, n, c.decreases),
+      subst (AreWithin (count_in c.args.counts.now)) (ap tree_at (sym c.replace.ensures.value ∙ c.in-While.is) ∙ at-While c.in-While.test c.in-While.a) c.requires,
+    )
 
 pub change_item-change_list-change-requires-in-Do : goal.change_item-change_list-change-requires-in-Do
-change_item-change_list-change-requires-in-Do t c = let n = of_do c.args.item.now c.in-Do.test c.in-Do.a (sym c.replace.ensures.value ∙ c.in-Do.is) in
-    (omega (arith, n, c.decreases), tt)
+change_item-change_list-change-requires-in-Do t c = let n = of_do c.args.item.now c.in-Do.test c.in-Do.a (sym c.replace.ensures.value ∙ c.in-Do.is) in (
+  omega (arith, n, c.decreases),
+  subst (AreWithin (count_in c.args.counts.now)) (ap tree_at (sym c.replace.ensures.value ∙ c.in-Do.is) ∙ at-Do c.in-Do.a c.in-Do.test) c.requires,
+)
 
 pub change_item-change_either-change-requires-in-For : goal.change_item-change_either-change-requires-in-For
 change_item-change_either-change-requires-in-For t c = let n = of_for c.args.item.now c.in-For.first c.in-For.test c.in-For.third c.in-For.a
-    (sym c.replace.ensures.value ∙ c.in-For.is) in (omega (arith, n, c.decreases), tt)
+    (sym c.replace.ensures.value ∙ c.in-For.is) in (
+      omega (arith, n, c.decreases),
+      subst (AreWithin (count_in c.args.counts.now)) (ap tree_at (sym c.replace.ensures.value ∙ c.in-For.is) ∙ at-For c.in-For.first c.in-For.test c.in-For.third c.in-For.a) c.requires,
+    )
 
 pub change_item-change_sections-change-requires : goal.change_item-change_sections-change-requires
 change_item-change_sections-change-requires t c = let n = of_switch c.args.item.now c.in-Switch.selector c.in-Switch.sections
-    (sym c.replace.ensures.value ∙ c.in-Switch.is) in (omega (arith, n, c.decreases), tt)
+    (sym c.replace.ensures.value ∙ c.in-Switch.is) in (
+      omega (arith, n, c.decreases),
+      subst (AreWithin (count_in c.args.counts.now)) (ap tree_at (sym c.replace.ensures.value ∙ c.in-Switch.is) ∙ at-Switch c.in-Switch.selector c.in-Switch.sections) c.requires,
+    )
 
 pub change_item-change_list-change-requires-in-Block : goal.change_item-change_list-change-requires-in-Block
-change_item-change_list-change-requires-in-Block t c = let n = of_block c.args.item.now c.in-Block.a (sym c.replace.ensures.value ∙ c.in-Block.is) in
-    (omega (arith, n, c.decreases), tt)
+change_item-change_list-change-requires-in-Block t c = let n = of_block c.args.item.now c.in-Block.a (sym c.replace.ensures.value ∙ c.in-Block.is) in (
+  omega (arith, n, c.decreases),
+  subst (AreWithin (count_in c.args.counts.now)) (ap tree_at (sym c.replace.ensures.value ∙ c.in-Block.is) ∙ at-Block c.in-Block.a) c.requires,
+)
 
 pub change_item-returns-in-If : goal.change_item-returns-in-If
 change_item-returns-in-If t c =

@@ -3,7 +3,7 @@ use Rattle.c_tree.specs.Paths.{list_of}
 use Rattle.c_tree.specs.Trees.{tree_of, trees_of, sections_of}
 use Rattle.jump_meaning.specs.Code.{FunctionTree}
 use Rattle.tidy_loops.specs.Slots.{Tells}
-use Rattle.break_recovery.proofs.Sizes.{items, items_of, items_in}
+use Rattle.tidy_loops.proofs.Sizes.{items, items_of, items_in}
 use Rattle.break_recovery.specs.Places.{AreQuiet}
 use Rattle.break_recovery.specs.Ways.{AreQuietSections, list_there, IsWay, IsWayAt}
 use Rattle.break_recovery.proofs.search.+search.Given as goal

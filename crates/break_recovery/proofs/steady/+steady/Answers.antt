@@ -1,12 +1,16 @@
+use mathlib.Core.Path.{ap₂}
 use Rattle.std.proofs.Common.{true, false, not, ◌&&◌, sym, ap, ◌∙◌}
 use Rattle.c_tree.specs.declared.tree.Section.{Section}
 use Rattle.c_tree.specs.Paths.{list_of}
 use Rattle.c_tree.specs.Trees.{trees_of}
 use Rattle.c_tree.specs.Views.{tree_at}
-use Rattle.c_tree.proofs.Views.{trees-end, sections-end, at-If, at-Evaluate}
-use Rattle.tidy_loops.proofs.FormLaws.{expression_same, test_same}
-use Rattle.break_recovery.specs.Steady.{has_else, sets_off, is_steady, item_is_steady, sections_are_steady}
-use Rattle.break_recovery.proofs.Steadily.{steady_first, section_first}
+use Rattle.c_tree.proofs.Views.{trees-end, sections-end, at-Evaluate}
+use Rattle.tidy_loops.proofs.FormLaws.{expression_same}
+use Rattle.tidy_laws.specs.Mentions.{list_lacks}
+use Rattle.tidy_loops.specs.Views.{test_at}
+use Rattle.break_recovery.specs.Steady.{sets_off, has_else, is_steady, item_is_steady, sections_are_steady}
+use Rattle.break_recovery.proofs.Steadily.{steady_first, section_first, if_told, lacking_steady, none_goes}
+use Rattle.break_recovery.proofs.Lacking.{steady_lacking}
 use Rattle.break_recovery.proofs.steady.+steady.Goals as goal
 
 pub items_are_steady-returns-then-not-item_is_steady : goal.items_are_steady-returns-then-not-item_is_steady
@@ -46,21 +50,21 @@ item_is_steady-returns-in-Evaluate t c =
     let e = c.in-Evaluate.e in
     ap not (c.sets_off.ensures ∙ ap (sets_off g) (sym (expression_same e))) ∙ sym (ap (item_is_steady g) (ap tree_at c.in-Evaluate.is ∙ at-Evaluate e))
 
-pub item_is_steady-returns-then-a : goal.item_is_steady-returns-then-a
-item_is_steady-returns-then-a t c =
-    let g = c.args.slot in
-    let a = trees_of c.in-If.a in
-    let b = trees_of c.in-If.b in
-    let h = ap (λ t. has_else t b) (test_same c.in-If.test) ∙ sym c.has_else.ensures ∙ c.if-has_else.false in
-    let p = sym c.is_steady-a.ensures ∙ c.if-a.true in
-    c.is_steady-b.ensures
-    ∙ sym (ap (item_is_steady g) (ap tree_at c.in-If.is ∙ at-If c.in-If.test c.in-If.a c.in-If.b) ∙
-    ap (λ z. not z && (is_steady g a && is_steady g b)) h ∙ ap (λ z. z && is_steady g b) p)
-
 pub item_is_steady-returns-then-has_else : goal.item_is_steady-returns-then-has_else
 item_is_steady-returns-then-has_else t c =
     let g = c.args.slot in
     let a = trees_of c.in-If.a in
     let b = trees_of c.in-If.b in
-    let h = ap (λ t. has_else t b) (test_same c.in-If.test) ∙ sym c.has_else.ensures ∙ c.if-has_else.true in
-    sym (ap (item_is_steady g) (ap tree_at c.in-If.is ∙ at-If c.in-If.test c.in-If.a c.in-If.b) ∙ ap (λ z. not z && (is_steady g a && is_steady g b)) h)
+    ap (λ z. z && not c.list_names-named.result) c.is_steady-a.ensures
+    ∙ lacking_steady (has_else (test_at c.in-If.test) b) (list_lacks g b) (is_steady g b) (is_steady g a) c.list_names-named.result
+    (sym c.has_else.ensures ∙ c.if-has_else.true) c.list_names-named.ensures (steady_lacking g b)
+    ∙ sym (if_told g c.in-If.test c.in-If.a c.in-If.b c.args.item.now c.in-If.is)
+
+pub item_is_steady-returns-else-has_else : goal.item_is_steady-returns-else-has_else
+item_is_steady-returns-else-has_else t c =
+    let g = c.args.slot in
+    let a = trees_of c.in-If.a in
+    let b = trees_of c.in-If.b in
+    ap₂ (λ y z. y && z) c.is_steady-a.ensures c.is_steady-b.ensures
+    ∙ none_goes (has_else (test_at c.in-If.test) b) (list_lacks g b) (is_steady g b) (is_steady g a) (sym c.has_else.ensures ∙ c.if-has_else.false)
+    ∙ sym (if_told g c.in-If.test c.in-If.a c.in-If.b c.args.item.now c.in-If.is)

@@ -2,6 +2,8 @@ use Rattle.std.proofs.Common.{sym, subst}
 use Rattle.c_tree.specs.Trees.{trees_of}
 use Rattle.break_recovery.specs.InARow.{closed}
 use Rattle.break_recovery.proofs.Walks.{RowTo, stays, closed_none}
+use Rattle.tidy_loops.specs.Slots.{count_in}
+use Rattle.break_recovery.specs.Within.{IsWithin}
 use Rattle.break_recovery.proofs.walk.change_along.Goals as goal
 
 pub returns-then-are_few : goal.returns-then-are_few
@@ -23,3 +25,7 @@ returns c =
     let a = trees_of xs in
     subst (λ ys. RowTo n s t gs k v.at a (trees_of ys)) (sym c.in_ok-close_gap.ensures)
     (subst (λ ys. RowTo n s t gs k v.at (trees_of ys) (trees_of (closed v.at v.next c.walk_on.new.list))) (closed_none k xs) c.in_ok-slots.ensures.row)
+
+pub walk_on-requires-clause-within : goal.walk_on-requires-clause-within
+walk_on-requires-clause-within c =
+    subst (λ ys. IsWithin (count_in c.args.counts.now) (trees_of ys)) (sym (closed_none c.args.place.now c.args.list.now)) c.requires

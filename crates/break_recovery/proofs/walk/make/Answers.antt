@@ -10,9 +10,9 @@ returns-then-keeps_next c =
     let x = c.at_mut.result.now in
     let y = c.changed_loop.new.item in
     record {
-      within = let i = length-set xs w.at y in (c.requires.0, omega (arith, c.requires, i));
+      within = let i = length-set xs w.at y in (c.requires.place.0, omega (arith, c.requires.place, i));
       place = refl;
-      made = closed_kept w.at w.next xs x c.requires.0 c.requires.1 c.at_mut.ensures.value y c.args.change c.in_ok-changed_loop.ensures
+      made = closed_kept w.at w.next xs x c.requires.place.0 c.requires.place.1 c.at_mut.ensures.value y c.args.change c.in_ok-changed_loop.ensures
           (sym c.keeps_next.ensures ∙ c.if-keeps_next.true);
     }
 
@@ -24,9 +24,9 @@ returns-then-walk-len c =
     let y = c.changed_loop.new.item in
     let i = length-set xs w.at y in
     record {
-      within = (omega (arith, c.requires), omega (arith, c.if-walk-len.true, c.len.ensures.value));
+      within = (omega (arith, c.requires.place), omega (arith, c.if-walk-len.true, c.len.ensures.value));
       place = refl;
-      made = closed_taken w.at w.next xs x c.requires.0 c.requires.1 c.at_mut.ensures.value y c.args.change c.in_ok-changed_loop.ensures
+      made = closed_taken w.at w.next xs x c.requires.place.0 c.requires.place.1 c.at_mut.ensures.value y c.args.change c.in_ok-changed_loop.ensures
           (sym c.keeps_next.ensures ∙ c.if-keeps_next.false) (omega (arith, c.if-walk-len.true, c.len.ensures.value, i));
     }
 
@@ -38,8 +38,11 @@ returns-else-walk-len c =
     let y = c.changed_loop.new.item in
     let i = length-set xs w.at y in
     record {
-      within = (c.requires.0, omega (arith, c.requires, i));
+      within = (c.requires.place.0, omega (arith, c.requires.place, i));
       place = refl;
-      made = closed_last w.at w.next xs x c.requires.0 c.requires.1 c.at_mut.ensures.value y c.args.change c.in_ok-changed_loop.ensures
+      made = closed_last w.at w.next xs x c.requires.place.0 c.requires.place.1 c.at_mut.ensures.value y c.args.change c.in_ok-changed_loop.ensures
           (sym c.keeps_next.ensures ∙ c.if-keeps_next.false) (omega (arith, c.if-walk-len.false, c.len.ensures.value, i));
     }
+
+pub changed_loop-requires : goal.changed_loop-requires
+changed_loop-requires c = c.requires.exits c.at_mut.result.now c.at_mut.ensures.value

@@ -11,6 +11,7 @@ returns-in-Some c =
     let w = c.args.walk.now in
     let a = trees_of (drop w.at (closed w.at w.next c.args.list.now)) in
     record {
+      less = c.change_steadily.ensures.less;
       within = c.change_steadily.ensures.within;
       row = λ n e. c.change_steadily.ensures.row n
           (sym c.in-Some.is ∙ c.in_ok-change.ensures ∙ ap (λ i. change_first (count_in c.args.counts.now) i a) e);
@@ -21,9 +22,13 @@ returns-in-None c =
     let w = c.args.walk.now in
     let v = c.pass.new.walk in
     record {
+      less = c.pass.ensures.less;
       within = c.pass.ensures.within;
       row = λ n e. on_ok_more c.pass.result _ _
           (none_more n c.args.counts.now c.args.slots.now w.at v.at (trees_of (closed w.at w.next c.args.list.now))
           (trees_of (closed v.at v.next c.pass.new.list)))
           (c.pass.ensures.row n e (sym c.in-None.is ∙ c.in_ok-change.ensures));
     }
+
+pub change_steadily-requires-clause-found : goal.change_steadily-requires-clause-found
+change_steadily-requires-clause-found c = (c.args.level, sym c.in_ok-change.ensures ∙ c.in-Some.is)

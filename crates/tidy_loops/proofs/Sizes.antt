@@ -1,5 +1,5 @@
 -- How many items a list has, at any depth.
-use Rattle.std.proofs.Common.{ℕ, zero, suc, ◌+◌, ◌≤◌, List, [], ◌∷◌, Option, Some, slice_get, ◌≡◌, ap, ◌∙◌, arith}
+use Rattle.std.proofs.Common.{ℕ, zero, suc, ◌+◌, ◌≤◌, ◌<◌, List, [], ◌∷◌, length, get_or, Option, Some, slice_get, ◌≡◌, ap, ◌∙◌, arith}
 use Rattle.c_tree.specs.declared.tree.Item.{Item, If, While, Do, For, Switch, Block}
 use Rattle.c_tree.specs.declared.tree.Section.{Section}
 use Rattle.c_tree.specs.declared.tree.Test.{Test}
@@ -53,3 +53,18 @@ section_within (z ∷ zs) zero s e =
     let k = ap (λ (w : SectionTree). items w.list) (section-parts z) in
     omega (arith, h, k)
 section_within (z ∷ zs) (suc k) s e = let h = section_within zs k s e in omega (arith, h)
+
+pub item_there : (xs : List Item) (i : ℕ) (x : Item) → i < length xs → x ≡ get_or xs i x → items_of (tree_of x) ≤ items (trees_of xs)
+unfolding trees_of
+item_there [] i x h e = absurd (omega (arith, h))
+item_there (z ∷ zs) zero x h e = let g = ap (λ w. items_of (tree_of w)) e in omega (arith, g)
+item_there (z ∷ zs) (suc i) x h e = let k : i < length zs = omega (arith, h) in let m = item_there zs i x k e in omega (arith, m)
+
+pub section_there : (cs : List Section) (i : ℕ) (s : Section) → i < length cs → s ≡ get_or cs i s → items (trees_of (list_of s)) ≤ items_in (sections_of cs)
+unfolding sections_of
+section_there [] i s h e = absurd (omega (arith, h))
+section_there (z ∷ zs) zero s h e =
+    let g = ap (λ w. items (trees_of (list_of w))) e in
+    let k = ap (λ (w : SectionTree). items w.list) (section-parts z) in
+    omega (arith, g, k)
+section_there (z ∷ zs) (suc i) s h e = let k : i < length zs = omega (arith, h) in let m = section_there zs i s k e in omega (arith, m)

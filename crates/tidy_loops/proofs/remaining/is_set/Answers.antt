@@ -3,7 +3,7 @@ use Rattle.std.specs.Option.{option_copied}
 use Rattle.c_tree.specs.ExpressionTrees.{expression_tree}
 use Rattle.tidy_laws.specs.Changes.{set_value}
 use Rattle.tidy_loops.proofs.FormLaws.{expression_same, is_some_map}
-use Rattle.tidy_loops.proofs.counting.is_set.Goals as goal
+use Rattle.tidy_loops.proofs.remaining.is_set.Goals as goal
 
 pub returns : goal.returns
 returns c =
