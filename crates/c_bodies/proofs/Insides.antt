@@ -26,13 +26,7 @@ below n (S.DoWhile b t) h k = k
 below n (S.For s t u b) h k = k
 below n (S.Switch t b) h k = k
 below n (S.Block first after xs) h k = k
-below n S.Null h k = h
-below n (S.Evaluate t) h k = h
-below n (S.Goto at) h k = h
-below n S.Break h k = h
-below n S.Continue h k = h
-below n (S.Return t) h k = h
-below n S.Unread h k = h
+below n _ h k = h
 
 pub inside_below : (x : Syntax) (s : StatementLayer) → StatementIsSmaller (weight x) s → inside s < weight x
 inside_below x s k = below (weight x) s (omega (arith, open_weight x)) k

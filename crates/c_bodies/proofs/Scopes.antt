@@ -3,7 +3,7 @@ use Rattle.std.proofs.Common.{◌≡◌, ◌∙◌, ℕ, List, [], ◌∷◌, dr
 use Rattle.c_bodies.specs.Views.{left}
 use Rattle.c_kinds.specs.Scopes.{Scope, bind}
 use Rattle.c_kinds.specs.declared.binding.Binding.{Binding}
-use Rattle.c_grammar.specs.Items.{Declarator, Start, NoStart, StartValue, StartNames, Item, Declares, States, From, Statement, Null, Evaluate, If, IfElse, While, DoWhile, For, Switch, Block, Goto, Break, Continue, Return, Unread, Body, Braces, Lone, Items, NoItem, Then}
+use Rattle.c_grammar.specs.Items.{Declarator, Start, NoStart, StartValue, StartNames, Item, Declares, States, From, Statement, If, IfElse, While, DoWhile, For, Switch, Block, Body, Braces, Lone, Items, NoItem, Then}
 use Rattle.c_statements.specs.declared.extents.Kinded.{Kinded}
 use Rattle.c_statements.specs.Context.{Context, Walk, enter, leave, env_at}
 use Rattle.c_statements.specs.Declarations.{declared, all_declared}
@@ -29,13 +29,7 @@ statement-scopes ctx (DoWhile b t) w = body_scopes ctx b w
 statement-scopes ctx (For s t u b) w = refl
 statement-scopes ctx (Switch t b) w = body_scopes ctx b w
 statement-scopes ctx (Block b) w = body_scopes ctx b w
-statement-scopes ctx Null w = refl
-statement-scopes ctx (Evaluate t) w = refl
-statement-scopes ctx (Goto at) w = refl
-statement-scopes ctx Break w = refl
-statement-scopes ctx Continue w = refl
-statement-scopes ctx (Return t) w = refl
-statement-scopes ctx Unread w = refl
+statement-scopes ctx _ w = refl
 
 item-rest : (ctx : Context) (x : Item) (w : Walk) → drop 1 (behind_item ctx x w).scopes ≡ drop 1 w.scopes
 item-rest ctx (Declares first after d) w = declared-rest _ _ d.names w

@@ -235,8 +235,7 @@ plain-body word x ls p s e h f n =
 lone-item : (word : ℕ → List ℕ) (y : ItemLayer) (first after : ℕ) → ((ls : Bor (List Syntax)) (p : Bor Syntax) → y ≡ I.States ls p → ⊥)
     → list_of_item first after (item_form word y) ≡ Lone first after (item_form word y)
 lone-item word (I.States ls p) first after h = absurd (h ls p refl)
-lone-item word (I.Declares f g d) first after h = refl
-lone-item word (I.Unread f g) first after h = refl
+lone-item word _ first after h = refl
 
 pub other-body : (word : ℕ → List ℕ) (x : Syntax) (y : ItemLayer) → item_of word x ≡ item_form word y
     → ((ls : Bor (List Syntax)) (p : Bor Syntax) → y ≡ I.States ls p → ⊥) → body_of word x ≡ Lone (out-Syntax x).first (out-Syntax x).after (item_of word x)

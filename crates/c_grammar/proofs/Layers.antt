@@ -108,8 +108,7 @@ smaller-more m n (L.Choice a b c) h e = (omega (arith, h.0), omega (arith, h.1),
 smaller-more m n (L.Assign k t a) h e = (omega (arith, h.0), omega (arith, h.1))
 smaller-more m n (L.Commas a bs) h e = (omega (arith, h.0), omega (arith, h.1))
 smaller-more m n (L.Call at xs) h e = omega (arith, h)
-smaller-more m n (L.Texts ts) h e = tt
-smaller-more m n L.Unknown h e = tt
+smaller-more m n _ h e = tt
 
 -- the form of a part is the form of its node
 pub smaller-at : (xs : List Syntax) (i : ℕ) (d : Syntax) (x : Layer) → i < length xs → AreSmaller (weight (get_or xs i d)) x → AreSmaller (weights xs + 1) x

@@ -54,8 +54,7 @@ tokens_inside first (Char c) at total f h = token_one k.Char at (behind (Char c)
 tokens_inside first (Text cs) at total f h = token_one k.Text at (behind (Text cs) at) total (further at _ (has_byte first (Text cs) f)) h
 tokens_inside first (Sign m) at total f h = token_one k.Mark at (behind (Sign m) at) total (further at _ (has_byte first (Sign m) f)) h
 tokens_inside first (Directive w) at total f h = let l = line_length w in token_one k.Directive at (at + 1 + length (bare w)) total (omega arith) (omega arith)
-tokens_inside first (Line w) at total f h = token_none total
-tokens_inside first (Block w) at total f h = token_none total
+tokens_inside first _ at total f h = token_none total
 
 comment_one : (at end total : ℕ) → at < end → end ≤ total → All (λ (x : Span). (x.start < x.end) × (x.end ≤ total)) (span at end ∷ [])
 comment_one at end total h m = All-cons (λ (x : Span). (x.start < x.end) × (x.end ≤ total)) (span at end) [] (h, m)

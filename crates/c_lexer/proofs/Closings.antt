@@ -24,8 +24,7 @@ abbrev pub goes_on : Closing → ℕ → Bool
 goes_on Open b = true
 goes_on Starred b = not (b == 47)
 goes_on Continued b = true
-goes_on Returned b = not (b == 47)
-goes_on Joined b = not (b == 47)
+goes_on _ b = not (b == 47)
 
 pub none_left : (c : Closing) → closes_from c [] ≡ false
 none_left Open = refl
@@ -131,6 +130,4 @@ last_slash Joined b w g h = let x = eqb-true b 47 (not_false (b == 47) g) in
 pub comment_on : (s : ℕ) (c : Closing) (b at : ℕ) → goes_on c b ≡ true → in_comment s c b at ≡ Go (InComment s (closing_step c b)) ended.Nothing
 comment_on s Open b at g = refl
 comment_on s Continued b at g = refl
-comment_on s Starred b at g = let x = not_true (b == 47) g in rw x
-comment_on s Returned b at g = let x = not_true (b == 47) g in rw x
-comment_on s Joined b at g = let x = not_true (b == 47) g in rw x
+comment_on s _ b at g = let x = not_true (b == 47) g in rw x

@@ -7,7 +7,7 @@ use Rattle.c_lexer.specs.declared.mark.Mark.TheVariants.{Plus}
 use Rattle.c_lexer.specs.declared.state.State.{State}
 use Rattle.c_lexer.specs.declared.state.State.TheVariants.{Between, InWord, InNumber, InMark, Dots, CharOpened, CharEscape, CharHeld, InText, TextEscape, InDirective, InComment, InLine}
 use Rattle.c_lexer.specs.declared.state.Closing.{Closing}
-use Rattle.c_lexer.specs.declared.state.Closing.TheVariants.{Open, Starred, Continued, Returned, Joined}
+use Rattle.c_lexer.specs.declared.state.Closing.TheVariants.{Open, Starred, Continued}
 use Rattle.c_lexer.specs.declared.state.Progress.{Progress}
 use Rattle.c_lexer.specs.declared.state.Progress.TheVariants.{More, Whole, Over, Wrong}
 use Rattle.c_lexer.specs.declared.state.Ended.{Ended}
@@ -18,7 +18,7 @@ use Rattle.c_lexer.specs.Bytes.{is_space, is_run_byte, is_character_byte}
 use Rattle.c_lexer.specs.Numbers.{integer_of}
 use Rattle.c_lexer.specs.Marks.{mark_text}
 use Rattle.c_lexer.specs.MarkSteps.{mark_at, longer, is_slash, is_dot}
-use Rattle.c_lexer.specs.Pieces.{Piece, Space, Word, Number, Char, Text, Sign, Directive, Line, Block, spelled, Fits, Longest}
+use Rattle.c_lexer.specs.Pieces.{Piece, Space, Word, Number, Char, Text, Sign, spelled, Fits, Longest}
 use Rattle.c_lexer.specs.IncludeSteps.{is_directive}
 use Rattle.c_lexer.specs.PieceSteps.{first_behind}
 use Rattle.c_lexer.specs.Machine.{of_mark, begin, after_mark, escape_step, char_held, char_escape, in_text, text_escape, broken_at, end_directive, end_line, in_comment, step, finish, Lexed, Read, Faulty, go_on}
@@ -105,8 +105,7 @@ comment_moves : (s : ℕ) (c : Closing) (b at : ℕ) → s ≤ at → Moves (in_
 comment_moves s Open b at h = same s at h
 comment_moves s Starred b at h = move (b == 47) _ _ s (at + 1) (beyond s at h) (same s at h)
 comment_moves s Continued b at h = same s at h
-comment_moves s Returned b at h = move (b == 47) _ _ s (at + 1) (self s) (same s at h)
-comment_moves s Joined b at h = move (b == 47) _ _ s (at + 1) (self s) (same s at h)
+comment_moves s _ b at h = move (b == 47) _ _ s (at + 1) (self s) (same s at h)
 
 line_moves : (s end at : ℕ) (o : Option ℕ) → s ≤ at → Moves (end_line s end o) s (at + 1)
 line_moves s end at None h = beyond s at h
@@ -180,9 +179,7 @@ has_byte first (Number (b ∷ w)) f = omega arith
 has_byte first (Char c) f = omega arith
 has_byte first (Text cs) f = omega arith
 has_byte first (Sign m) f = let h = mark_length m in let k = ap length (append-nil (mark_text m)) in omega arith
-has_byte first (Directive w) f = omega arith
-has_byte first (Line w) f = omega arith
-has_byte first (Block w) f = omega arith
+has_byte first _ f = omega arith
 
 -- where a piece begins there is no fault
 pub no_fault : (t : List ℕ) (first : Bool) (p : Piece) (r : List ℕ) → Fits first p → Longest p r → (at : ℕ) (out : List Ended) →

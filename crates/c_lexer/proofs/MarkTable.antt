@@ -6,7 +6,7 @@ use Rattle.std.specs.Str.{bytes_eq}
 use Rattle.std.proofs.lemmas.Slice.Eq.{bytes_eq-Decides}
 use Rattle.std.proofs.lemmas.List.{append-nil}
 use Rattle.c_lexer.specs.declared.mark.Mark.{Mark}
-use Rattle.c_lexer.specs.declared.mark.Mark.TheVariants.{OpenBracket, CloseBracket, OpenParenthesis, CloseParenthesis, OpenBrace, CloseBrace, Dot, Arrow, PlusPlus, MinusMinus, Ampersand, Star, Plus, Minus, Tilde, Exclamation, Slash, Percent, ShiftLeft, ShiftRight, Less, Greater, LessEquals, GreaterEquals, EqualsEquals, ExclamationEquals, Caret, Bar, AmpersandAmpersand, BarBar, Question, Colon, Semicolon, Ellipsis, Equals, StarEquals, SlashEquals, PercentEquals, PlusEquals, MinusEquals, ShiftLeftEquals, ShiftRightEquals, AmpersandEquals, CaretEquals, BarEquals, Comma}
+use Rattle.c_lexer.specs.declared.mark.Mark.TheVariants.{OpenBracket, CloseBracket, OpenParenthesis, CloseParenthesis, OpenBrace, CloseBrace, Dot, Arrow, PlusPlus, MinusMinus, Ampersand, Star, Plus, Minus, Tilde, Exclamation, Slash, Percent, ShiftLeft, ShiftRight, Less, Greater, LessEquals, GreaterEquals, EqualsEquals, ExclamationEquals, Caret, Bar, AmpersandAmpersand, BarBar, Question, Colon, Semicolon, Ellipsis}
 use Rattle.c_lexer.specs.Marks.{mark_text, marks, mark_of}
 use Rattle.c_lexer.specs.MarkSteps.{mark_at, longer, grown, grown_mark}
 use Rattle.c_lexer.proofs.MarkLemmas.{longer_text, mark_first, is_ellipsis, grows}
@@ -74,18 +74,7 @@ in_table Question h = refl
 in_table Colon h = refl
 in_table Semicolon h = refl
 in_table Ellipsis h = absurd cc
-in_table Equals h = refl
-in_table StarEquals h = refl
-in_table SlashEquals h = refl
-in_table PercentEquals h = refl
-in_table PlusEquals h = refl
-in_table MinusEquals h = refl
-in_table ShiftLeftEquals h = refl
-in_table ShiftRightEquals h = refl
-in_table AmpersandEquals h = refl
-in_table CaretEquals h = refl
-in_table BarEquals h = refl
-in_table Comma h = refl
+in_table _ h = refl
 
 -- a mark that stands under these bytes grows from them
 from_table : (b : ℕ) (w : List ℕ) (m : Mark) → mark_of (b ∷ w) ≡ Some m → grown_mark (b ∷ w) ≡ Some m

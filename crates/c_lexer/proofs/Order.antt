@@ -7,7 +7,7 @@ use Rattle.c_lexer.specs.declared.mark.Mark.{Mark}
 use Rattle.c_lexer.specs.declared.state.State.{State}
 use Rattle.c_lexer.specs.declared.state.State.TheVariants.{Between, InWord, InNumber, InMark, Dots, CharOpened, CharEscape, CharHeld, InText, TextEscape, InDirective, InComment, InLine}
 use Rattle.c_lexer.specs.declared.state.Closing.{Closing}
-use Rattle.c_lexer.specs.declared.state.Closing.TheVariants.{Open, Starred, Continued, Returned, Joined}
+use Rattle.c_lexer.specs.declared.state.Closing.TheVariants.{Open, Starred, Continued}
 use Rattle.c_lexer.specs.declared.state.Progress.{Progress}
 use Rattle.c_lexer.specs.declared.state.Progress.TheVariants.{More, Whole, Over, Wrong}
 use Rattle.c_lexer.specs.declared.state.Ended.{Ended}
@@ -80,8 +80,7 @@ comment_keeps : (s : ℕ) (c : Closing) (b at : ℕ) → s ≤ at → KeepsOrder
 comment_keeps s Open b at h = omega arith
 comment_keeps s Starred b at h = either (b == 47) _ _ at (omega arith) (omega arith)
 comment_keeps s Continued b at h = omega arith
-comment_keeps s Returned b at h = either (b == 47) _ _ at (omega arith) (omega arith)
-comment_keeps s Joined b at h = either (b == 47) _ _ at (omega arith) (omega arith)
+comment_keeps s _ b at h = either (b == 47) _ _ at (omega arith) (omega arith)
 
 line_keeps : (s end at : ℕ) (o : Option ℕ) → ((n : ℕ) → o ≡ Some n → s + n ≤ at) → s ≤ at → KeepsOrder at (end_line s end o)
 line_keeps s end at None f h = omega arith

@@ -57,5 +57,4 @@ no_directive first x h (Char c) r e f l = apart _ _ (λ b. b == 39) refl refl e
 no_directive first x h (Text cs) r e f l = apart _ _ (λ b. b == 34) refl refl e
 no_directive first x h (Sign m) r e f l = sign_hash m x r e
 no_directive first x h (Directive w) r e f l = unlike (is_whole (w ++ r)) (is_whole x) (whole_line w r l.0 l.1) h (ap is_whole (sym (ap rest_of e)))
-no_directive first x h (Line w) r e f l = apart _ _ (λ b. b == 47) refl refl e
-no_directive first x h (Block w) r e f l = apart _ _ (λ b. b == 47) refl refl e
+no_directive first x h _ r e f l = apart _ _ (λ b. b == 47) refl refl e

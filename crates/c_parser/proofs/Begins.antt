@@ -342,15 +342,7 @@ lead_kept rule first level parts l o.Else z t d Q A k e = (
   (λ v. A.4 (Some v.0, v.1)),
   A.5,
 )
-lead_kept rule first level parts l o.Declarators z t d Q A k e = (
-  (λ v. A.0 (v.0 ∷ v.1.0, v.1.1)),
-  A.1,
-  (λ v u. A.2 (v.0 ∷ v.1.0, v.1.1) ((u.0, u.1.0), u.1.1)),
-  (λ v r. put Q t c.Comma e _ ∙ A.3 (v.0 ∷ v.1.0, v.1.1) r),
-  (λ v. A.4 (v.0 ∷ v.1.0, v.1.1)),
-  A.5,
-)
-lead_kept rule first level parts l o.Parameters z t d Q A k e = (
+lead_kept rule first level parts l _ z t d Q A k e = (
   (λ v. A.0 (v.0 ∷ v.1.0, v.1.1)),
   A.1,
   (λ v u. A.2 (v.0 ∷ v.1.0, v.1.1) ((u.0, u.1.0), u.1.1)),
@@ -626,8 +618,7 @@ lead_skipped rule l o.Size below d Q A = (
 lead_skipped rule l o.Value below d Q A = ((λ v. A.0 (None, v)), A.1, (λ v u. A.2 (None, v) (tt, u)), (λ v r. A.3 (None, v) r), (λ v. A.4 (None, v)), A.5)
 lead_skipped rule l o.Constant below d Q A = ((λ v. A.0 (None, v)), A.1, (λ v u. A.2 (None, v) (tt, u)), (λ v r. A.3 (None, v) r), (λ v. A.4 (None, v)), A.5)
 lead_skipped rule l o.Else below d Q A = ((λ v. A.0 (None, v)), A.1, (λ v u. A.2 (None, v) (tt, u)), (λ v r. A.3 (None, v) r), (λ v. A.4 (None, v)), A.5)
-lead_skipped rule l o.Declarators below d Q A = ((λ v. A.0 ([], v)), A.1, (λ v u. A.2 ([], v) (tt, u)), (λ v r. A.3 ([], v) r), (λ v. A.4 ([], v)), A.5)
-lead_skipped rule l o.Parameters below d Q A = ((λ v. A.0 ([], v)), A.1, (λ v u. A.2 ([], v) (tt, u)), (λ v r. A.3 ([], v) r), (λ v. A.4 ([], v)), A.5)
+lead_skipped rule l _ below d Q A = ((λ v. A.0 ([], v)), A.1, (λ v u. A.2 ([], v) (tt, u)), (λ v r. A.3 ([], v) r), (λ v. A.4 ([], v)), A.5)
 
 -- no token is both
 not_true : (b : Bool) → not b ≡ true → b ≡ true → true ≡ false

@@ -8,7 +8,7 @@ use Rattle.c_grammar.specs.declared.syntax.Production.TheVariants as p
 use Rattle.c_grammar.specs.Nodes.{node, leaf}
 use Rattle.c_grammar.specs.Classes.{level, is_assign, is_prefix}
 use Rattle.c_grammar.specs.Events.{Event, Uncounted, Opened}
-use Rattle.c_grammar.specs.Expressions.{CharBase, IntBase, LongBase, LongIntBase, NumberType, OfBase, Signed, SignedOf, Unsigned, UnsignedOf, Expression, One, More, Assignment, To, Value, Conditional, Choose, Only, Binary, Single, Both, Unary, Prefixed, StepTo, CastTo, CastVoid, Place, StepAfter, CallNone, CallWith, Number, Character, Within, Target, Variable, Cell, Round, type_tokens, expression_tokens, assignment_tokens, conditional_tokens, binary_tokens, unary_tokens, target_tokens, FitsExpression, FitsAssignment, FitsConditional, FitsBinary, FitsUnary}
+use Rattle.c_grammar.specs.Expressions.{CharBase, IntBase, LongBase, LongIntBase, NumberType, OfBase, Signed, SignedOf, Unsigned, UnsignedOf, Expression, One, More, Assignment, To, Value, Conditional, Choose, Only, Binary, Single, Both, Unary, Prefixed, Place, StepAfter, Target, Variable, type_tokens, expression_tokens, assignment_tokens, conditional_tokens, binary_tokens, unary_tokens, target_tokens, FitsExpression, FitsAssignment, FitsConditional, FitsBinary, FitsUnary}
 use Rattle.c_grammar.specs.ExpressionSyntax.{type_end, expression_end, assignment_end, conditional_end, type_node, expression_node, assignment_node, conditional_node}
 use Rattle.c_grammar.specs.Counts.{type_events, expression_events, assignment_events, conditional_events}
 use Rattle.c_parse_step.specs.declared.form.Want.{Want}
@@ -242,16 +242,8 @@ mutual
   unary_no_label (Prefixed m x) u r h = prefix_no_label m _ u.0
   unary_no_label (Place t) u r h = target_no_label t r h
   unary_no_label (StepAfter t) u r h = target_no_label t _ tt
-  unary_no_label (StepTo t) u r h = tt
-  unary_no_label (CastTo n x) u r h = tt
-  unary_no_label (CastVoid x) u r h = tt
-  unary_no_label CallNone u r h = tt
-  unary_no_label (CallWith xs) u r h = tt
-  unary_no_label Number u r h = tt
-  unary_no_label Character u r h = tt
-  unary_no_label (Within e) u r h = tt
+  unary_no_label _ u r h = tt
 
   target_no_label : (t : Target) → (r : List Class) → NoColon r → NoLabel (target_tokens t r)
   target_no_label Variable r h = name_first r h
-  target_no_label (Cell e) r h = tt
-  target_no_label (Round t) r h = tt
+  target_no_label _ r h = tt

@@ -46,32 +46,28 @@ mutual
   unary_closed (s.Cast f parts next ∷ zs) P (Some n, P0, q, i) u w = along _ _ (λ r. q (unary_tokens u r)) (unary_closed zs P0 i (CastTo n u) w)
   unary_closed (s.Cast f parts next ∷ zs) P (None, P0, q, i) u w = along _ _ (λ r. q (unary_tokens u r)) (unary_closed zs P0 i (CastVoid u) w)
   unary_closed (s.Operand f ∷ zs) P i u w = binary_closed zs P i (Single u) w (loose_single zs P i u)
-  unary_closed [] P i u w = absurd i
-  unary_closed (_ ∷ zs) P i u w = absurd i
+  unary_closed _ P i u w = absurd i
 
   target_closed : (zs : Frames) (P : Front) → TargetNext zs P → (x : Target) → FitsTarget x → Closed (λ r. P (target_tokens x r))
   target_closed (s.Post f ∷ zs) P i x w = unary_closed zs P i (Place x) w
   target_closed (s.Stepped f mark ∷ zs) P i x w = along _ _ (λ r. i.1 (target_tokens x r)) (unary_closed zs i.0 i.2 (StepTo x) w)
   target_closed (s.Enclosed f bracket ∷ zs) P i x w = let k = target_closed zs i.0 i.2 (Round x) w in
       (k.0, c.Close ∷ k.1, k.2, k.3 ∙ sym (i.1 (target_tokens x (c.Close ∷ k.1))))
-  target_closed [] P i x w = absurd i
-  target_closed (_ ∷ zs) P i x w = absurd i
+  target_closed _ P i x w = absurd i
 
   binary_closed : (zs : Frames) (P : Front) → BinaryNext zs P → (b : Binary) → FitsBinary b → Loose zs b → Closed (λ r. P (binary_tokens b r))
   binary_closed (s.Join f left mark next l ∷ zs) P i b w k =
       along _ _ (λ r. i.7 (binary_tokens b r)) (binary_closed zs i.2 i.8 (Both i.0 i.1 b) (both_fits i.0 b i.1 l i.3 w i.4 i.5 i.6 k)
       (loose_both zs i.0 b i.1 l i.4 i.9))
   binary_closed (s.Choice f ∷ zs) P i b w k = conditional_closed zs P i (Only b) w
-  binary_closed [] P i b w k = absurd i
-  binary_closed (_ ∷ zs) P i b w k = absurd i
+  binary_closed _ P i b w k = absurd i
 
   conditional_closed : (zs : Frames) (P : Front) → ConditionalNext zs P → (d : Conditional) → FitsConditional d → Closed (λ r. P (conditional_tokens d r))
   conditional_closed (s.Assigns f ∷ zs) P i d w = assignment_closed zs P i (Value d) w
   conditional_closed (s.ChoiceElse f parts next ∷ zs) P i d w = along _ _ (λ r. i.5 (conditional_tokens d r))
       (conditional_closed zs i.2 i.6 (Choose i.0 i.1 d) (i.3, i.4, w))
   conditional_closed (s.Whole full.Conditional start ∷ zs) P i d w = value_closed zs (Of full.Conditional) P i d w
-  conditional_closed [] P i d w = absurd i
-  conditional_closed (_ ∷ zs) P i d w = absurd i
+  conditional_closed _ P i d w = absurd i
 
   assignment_closed : (zs : Frames) (P : Front) → AssignmentNext zs P → (a : Assignment) → FitsAssignment a → Closed (λ r. P (assignment_tokens a r))
   assignment_closed (s.AssignsTo f parts next ∷ zs) P i a w = along _ _ (λ r. i.5 (assignment_tokens a r))
@@ -80,8 +76,7 @@ mutual
   assignment_closed (s.Commas f z (y ∷ parts) ∷ zs) P i a w = along _ _ (λ r. i.3 (One a) r) (expression_closed zs i.1 i.4 (i.0 (One a)) (i.2 (One a) w).0)
   assignment_closed (s.ArgumentSeen f ∷ zs) P i a w = argument_closed zs P i (Given a) w
   assignment_closed (s.Whole full.Assignment start ∷ zs) P i a w = value_closed zs (Of full.Assignment) P i a w
-  assignment_closed [] P i a w = absurd i
-  assignment_closed (_ ∷ zs) P i a w = absurd i
+  assignment_closed _ P i a w = absurd i
 
   expression_closed : (zs : Frames) (P : Front) → ExpressionNext zs P → (x : Expression) → FitsExpression x → Closed (λ r. P (expression_tokens x r))
   expression_closed (s.Indexed f parts next ∷ zs) P i x w = let k = target_closed zs i.0 i.2 (Cell x) w in
@@ -92,14 +87,12 @@ mutual
       conditional_closed zs i.1 i.4 (Choose i.0 x (Only (Single Number)))
       (i.2, w, tt) in (k.0, c.Colon ∷ c.Number ∷ k.1, k.2, k.3 ∙ sym (i.3 (expression_tokens x (c.Colon ∷ c.Number ∷ k.1))))
   expression_closed (s.Whole full.Expression start ∷ zs) P i x w = value_closed zs (Of full.Expression) P i x w
-  expression_closed [] P i x w = absurd i
-  expression_closed (_ ∷ zs) P i x w = absurd i
+  expression_closed _ P i x w = absurd i
 
   argument_closed : (zs : Frames) (P : Front) → ArgumentNext zs P → (x : Argument) → FitsArgument x → Closed (λ r. P (argument_tokens x r))
   argument_closed (s.Arguments f parts ∷ zs) P i x w = let k = unary_closed zs i.1 i.4 (CallWith (i.0 (Last x))) (i.2 (Last x) w) in
       (k.0, c.Close ∷ k.1, k.2, k.3 ∙ sym (i.3 (Last x) (c.Close ∷ k.1)))
-  argument_closed [] P i x w = absurd i
-  argument_closed (_ ∷ zs) P i x w = absurd i
+  argument_closed _ P i x w = absurd i
 
   value_closed : (zs : Frames) (x : Got) (P : Front) → ValueNext zs x P → (a : GotValue x) → FitsGot x a → Closed (λ r. P (got_tokens x a r))
   value_closed (s.Rest form ∷ zs) x P i a w =
@@ -113,8 +106,7 @@ mutual
   value_closed (s.Tops parts ∷ []) (Node p.Enum) P i a w = file_closed _ (one_more P (λ r. P (enumeration_tokens a r)) i (OfEnum a) w (λ r. refl))
   value_closed (s.Tops parts ∷ []) (Node p.Declaration) P i a w = file_closed _ (one_more P (λ r. P (declaration_tokens a r)) i (OfDeclaration a) w (λ r. refl))
   value_closed (s.Tops parts ∷ []) (Node p.Function) P i a w = file_closed _ (one_more P (λ r. P (function_tokens a r)) i (OfFunction a) w (λ r. refl))
-  value_closed [] x P i a w = absurd i
-  value_closed (_ ∷ zs) x P i a w = absurd i
+  value_closed _ x P i a w = absurd i
 
 type_closed : (zs : Frames) (P P0 : Front) (k : Option NumberType) → ((r : List Class) → P r ≡ P0 (c.Open ∷ cast_tokens k r)) → UnaryNext zs P0 → Closed P
 type_closed zs P P0 (Some n) e i = let k = unary_closed zs P0 i (CastTo n Number) tt in
@@ -150,5 +142,4 @@ closes (s.TopName first parts start type name mark ∷ zs) P i =
     (k.0, c.Semicolon ∷ k.1, k.2, k.3 ∙ sym (i.3 (c.Semicolon ∷ k.1)))
 closes (s.Tops parts ∷ []) P i = file_closed P i
 closes (s.Accepted v ∷ []) P i = (i.0, [], i.1, sym (i.2 []))
-closes [] P i = absurd i
-closes (_ ∷ zs) P i = absurd i
+closes _ P i = absurd i

@@ -66,14 +66,7 @@ mutual
   head_of_unary (Prefixed m u) w r = prefix_starts m w.0
   head_of_unary (Place t) w r = head_of_target t r
   head_of_unary (StepAfter t) w r = head_of_target t _
-  head_of_unary (StepTo t) w r = refl
-  head_of_unary (CastTo n u) w r = refl
-  head_of_unary (CastVoid u) w r = refl
-  head_of_unary CallNone w r = refl
-  head_of_unary (CallWith xs) w r = refl
-  head_of_unary Number w r = refl
-  head_of_unary Character w r = refl
-  head_of_unary (Within e) w r = refl
+  head_of_unary _ w r = refl
 
   head_of_target : (t : Target) → (r : List Class) → Headed (target_tokens t r)
   head_of_target Variable r = refl

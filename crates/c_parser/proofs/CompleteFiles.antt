@@ -120,14 +120,12 @@ parameter_no_base (_ ∷ l) h = refl
 
 size_no_name : (size : Size) (ts : List Class) → HeadIs after_parameter ts → HeadIsNot (same c.Name) (size_tokens size ts)
 size_no_name NoSize ts h = parameter_no_name ts h
-size_no_name Unsized ts h = refl
-size_no_name (Sized d) ts h = refl
+size_no_name _ ts h = refl
 
 type_ends : (named : Bool) (size : Size) (ts : List Class) → HeadIs after_parameter ts → HeadIsNot is_base (word_tokens c.Name named (size_tokens size ts))
 type_ends true size ts h = refl
 type_ends false NoSize ts h = parameter_no_base ts h
-type_ends false Unsized ts h = refl
-type_ends false (Sized d) ts h = refl
+type_ends false _ ts h = refl
 
 complete_name : (named : Bool) (rule : Production) (first n : ℕ) (parts : List Syntax) (l : List Want) (zs : Frames) (at : ℕ) (ts : List Class)
     (q : List Event) → HeadIsNot (same c.Name) ts

@@ -170,8 +170,7 @@ first_too_many_is complete tokens k h =
 alone : (l : Load) (z : Frames) (P : Front) → Ready z P → IsEnded (Takes l z) → (x : Syntax) × (z ≡ s.Accepted x ∷ [])
 alone l (s.Accepted x ∷ []) P i h = (x, refl)
 alone l (s.Accepted x ∷ y ∷ z) P i h = absurd i
-alone l [] P i h = absurd h
-alone l (_ ∷ z) P i h = absurd h
+alone l _ P i h = absurd h
 
 -- where all tokens and the end are taken, a file is there, and nothing else
 pub left_accepted : (tokens : List Class) (z : Frames) → run start 0 0 (tokens ++ c.End ∷ []) ≡ Left z → (x : Syntax) × (z ≡ s.Accepted x ∷ [])

@@ -64,8 +64,7 @@ Loose _ b = Unit {0}
 -- two operands and a mark that binds more tightly than the marks below
 pub loose_both : (zs : Frames) (a b : Binary) (m : Class) (l : ℕ) → level m ≡ l → Under zs l → Loose zs (Both a m b)
 loose_both (s.Join f left mark next k ∷ zs) a b m l e h = omega arith
-loose_both [] a b m l e h = tt
-loose_both (_ ∷ zs) a b m l e h = tt
+loose_both _ a b m l e h = tt
 
 -- a unary expression binds more tightly than each mark
 pub loose_single : (zs : Frames) (P : Front) → BinaryNext zs P → (u : Unary) → Loose zs (Single u)
@@ -164,8 +163,7 @@ mutual
       unary_given zs P0 Q i (CastVoid u) w (λ r. e r ∙ q (unary_tokens u r)) (Whole _) refl t at
   unary_given (s.Operand f ∷ zs) P Q i u w e v k t at = binary_given zs P Q i (Single u) w e (lift p.Binary f at v)
       (looks_lift v p.Binary f at (is_lone_unary u) k) t at (single_cap t u) (loose_single zs P i u)
-  unary_given [] P Q i u w e v k t at = absurd i
-  unary_given (_ ∷ zs) P Q i u w e v k t at = absurd i
+  unary_given _ P Q i u w e v k t at = absurd i
 
   target_given : (zs : Frames) (P Q : Front) → TargetNext zs P → (x : Target) → FitsTarget x → ((r : List Class) → Q r ≡ P (target_tokens x r)) →
       (y : Syntax) (t : Class) (at : ℕ) → Goes (give zs (Lone y) t at) (λ r. Q (t ∷ r))
@@ -181,8 +179,7 @@ mutual
             i.1 (target_tokens x (c.Close ∷ r))),
         i.2,
       )) (λ h. tt)
-  target_given [] P Q i x w e y t at = absurd i
-  target_given (_ ∷ zs) P Q i x w e y t at = absurd i
+  target_given _ P Q i x w e y t at = absurd i
 
   binary_given : (zs : Frames) (P Q : Front) → BinaryNext zs P → (b : Binary) → FitsBinary b → ((r : List Class) → Q r ≡ P (binary_tokens b r)) →
       (v : Found) → Looks v (is_lone_binary b) → (t : Class) (at : ℕ) → level t ≤ root b → Loose zs b → Goes (give zs v t at) (λ r. Q (t ∷ r))
@@ -198,8 +195,7 @@ mutual
       (λ h. branch (is_question t) _ _ _
       (λ q. (b, P, w, seen Q (λ r. P (binary_tokens b r)) e t c.Question (question_is t q), i))
       (λ q. conditional_given zs P Q i (Only b) w e (lift p.Conditional f at v) (looks_lift v p.Conditional f at (is_lone_binary b) k) t at))
-  binary_given [] P Q i b w e v k t at cap loose = absurd i
-  binary_given (_ ∷ zs) P Q i b w e v k t at cap loose = absurd i
+  binary_given _ P Q i b w e v k t at cap loose = absurd i
 
   conditional_given : (zs : Frames) (P Q : Front) → ConditionalNext zs P → (d : Conditional) → FitsConditional d →
       ((r : List Class) → Q r ≡ P (conditional_tokens d r)) → (v : Found) → Looks v (is_lone_conditional d) → (t : Class) (at : ℕ) →
@@ -212,8 +208,7 @@ mutual
   conditional_given (s.ChoiceElse f parts next ∷ zs) P Q i d w e v k t at =
       conditional_given zs i.2 Q i.6 (Choose i.0 i.1 d) (i.3, i.4, w) (λ r. e r ∙ i.5 (conditional_tokens d r)) (Whole _) refl t at
   conditional_given (s.Whole full.Conditional start ∷ zs) P Q i d w e v k t at = value_given zs (Of full.Conditional) P Q i d w e _ t at (λ q. refl)
-  conditional_given [] P Q i d w e v k t at = absurd i
-  conditional_given (_ ∷ zs) P Q i d w e v k t at = absurd i
+  conditional_given _ P Q i d w e v k t at = absurd i
 
   assignment_given : (zs : Frames) (P Q : Front) → AssignmentNext zs P → (a : Assignment) → FitsAssignment a →
       ((r : List Class) → Q r ≡ P (assignment_tokens a r)) → (v : Found) → Looks v (is_lone_assignment a) → (t : Class) (at : ℕ) →
@@ -243,8 +238,7 @@ mutual
       (λ h. expression_given zs i.1 Q i.4 (i.0 (One a)) (i.2 (One a) w).0 (λ r. e r ∙ i.3 (One a) r) (Whole _) (i.2 (One a) w).1 t at)
   assignment_given (s.ArgumentSeen f ∷ zs) P Q i a w e v k t at = argument_given zs P Q i (Given a) w e _ t at
   assignment_given (s.Whole full.Assignment start ∷ zs) P Q i a w e v k t at = value_given zs (Of full.Assignment) P Q i a w e _ t at (λ q. refl)
-  assignment_given [] P Q i a w e v k t at = absurd i
-  assignment_given (_ ∷ zs) P Q i a w e v k t at = absurd i
+  assignment_given _ P Q i a w e v k t at = absurd i
 
   expression_given : (zs : Frames) (P Q : Front) → ExpressionNext zs P → (x : Expression) → FitsExpression x →
       ((r : List Class) → Q r ≡ P (expression_tokens x r)) → (v : Found) → Looks v (is_lone x) → (t : Class) (at : ℕ) → Goes (give zs v t at) (λ r. Q (t ∷ r))
@@ -289,8 +283,7 @@ mutual
         i.4,
       )) (λ h. tt)
   expression_given (s.Whole full.Expression start ∷ zs) P Q i x w e v k t at = value_given zs (Of full.Expression) P Q i x w e _ t at (λ q. refl)
-  expression_given [] P Q i x w e v k t at = absurd i
-  expression_given (_ ∷ zs) P Q i x w e v k t at = absurd i
+  expression_given _ P Q i x w e v k t at = absurd i
 
   argument_given : (zs : Frames) (P Q : Front) → ArgumentNext zs P → (x : Argument) → FitsArgument x →
       ((r : List Class) → Q r ≡ P (argument_tokens x r)) → (y : Syntax) (t : Class) (at : ℕ) → Goes (give zs (Whole y) t at) (λ r. Q (t ∷ r))
@@ -313,8 +306,7 @@ mutual
         i.4,
       ))
       (λ q. tt))
-  argument_given [] P Q i x w e y t at = absurd i
-  argument_given (_ ∷ zs) P Q i x w e y t at = absurd i
+  argument_given _ P Q i x w e y t at = absurd i
 
   value_given : (zs : Frames) (x : Got) (P Q : Front) → ValueNext zs x P → (a : GotValue x) → FitsGot x a →
       ((r : List Class) → Q r ≡ P (got_tokens x a r)) → (y : Syntax) (t : Class) (at : ℕ) → Calm (is_got_open x a) t →
@@ -331,8 +323,7 @@ mutual
   value_given (s.Tops parts ∷ []) (Node p.Enum) P Q i a w e y t at k = top_kept (parts ++ y ∷ []) Q (one_more P Q i (OfEnum a) w e) t at
   value_given (s.Tops parts ∷ []) (Node p.Declaration) P Q i a w e y t at k = top_kept (parts ++ y ∷ []) Q (one_more P Q i (OfDeclaration a) w e) t at
   value_given (s.Tops parts ∷ []) (Node p.Function) P Q i a w e y t at k = top_kept (parts ++ y ∷ []) Q (one_more P Q i (OfFunction a) w e) t at
-  value_given [] x P Q i a w e y t at k = absurd i
-  value_given (_ ∷ zs) x P Q i a w e y t at k = absurd i
+  value_given _ x P Q i a w e y t at k = absurd i
 
 index_kept : (f : ℕ) (name : Syntax) (zs : Frames) (P P0 : Front) → ((r : List Class) → P r ≡ P0 (c.Name ∷ r)) → TargetNext zs P0 →
     (t : Class) (at : ℕ) → Goes (at_index f name zs t at) (λ r. P (t ∷ r))

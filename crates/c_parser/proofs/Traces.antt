@@ -86,8 +86,7 @@ over_noted l q h = go l.opens l.role
         (over (token_event x) (Opened n ∷ q)) ≡ cond (b || is_long x (count_of q)) (Some (number_of q)) None
     deep true n x o e = ap (λ a. earlier (earlier a (Some (number_of q))) (over (token_event x) (Opened n ∷ q))) e
     deep false n role.Counted o e = ap (λ a. earlier (earlier a None) (over Counted (Opened n ∷ q))) e
-    deep false n role.Uncounted o e = ap (λ a. earlier (earlier a None) None) e
-    deep false n role.Outside o e = ap (λ a. earlier (earlier a None) None) e
+    deep false n _ o e = ap (λ a. earlier (earlier a None) None) e
 
     go : (n : Option ℕ) (x : Role) → first_over (token_event x ∷ opened_event n q) ≡ cond (is_deep n || is_long x (count_of q)) (Some (number_of q)) None
     go None x = shallow (first_over q) x h 0 0

@@ -328,8 +328,7 @@ least_lead o.Size = NoSize
 least_lead o.Value = None
 least_lead o.Constant = None
 least_lead o.Else = None
-least_lead o.Declarators = []
-least_lead o.Parameters = []
+least_lead _ = []
 
 -- the least that can stand for what is wanted
 abbrev pub least : (x : Want) → WantValue x

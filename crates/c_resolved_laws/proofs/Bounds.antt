@@ -19,8 +19,8 @@ use Rattle.jump_meaning.specs.Step.{switch_kind}
 use Rattle.flat_laws.specs.Pieces.{Aim, Stays, Becomes, Absent, mark_of, third_items, assigned_cells, Names, is_number, test_for, tests_for}
 use Rattle.flat_laws.specs.Pieces.{tests, tests_in, tests_among, case_marks}
 use Rattle.flat_laws.specs.Loose.{Arrivals, NoArrival, Arrives}
-use Rattle.flat_laws.specs.Parts.{is_named, is_scattered, holds_jump, kept_breaks, has_jumps, Here, past, past_item, inside, Ending, Gone, Breaks, Jumps}
-use Rattle.flat_laws.specs.Parts.{Otherwise, ending, is_gone}
+use Rattle.flat_laws.specs.Parts.{is_named, is_scattered, holds_jump, kept_breaks, has_jumps, Here, past, past_item, inside, Ending, Breaks}
+use Rattle.flat_laws.specs.Parts.{ending, is_gone}
 use Rattle.flat_laws.specs.FlatForm.{Plan, names_of, scatter_aim, otherwise_label, end_goto, aim, exit, is_jumpy_switch, assigned, mark_if, arrival}
 use Rattle.flat_laws.specs.FlatForm.{dissolved, if_breaks, flat_for, flat, flat_item, flat_last, flat_last_item, flat_sections, spread, coded}
 use Rattle.flat_laws.specs.FlatForm.{numbered, first_here, marks}
@@ -122,9 +122,7 @@ module _ (gotos labels : ℕ) where
 
   ended_small : (e : Ending) (a b : Forest) (n : ℕ) → weights a ≤ n → weights b ≤ n → weights (if_breaks e a b) ≤ n
   ended_small Breaks a b n h k = h
-  ended_small Gone a b n h k = k
-  ended_small Jumps a b n h k = k
-  ended_small Otherwise a b n h k = k
+  ended_small _ a b n h k = k
 
   both : (a b : Forest) → weights (join a b) ≡ weights a + weights b
   both a b = total-join (weight gotos labels) a b

@@ -27,19 +27,13 @@ label_no_break false e = cc
 
 pub later_gone : (e f : Ending) → later e f ≡ Gone → (e ≡ Gone) × (f ≡ Gone)
 later_gone Gone f h = (refl, h)
-later_gone Breaks f h = cc
-later_gone Jumps f h = cc
-later_gone Otherwise f h = cc
+later_gone _ f h = cc
 
 -- the last item that stays decides
 pub later_else : (e f x : Ending) → later e f ≡ x → is_gone e ≡ false → e ≡ x
 later_else Gone f x h k = false_true (sym k)
-later_else Breaks f x h k = h
-later_else Jumps f x h k = h
-later_else Otherwise f x h k = h
+later_else _ f x h k = h
 
 pub later_last : (e f x : Ending) → later e f ≡ x → is_gone e ≡ true → (e ≡ Gone) × (f ≡ x)
 later_last Gone f x h k = (refl, h)
-later_last Breaks f x h k = false_true k
-later_last Jumps f x h k = false_true k
-later_last Otherwise f x h k = false_true k
+later_last _ f x h k = false_true k

@@ -19,7 +19,7 @@ use Rattle.jump_meaning.specs.Step.{switch_kind}
 use Rattle.flat_laws.specs.Pieces.{Aim, Stays, Becomes, Absent, mark_of, third_items, assigned_cells, Names, is_number, test_for, tests_for, tests, tests_in, tests_among, case_marks}
 use Rattle.flat_laws.specs.Loose.{Arrivals, NoArrival, Arrives}
 use Rattle.flat_laws.specs.Parts.{is_some_number, arrivals, arrivals_in, is_scattered, section_labels, switch_labels, cases_among, has_default, ends_some, leaves, holds_jump, kept_breaks, section_list, trimmed, trimmed_item}
-use Rattle.flat_laws.specs.Parts.{Here, past, past_item, inside, Ending, Gone, Breaks, Jumps, Otherwise, ending, ending_of, last_ending, is_gone}
+use Rattle.flat_laws.specs.Parts.{Here, past, past_item, inside, Ending, Gone, Breaks, ending, ending_of, last_ending, is_gone}
 use Rattle.flat_laws.specs.FlatForm.{Plan, names_of, scatter_aim, otherwise_label, end_goto, aim, exit, is_moved, is_jumpy_switch, assigned, mark_if, arrival, dissolved, if_breaks, flat_for, flat, flat_item, flat_last, flat_last_item}
 use Rattle.flat_laws.specs.FlatForm.{flat_sections, spread, coded, numbered, first_here, flat_body, marks}
 use Rattle.flat_laws.proofs.SameCounts.{weight}
@@ -266,9 +266,7 @@ module _ (p : Plan) where
       gotos ys ≡ n + exits b (breaks a)
       → gotos (if_breaks e xs ys) ≡ n + exits b (breaks (section_list p.live a e))
   by_ending Breaks a xs ys b n f g = f refl
-  by_ending Gone a xs ys b n f g = g
-  by_ending Jumps a xs ys b n f g = g
-  by_ending Otherwise a xs ys b n f g = g
+  by_ending _ a xs ys b n f g = g
 
   by_gone : (q : Bool) (x : Tree) (a xs ys : Forest) (b : Aim) (n : ℕ) → (q ≡ true → gotos xs ≡ n + exits b (breaks (trimmed_item p.live x))) →
       (q ≡ false → gotos ys ≡ n + exits b (breaks_of x + breaks (trimmed p.live a)))

@@ -10,7 +10,7 @@ use Rattle.c_tree.specs.declared.tree.Top.TheVariants as T
 use Rattle.c_tree.specs.declared.tree.Program.{Program}
 use Rattle.c_tree.specs.ExpressionTrees.{ExpressionTree}
 use Rattle.c_tree.specs.TestTrees.{TestTree, Source, On, Off, AndOff, OrOn, SelectorTree, Selects, Pick}
-use Rattle.c_tree.specs.Trees.{Tree, Evaluate, Return, If, While, Do, For, Switch, Block, Local, Break, Continue, Goto, Mark, Arm, Leap, Land, Arrival, Note}
+use Rattle.c_tree.specs.Trees.{Tree, Evaluate, Return, If, While, Do, For, Switch, Block, Local, Break, Continue, Goto, Mark, Arm, Note}
 use Rattle.c_tree.specs.Cases.{selector_source}
 use Rattle.c_tree.specs.Everywhere.{Everywhere}
 use Rattle.c_tree.specs.InRange.{IsUnguarded, body_of}
@@ -77,10 +77,7 @@ module _ (p : Program) (ss : List Slot) (unknown : (m : List ℕ) → IfSome (th
   item_kinded (Goto l) h = tt
   item_kinded (Mark l) h = tt
   item_kinded (Arm l e) h = absurd h.1.1
-  item_kinded (Leap l) h = tt
-  item_kinded (Land l) h = tt
-  item_kinded (Arrival e) h = tt
-  item_kinded (Note bs) h = tt
+  item_kinded _ h = tt
 
 -- ---- functions and programs
 
@@ -96,10 +93,7 @@ module _ (counts : FlatCounts) (p : Program) (r : IsResolvedWith counts p) where
 
   top_kinded : (t : Top) → IsResolvedTop counts p.tops t → IsTopKinded p t
   top_kinded (T.Function f) g = function_kinded f g
-  top_kinded (T.Include bytes) g = tt
-  top_kinded (T.Enum xs) g = tt
-  top_kinded (T.Global x) g = tt
-  top_kinded (T.Note bytes) g = tt
+  top_kinded _ g = tt
 
   pub resolved_kinded : All (IsTopKinded p) p.tops
   resolved_kinded = All-from_recursion (IsTopKinded p) p.tops (each_map (IsResolvedTop counts p.tops) (IsTopKinded p) top_kinded p.tops r.tops)

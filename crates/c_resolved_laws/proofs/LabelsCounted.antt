@@ -17,7 +17,7 @@ use Rattle.jump_meaning.specs.Step.{switch_kind}
 use Rattle.flat_laws.specs.Pieces.{Aim, Stays, Becomes, Absent, mark_of, third_items, assigned_cells, Names, test_for, tests_for, tests, tests_in, tests_among, case_marks, is_number}
 use Rattle.flat_laws.specs.Loose.{Arrivals, NoArrival, Arrives}
 use Rattle.flat_laws.specs.Parts.{arrivals, arrivals_in, is_scattered, section_labels, switch_labels, cases_among, has_default, leaves, holds_jump, kept_breaks}
-use Rattle.flat_laws.specs.Parts.{Here, past, past_item, inside, Ending, Gone, Breaks, Jumps, Otherwise, ending, ending_of, last_ending, is_gone}
+use Rattle.flat_laws.specs.Parts.{Here, past, past_item, inside, Ending, Gone, Breaks, ending, ending_of, last_ending, is_gone}
 use Rattle.flat_laws.specs.FlatForm.{Plan, names_of, scatter_aim, otherwise_label, end_goto, aim, exit, is_moved, is_jumpy_switch, assigned, mark_if, arrival, dissolved, if_breaks, flat_for, flat, flat_item, flat_last, flat_last_item}
 use Rattle.flat_laws.specs.FlatForm.{flat_sections, spread, marks, marks_in, marks_among}
 use Rattle.flat_laws.specs.Source.{nones, AreDifferent, HasOwnCases, IfTrue}
@@ -219,9 +219,7 @@ module _ (p : Plan) where
 
   by_ending : (e : Ending) (xs ys : Forest) (n : ℕ) → (e ≡ Breaks → labels xs ≡ n) → labels ys ≡ n → labels (if_breaks e xs ys) ≡ n
   by_ending Breaks xs ys n f g = f refl
-  by_ending Gone xs ys n f g = g
-  by_ending Jumps xs ys n f g = g
-  by_ending Otherwise xs ys n f g = g
+  by_ending _ xs ys n f g = g
 
   by_gone : (q : Bool) (xs ys : Forest) (n : ℕ) → (q ≡ true → labels xs ≡ n) → (q ≡ false → labels ys ≡ n) → labels (cond q xs ys) ≡ n
   by_gone true xs ys n f g = f refl

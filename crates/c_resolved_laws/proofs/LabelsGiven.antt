@@ -10,7 +10,7 @@ use Rattle.c_tree.specs.ExpressionTrees.{ExpressionTree}
 use Rattle.c_tree.specs.TestTrees.{SelectorTree}
 use Rattle.c_tree.specs.Constants.{kind_of, constant_value}
 use Rattle.c_tree.specs.Cases.{selector_source, selector_kind, case_number}
-use Rattle.c_tree.specs.Trees.{Tree, Forest, Nil, Then, Sections, NoSection, Section, Evaluate, Return, If, While, Do, For, Switch, Block, Local, Break, Continue, Goto, Mark, Arm, Leap, Land, Arrival, Note}
+use Rattle.c_tree.specs.Trees.{Tree, Forest, Nil, Then, Sections, NoSection, Section, If, While, Do, For, Switch, Block, Mark, Land}
 use Rattle.c_tree.specs.Everywhere.{total, total_of, total_in}
 use Rattle.c_tree.specs.InRange.{body_of}
 use Rattle.c_tree.proofs.WellMoved.{everywhere_map, everywhere_both}
@@ -60,17 +60,7 @@ module _ (l : ℕ) where
     counted_of (Switch s c) = let e = counted_in c in grind (arith)
     counted_of (Block a) = let e = counted a in grind (arith)
     counted_of (Mark m) = grind (arith)
-    counted_of (Evaluate e) = refl
-    counted_of (Return e) = refl
-    counted_of (Local k given) = refl
-    counted_of Break = refl
-    counted_of Continue = refl
-    counted_of (Goto m) = refl
-    counted_of (Arm m e) = refl
-    counted_of (Leap m) = refl
-    counted_of (Land m) = refl
-    counted_of (Arrival e) = refl
-    counted_of (Note bs) = refl
+    counted_of _ = refl
 
     counted_in : (c : Sections) → total_in Bit c ≡ count_in l (gathered_in marked_label c)
     counted_in NoSection = refl
@@ -120,19 +110,7 @@ mutual
   arrivals_same_of (Do a t) = arrivals_same a
   arrivals_same_of (For first t u a) = arrivals_same a
   arrivals_same_of (Block a) = arrivals_same a
-  arrivals_same_of (Switch s c) = refl
-  arrivals_same_of (Evaluate e) = refl
-  arrivals_same_of (Return e) = refl
-  arrivals_same_of (Local k given) = refl
-  arrivals_same_of Break = refl
-  arrivals_same_of Continue = refl
-  arrivals_same_of (Goto m) = refl
-  arrivals_same_of (Mark m) = refl
-  arrivals_same_of (Arm m e) = refl
-  arrivals_same_of (Leap m) = refl
-  arrivals_same_of (Land m) = refl
-  arrivals_same_of (Arrival e) = refl
-  arrivals_same_of (Note bs) = refl
+  arrivals_same_of _ = refl
 
 section_same : (es : List ExpressionTree) (default : Bool) → P.section_labels es default ≡ section_labels es default
 section_same [] true = refl
@@ -165,8 +143,7 @@ refuted false f = refl
 other : (m n : Option ℤ) → n ≢ m → same_number n m ≡ false
 other (Some m) (Some n) h = refuted (same_number (Some n) (Some m)) (λ e. h (ap Some ((Decides-int_eq n m).0 e)))
 other None (Some n) h = refl
-other (Some m) None h = refl
-other None None h = refl
+other _ None h = refl
 
 others : (m : Option ℤ) (ns : List (Option ℤ)) → Each (λ n. n ≢ m) ns → AreOther m ns
 others m [] h = tt

@@ -2,9 +2,9 @@
 use Rattle.std.proofs.Common.{ℕ, List, Option, ◌≡◌, refl, sym, ◌∙◌, subst}
 use Rattle.std.specs.Prelude.{IfSome}
 use Rattle.c_tree.specs.declared.tree.Slot.{Slot}
-use Rattle.c_tree.specs.ExpressionTrees.{ExpressionTree, PlaceTree, NodeTree, Arguments, Typed, Var, Cell, Number, Character, EnumName, Text, Array, Read, Unary, Cast, Binary, Conditional, Assign, Update, Count, Comma, Call, NoArgument, Argument}
+use Rattle.c_tree.specs.ExpressionTrees.{ExpressionTree, PlaceTree, NodeTree, Arguments, Typed, Var, Cell, EnumName, Array, Read, Unary, Cast, Binary, Conditional, Assign, Update, Count, Comma, Call, NoArgument, Argument}
 use Rattle.c_tree.specs.TestTrees.{TestTree, Source, On, Off, AndOff, OrOn}
-use Rattle.c_tree.specs.Trees.{Tree, Forest, Nil, Then, Sections, NoSection, Section, Evaluate, Return, If, While, Do, For, Switch, Block, Local, Break, Continue, Goto, Mark, Arm, Leap, Land, Arrival, Note}
+use Rattle.c_tree.specs.Trees.{Tree, Forest, Nil, Then, Sections, NoSection, Section, Evaluate, Return, If, While, Do, For, Switch, Block, Local, Arm, Arrival}
 use Rattle.c_tree.specs.Cases.{selector_source}
 use Rattle.c_tree.specs.Everywhere.{Everywhere, EverywhereOf, EverywhereIn}
 use Rattle.c_tree.specs.TextExpressions.{home_name}
@@ -31,11 +31,7 @@ module _ (P Q : ExpressionTree → Type 0) (f : (x : ExpressionTree) → P x →
     node_map (Count at up after) h = place_map at h
     node_map (Comma a b) h = (within_map a h.0, within_map b h.1)
     node_map (Call m xs) h = arguments_map xs h
-    node_map (Number z) h = tt
-    node_map (Character b) h = tt
-    node_map (EnumName m z) h = tt
-    node_map (Text bs) h = tt
-    node_map (Array a) h = tt
+    node_map _ h = tt
 
     place_map : (at : PlaceTree) → PlaceWithin P at → PlaceWithin Q at
     place_map (Var h) i = tt
@@ -67,14 +63,7 @@ module _ (slots : List Slot) (ss : List Scope) where
   name_bound ts e (Typed kind (Update op at a)) h = e _ ∙ h
   name_bound ts e (Typed kind (Count at up after)) h = e _ ∙ h
   name_bound ts e (Typed kind (Call m xs)) h = e m ∙ h
-  name_bound ts e (Typed kind (Number z)) h = tt
-  name_bound ts e (Typed kind (Character b)) h = tt
-  name_bound ts e (Typed kind (Text bs)) h = tt
-  name_bound ts e (Typed kind (Unary op a)) h = tt
-  name_bound ts e (Typed kind (Cast a)) h = tt
-  name_bound ts e (Typed kind (Binary op a b)) h = tt
-  name_bound ts e (Typed kind (Conditional a b c)) h = tt
-  name_bound ts e (Typed kind (Comma a b)) h = tt
+  name_bound ts e _ h = tt
 
   bound : (ts : List Scope) → SeesAs ts → (x : ExpressionTree) → IsBound slots ss x → IsBound slots ts x
   bound ts e x h = within_map (NameIsBound slots ss) (NameIsBound slots ts) (name_bound ts e) x h
@@ -117,13 +106,7 @@ module _ (slots : List Slot) (ss : List Scope) where
     item_bound (Return x) ts e h = some_bound ts e x h.0
     item_bound (Arm l x) ts e h = some_bound ts e x h.0
     item_bound (Arrival x) ts e h = some_bound ts e x h.0
-    item_bound Break ts e h = tt
-    item_bound Continue ts e h = tt
-    item_bound (Goto l) ts e h = tt
-    item_bound (Mark l) ts e h = tt
-    item_bound (Leap l) ts e h = tt
-    item_bound (Land l) ts e h = tt
-    item_bound (Note bs) ts e h = tt
+    item_bound _ ts e h = tt
 
     all_bound : (xs : Forest) (ts : List Scope) → SeesAs ts → Everywhere Known xs → AreBound slots ts xs
     all_bound Nil ts e h = tt

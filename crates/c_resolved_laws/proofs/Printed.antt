@@ -8,7 +8,7 @@ use Rattle.c_tree.specs.declared.tree.Item.{Item}
 use Rattle.c_tree.specs.declared.tree.Top.{Top}
 use Rattle.c_tree.specs.declared.tree.Top.TheVariants as T
 use Rattle.c_tree.specs.declared.tree.Program.{Program}
-use Rattle.c_tree.specs.Trees.{Tree, Forest, Nil, Then, Sections, NoSection, Section, Evaluate, Return, If, While, Do, For, Switch, Block, Local, Break, Continue, Goto, Mark, Arm, Leap, Land, Arrival, Note, trees_of}
+use Rattle.c_tree.specs.Trees.{Tree, Forest, Nil, Then, Sections, NoSection, Section, If, While, Do, For, Switch, Block, Arrival, trees_of}
 use Rattle.c_tree.specs.Everywhere.{Everywhere, EverywhereOf, EverywhereIn}
 use Rattle.c_tree.specs.InRange.{body_of}
 use Rattle.c_tree.specs.Jumps.{is_plain_program}
@@ -34,17 +34,7 @@ module _ (f : Function) where
     prints (Switch s c) h n = (h.0, print_sections c h.1 n.1)
     prints (Block a) h n = print_all a h n.1
     prints (Arrival e) h n = absurd n
-    prints (Evaluate e) h n = h
-    prints (Return e) h n = h
-    prints (Local k given) h n = h
-    prints Break h n = h
-    prints Continue h n = h
-    prints (Goto l) h n = h
-    prints (Mark l) h n = h
-    prints (Arm l e) h n = h
-    prints (Leap l) h n = h
-    prints (Land l) h n = h
-    prints (Note bytes) h n = h
+    prints _ h n = h
 
     print_all : (xs : Forest) → AreSpelled f xs → Everywhere IsNoArrival xs → ItemsPrint f xs
     print_all Nil h n = tt
@@ -60,10 +50,7 @@ module _ (f : Function) where
 
 print_top : (t : Top) → TopIsSpelled t → TopHasText t → TopPrints t
 print_top (T.Function f) h n = record { named = h.named; parameters = h.parameters; body = print_body f f.body h.body n }
-print_top (T.Include bytes) h n = h
-print_top (T.Enum xs) h n = h
-print_top (T.Global g) h n = h
-print_top (T.Note bytes) h n = h
+print_top _ h n = h
 
 print_tops : (ts : List Top) → Each TopIsSpelled ts → Each TopHasText ts → TopsPrint ts
 print_tops [] h n = tt
@@ -80,10 +67,7 @@ no_arrival _ h = tt
 
 top_text : (t : Top) → IsTopStructured t → TopHasText t
 top_text (T.Function f) h = everywhere_map IsStructured IsNoArrival no_arrival (body_of f) h
-top_text (T.Include bytes) h = tt
-top_text (T.Enum xs) h = tt
-top_text (T.Global g) h = tt
-top_text (T.Note bytes) h = tt
+top_text _ h = tt
 
 pub plain_text : (p : Program) → is_plain_program p ≡ true → HasText p
 plain_text p e = All-from_recursion TopHasText p.tops (each_map IsTopStructured TopHasText top_text p.tops

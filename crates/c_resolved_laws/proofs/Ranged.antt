@@ -162,18 +162,7 @@ module _ (Q : ℕ → Type 0) where
     )
     marked_of (Switch s c) h = (tt, marked_in c h)
     marked_of (Block a) h = (tt, marked a h)
-    marked_of (Evaluate e) h = h
-    marked_of (Return e) h = h
-    marked_of (Local k given) h = h
-    marked_of Break h = h
-    marked_of Continue h = h
-    marked_of (Goto l) h = h
-    marked_of (Mark l) h = h
-    marked_of (Arm l e) h = h
-    marked_of (Leap l) h = h
-    marked_of (Land l) h = h
-    marked_of (Arrival e) h = h
-    marked_of (Note bs) h = h
+    marked_of _ h = h
 
     marked_in : (c : Sections) → Each Q (gathered_in marked_label c) → EverywhereIn Marked c
     marked_in NoSection h = tt
@@ -190,10 +179,7 @@ numbers_below i (suc n) m h = (grind (arith), numbers_below (suc i) n m (grind (
 
 source_labels : (P : ℕ → Type 0) (t : TestTree) → IsSourceTest t → TestLabels P t
 source_labels P (Source e) h = tt
-source_labels P (On l) h = absurd h
-source_labels P (Off l) h = absurd h
-source_labels P (AndOff l t) h = absurd h
-source_labels P (OrOn l t) h = absurd h
+source_labels P _ h = absurd h
 
 source_selector_labels : (P : ℕ → Type 0) (s : SelectorTree) → IsSourceSelector s → SelectorLabels P s
 source_selector_labels P (Selects e) h = tt
@@ -203,21 +189,7 @@ pub unguarded : (f : Function) (x : Tree) → HasSourceForm f x → IsUnguarded 
 unguarded f (For first t u a) h = tt
 unguarded f (Switch s c) h = h.1
 unguarded f (Goto l) h = tt
-unguarded f (Evaluate e) h = h
-unguarded f (Return e) h = h
-unguarded f (If t a b) h = h
-unguarded f (While t a) h = h
-unguarded f (Do a t) h = h
-unguarded f (Block a) h = h
-unguarded f (Local k given) h = h
-unguarded f Break h = h
-unguarded f Continue h = h
-unguarded f (Mark l) h = h
-unguarded f (Arm l e) h = h
-unguarded f (Leap l) h = h
-unguarded f (Land l) h = h
-unguarded f (Arrival e) h = h
-unguarded f (Note bs) h = h
+unguarded f _ h = h
 
 module _ (f : Function) where
   abbrev IsLabel : ℕ → Type 0
@@ -233,15 +205,7 @@ module _ (f : Function) where
   item_labels (Arm l e) h = absurd h.0
   item_labels (Leap l) h = absurd h.0
   item_labels (Land l) h = absurd h.0
-  item_labels (Evaluate e) h = tt
-  item_labels (Return e) h = tt
-  item_labels (For first t u a) h = tt
-  item_labels (Block a) h = tt
-  item_labels (Local k given) h = tt
-  item_labels Break h = tt
-  item_labels Continue h = tt
-  item_labels (Arrival e) h = tt
-  item_labels (Note bs) h = tt
+  item_labels _ h = tt
 
 -- ---- functions and programs
 
@@ -265,17 +229,11 @@ module _ (counts : FlatCounts) (ts : List Top) where
 
   top_ranged : (t : Top) → IsResolvedTop counts ts t → IsTopInRange t
   top_ranged (T.Function f) r = function_ranged f r
-  top_ranged (T.Include bytes) r = tt
-  top_ranged (T.Enum xs) r = tt
-  top_ranged (T.Global g) r = tt
-  top_ranged (T.Note bytes) r = tt
+  top_ranged _ r = tt
 
   top_unflat : (t : Top) → IsResolvedTop counts ts t → IsTopUnflat t
   top_unflat (T.Function f) r = r.form.unflat
-  top_unflat (T.Include bytes) r = tt
-  top_unflat (T.Enum xs) r = tt
-  top_unflat (T.Global g) r = tt
-  top_unflat (T.Note bytes) r = tt
+  top_unflat _ r = tt
 
 pub resolved_ranged : (counts : FlatCounts) (p : Program) → IsResolvedWith counts p → IsProgramInRange p
 resolved_ranged counts p r = All-from_recursion IsTopInRange p.tops

@@ -7,10 +7,10 @@ use Rattle.c_tree.specs.declared.tree.Slot.{Slot}
 use Rattle.c_tree.specs.declared.tree.Function.{Function}
 use Rattle.c_tree.specs.declared.tree.Top.{Top}
 use Rattle.c_tree.specs.ExpressionTrees.{ExpressionTree}
-use Rattle.c_tree.specs.TestTrees.{TestTree, Source, On, Off, AndOff, OrOn, SelectorTree, Selects, Pick}
+use Rattle.c_tree.specs.TestTrees.{TestTree, Source, SelectorTree, Selects, Pick}
 use Rattle.c_tree.specs.TextItems.{is_empty}
 use Rattle.c_tree.specs.Slots.{ExpressionSlots, TestSlots, SelectorSlots, ItemSlots}
-use Rattle.c_tree.specs.Trees.{Tree, Forest, Nil, Then, Sections, NoSection, Section, Evaluate, Return, If, While, Do, For, Switch, Block, Local, Break, Continue, Goto, Mark, Arm, Leap, Land, Arrival, Note}
+use Rattle.c_tree.specs.Trees.{Tree, Forest, Nil, Then, Sections, NoSection, Section, Evaluate, Return, If, While, Do, For, Switch, Block, Local, Break, Continue, Goto, Mark, Arm, Leap, Land, Arrival}
 use Rattle.c_tree.specs.Everywhere.{Everywhere, EverywhereOf, EverywhereIn}
 use Rattle.c_tree.specs.InRange.{IsSourceTest, IsSourceSelector, body_of}
 use Rattle.c_tree.proofs.WellMoved.{everywhere_map, everywhere_both}
@@ -58,18 +58,7 @@ module _ (Q : ℕ → Type 0) where
     )
     declared_of (Switch s c) h = (tt, declared_in c h)
     declared_of (Block a) h = (tt, declared a h)
-    declared_of (Evaluate e) h = h
-    declared_of (Return e) h = h
-    declared_of (Local k given) h = h
-    declared_of Break h = h
-    declared_of Continue h = h
-    declared_of (Goto l) h = h
-    declared_of (Mark l) h = h
-    declared_of (Arm l e) h = h
-    declared_of (Leap l) h = h
-    declared_of (Land l) h = h
-    declared_of (Arrival e) h = h
-    declared_of (Note bs) h = h
+    declared_of _ h = h
 
     declared_in : (c : Sections) → Each Q (gathered_in declared_slot c) → EverywhereIn Declared c
     declared_in NoSection h = tt
@@ -113,18 +102,7 @@ mutual
   none_loose_of (For first t u a) h = none_loose a h
   none_loose_of (Block a) h = none_loose a h
   none_loose_of (Arrival e) h = absurd h
-  none_loose_of (Switch s c) h = refl
-  none_loose_of (Evaluate e) h = refl
-  none_loose_of (Return e) h = refl
-  none_loose_of (Local k given) h = refl
-  none_loose_of Break h = refl
-  none_loose_of Continue h = refl
-  none_loose_of (Goto l) h = refl
-  none_loose_of (Mark l) h = refl
-  none_loose_of (Arm l e) h = refl
-  none_loose_of (Leap l) h = refl
-  none_loose_of (Land l) h = refl
-  none_loose_of (Note bs) h = refl
+  none_loose_of _ h = refl
 
 -- ---- items
 
@@ -150,10 +128,7 @@ module _ (f : Function) (s : Setting) (live : ℕ → Bool) (g : IsSettingOf s f
 
   test_in : (t : TestTree) → IsSourceTest t → TestSlots (λ x. x < length f.slots) t → InTest s t
   test_in (Source e) u h = in_old e h
-  test_in (On l) u h = absurd u
-  test_in (Off l) u h = absurd u
-  test_in (AndOff l t) u h = absurd u
-  test_in (OrOn l t) u h = absurd u
+  test_in _ u h = absurd u
 
   selector_in : (t : SelectorTree) → IsSourceSelector t → SelectorSlots (λ x. x < length f.slots) t → InSelector s t
   selector_in (Selects e) u h = in_old e h
@@ -200,8 +175,7 @@ module _ (f : Function) (s : Setting) (live : ℕ → Bool) (g : IsSettingOf s f
   item_source (Arm l e) h = h.0.0
   item_source (Leap l) h = h.0.0
   item_source (Land l) h = h.0.0
-  item_source (Arrival e) h = tt
-  item_source (Note bs) h = tt
+  item_source _ h = tt
 
 -- each slot that a body declares is none of a parameter
 pub function_declared : (counts : FlatCounts) (ts : List Top) (f : Function) → IsResolvedFunction counts ts f →

@@ -22,10 +22,7 @@ use Rattle.c_resolved_laws.proofs.SourceGiven.{function_source, function_calm}
 -- a function that isn't flat is plain where it has no jumps
 top_plain : (counts : FlatCounts) (ts : List Top) (t : Top) → IsResolvedTop counts ts t → top_holds is_jump_free_function t ≡ top_holds is_plain_function t
 top_plain counts ts (T.Function f) r = ap (λ b. body_holds (if b then is_jump_free else is_plain) f.body) r.form.unflat
-top_plain counts ts (T.Include bytes) r = refl
-top_plain counts ts (T.Enum xs) r = refl
-top_plain counts ts (T.Global g) r = refl
-top_plain counts ts (T.Note bytes) r = refl
+top_plain counts ts _ r = refl
 
 tops_plain : (counts : FlatCounts) (all ts : List Top) → Each (IsResolvedTop counts all) ts →
     all_true (map (top_holds is_jump_free_function) ts) ≡ all_true (map (top_holds is_plain_function) ts)

@@ -20,7 +20,7 @@ use Rattle.c_tree.specs.ExpressionTrees.{ExpressionTree, NodeTree, Arguments, Ar
 use Rattle.c_tree.proofs.ExpressionLaws.{place-Var, place-Cell, node-Number, node-Character, node-EnumName, node-Text, node-Array, node-Read, node-Unary, node-Cast, node-Binary, node-Conditional, node-Assign, node-Update, node-Count, node-Comma, node-Call}
 use Rattle.c_tree.specs.TextExpressions.{binary_level}
 use Rattle.c_grammar.specs.Terms as s
-use Rattle.c_grammar.specs.Terms.{Term, Form, Terms, At, NoTerm, Then, first_of}
+use Rattle.c_grammar.specs.Terms.{Term, Form, Terms, At, NoTerm, Then}
 use Rattle.c_grammar.specs.Words.{is_character, character, kind_of}
 use Rattle.c_kinds.specs.declared.binding.Binding.{Binding}
 use Rattle.c_kinds.specs.declared.binding.Binding.TheVariants as B
@@ -69,17 +69,12 @@ SizedDropped n l e = Sized n l (expression_tree e)
 
 value_sized : (n l : ℕ) (x : kinds.Typed) → Measured n l x → IfSome (value_of x) (SizedValue n l)
 value_sized n l (T.Value v) h = h
-value_sized n l (T.Void a) h = tt
-value_sized n l (T.Text bytes) h = tt
-value_sized n l (T.Array a) h = tt
-value_sized n l T.Wrong h = tt
+value_sized n l _ h = tt
 
 dropped_sized : (n l : ℕ) (x : kinds.Typed) → Measured n l x → IfSome (dropped x) (SizedDropped n l)
 dropped_sized n l (T.Value v) h = subst (Sized n l) (sym (value_rolls v)) h
 dropped_sized n l (T.Void a) h = subst (Sized n l) (sym (void_rolls a)) h
-dropped_sized n l (T.Text bytes) h = tt
-dropped_sized n l (T.Array a) h = tt
-dropped_sized n l T.Wrong h = tt
+dropped_sized n l _ h = tt
 
 -- a leaf of the tree
 leaf_sized : (kind : Option IntKind) (a : Node) (x : NodeTree) → node_tree a ≡ x → node_counted x ≡ 0 → level_of (Typed kind x) ≡ 14 →
@@ -232,9 +227,7 @@ left_sized n l m k a (T.Void b) h i =
     subst (λ x. Sized (n + 1 + (m + bracket_count k 2)) 1 (Typed None x))
     (sym (node-Comma a (expression_of None b) ∙ ap (Comma (expression_tree a)) (void_rolls b)))
     (record { counts = λ z. h.counts z + 1 + operand m k 2 (Typed None (node_tree b)) i z; level = refl })
-left_sized n l m k a (T.Text bytes) h i = tt
-left_sized n l m k a (T.Array b) h i = tt
-left_sized n l m k a T.Wrong h i = tt
+left_sized n l m k a _ h i = tt
 
 comma_sized : (n l m k : ℕ) (o : Option Expression) (b : kinds.Typed) → IfSome o (SizedDropped n l) → Measured m k b →
     Measured (n + 1 + (m + bracket_count k 2)) 1 (comma o b)

@@ -2,9 +2,9 @@
 use Rattle.std.proofs.Common.{ℕ, Bool, true, false, cond, not, ◌&&◌, ◌||◌, ◌==◌, List, [], ◌∷◌, length, Option, Some, None, is_some, option_map, ◌≡◌}
 use Rattle.c_types.specs.declared.kinds.IntKind.{IntKind}
 use Rattle.c_lexer.specs.Marks.{mark_of}
-use Rattle.c_grammar.specs.Terms.{Term, Form, Terms, At, Constant, Variable, Cell, Prefix, Suffix, CastTo, CastVoid, Binary, Choice, Assign, Commas, Call, Texts, Unknown, NoTerm, first_of}
+use Rattle.c_grammar.specs.Terms.{Term, Form, Terms, At, Constant, Variable, Cell, Prefix, Suffix, CastTo, CastVoid, Binary, Choice, Assign, Commas, Call, NoTerm, first_of}
 use Rattle.c_grammar.specs.Terms as terms
-use Rattle.c_grammar.specs.Items.{Size, NoSize, Unsized, Sized, Initialiser, NoValue, OneValue, ValueList, Declarator, Declaration, Label, Named, Case, Default, Start, NoStart, StartValue, StartNames, Item, Declares, States, Plain, From, Statement, Null, Evaluate, If, IfElse, While, DoWhile, For, Switch, Block, Goto, Break, Continue, Return, Unread, Body, Braces, Lone, Items, NoItem, stated_first}
+use Rattle.c_grammar.specs.Items.{Size, NoSize, Unsized, Sized, Initialiser, NoValue, OneValue, ValueList, Declarator, Label, Named, Case, Default, Start, NoStart, StartValue, StartNames, Item, Declares, States, Plain, From, Statement, Null, Evaluate, If, IfElse, While, DoWhile, For, Switch, Block, Goto, Break, Continue, Return, Unread, Body, Braces, Lone, Items, NoItem, stated_first}
 use Rattle.c_grammar.specs.Items as items
 use Rattle.c_kinds.specs.declared.typed.Typed as typed
 use Rattle.c_kinds.specs.declared.typed.Typed.TheVariants as T
@@ -164,8 +164,7 @@ module _ (env : Env) where
     form_empty (Assign m t a) vs e = targets_empty t vs (faults_empty a (target_faults env t vs) (used_empty a (faults env a (target_faults env t vs)) e))
     form_empty (Commas a bs) vs e = faults_empty a vs (unused_empty a (faults env a vs) (commas_empty bs (unused env a (faults env a vs)) e))
     form_empty (Call at xs) vs e = givens_empty xs vs (given_empty at (meaning env at) (given env xs) (given_faults env xs vs) e)
-    form_empty (Texts ats) vs e = e
-    form_empty Unknown vs e = e
+    form_empty _ vs e = e
 
     commas_empty : (bs : Terms) (vs : Faults) → unused_faults env bs vs ≡ [] → vs ≡ []
     commas_empty NoTerm vs e = e

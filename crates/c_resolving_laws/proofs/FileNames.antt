@@ -18,7 +18,7 @@ use Rattle.c_kinds.specs.declared.binding.Binding.{Binding}
 use Rattle.c_kinds.specs.declared.binding.Binding.TheVariants as B
 use Rattle.c_kinds.specs.Scopes.{Scope, found, or_else, known_scope, takes}
 use Rattle.c_resolved_defs.specs.Names as Tree
-use Rattle.c_resolved_defs.specs.Names.{first_function, the_function, the_global, declared_or, known, signature, callee}
+use Rattle.c_resolved_defs.specs.Names.{first_function, the_function, the_global, declared_or, known, callee}
 use Rattle.c_resolved_defs.specs.Scopes as Scopes
 use Rattle.c_resolved_defs.specs.Scopes.{Meaning, AConstant, AVariable, AFunction}
 use Rattle.c_resolved_defs.specs.Within.{Each}
@@ -52,9 +52,7 @@ top_named : (F : Function → Type 0) (G : GlobalVariable → Type 0) (F' : Func
     → (m : List ℕ) (t : Top) → TopFact F G m t → TopFact F' G' m t
 top_named F G F' G' f g m (T.Function x) h = λ e. f x (h e)
 top_named F G F' G' f g m (T.Global x) h = λ e. g x (h e)
-top_named F G F' G' f g m (T.Include bytes) h = tt
-top_named F G F' G' f g m (T.Enum xs) h = tt
-top_named F G F' G' f g m (T.Note bytes) h = tt
+top_named F G F' G' f g m _ h = tt
 
 pub named_map : (F : Function → Type 0) (G : GlobalVariable → Type 0) (F' : Function → Type 0) (G' : GlobalVariable → Type 0) →
     ((f : Function) → F f → F' f) → ((g : GlobalVariable) → G g → G' g)
@@ -198,8 +196,7 @@ abbrev pub meaning_of : List ℕ → Binding → Meaning
 meaning_of m (B.Constant v) = AConstant v
 meaning_of m (B.Global shape) = AVariable (H.Global m)
 meaning_of m (B.Local k shape) = AVariable (H.Slot k)
-meaning_of m (B.Function s) = AFunction
-meaning_of m B.Printf = AFunction
+meaning_of m _ = AFunction
 
 -- two scopes have the same names, for the same things
 abbrev pub Same : Scope → Scopes.Scope → Type 0

@@ -40,10 +40,8 @@ want_again defined (want.Array a b x) (want.Array c d y) p q h e k = (
   k.2,
   h.3,
 )
-want_again defined (want.Number a b) (want.Array c d y) p q h e k = absurd (true≢false (sym e))
-want_again defined (want.Number a b) (want.Sized w) p q h e k = absurd (true≢false (sym e))
-want_again defined (want.Array a b x) (want.Number c d) p q h e k = absurd (true≢false (sym e))
-want_again defined (want.Array a b x) (want.Sized w) p q h e k = absurd (true≢false (sym e))
+want_again defined (want.Number a b) _ p q h e k = absurd (true≢false (sym e))
+want_again defined (want.Array a b x) _ p q h e k = absurd (true≢false (sym e))
 want_again defined (want.Sized w) s p q h e k = absurd h
 
 wants_again : (defined : Bool) (gs ss : List Want) (ps qs : List Slot) → WantsAgree defined gs ps → same_wants gs ss ≡ true →
@@ -117,8 +115,7 @@ module _ (defined : List ℕ → Bool) where
     each_append _ done new h.1 (unnamed_all (FunctionAgrees (defined m) s) NoG m new u),
     h.2,
   )
-  good_more done new m (B.Local k shape) u h = absurd h
-  good_more done new m B.Printf u h = absurd h
+  good_more done new m _ u h = absurd h
 
   some_more : (done new : List Top) (m : List ℕ) (o : Option Binding) → Unnamed m new → IfSome o (FileGood defined done m) →
       IfSome o (FileGood defined (done ++ new) m)

@@ -7,7 +7,7 @@ use Rattle.std.proofs.lemmas.Map.Text.{is_eq-slice_cmp}
 use Rattle.c_types.specs.Words.{name_cmp}
 use Rattle.c_tree.specs.Trees.{trees_of}
 use Rattle.c_tree.proofs.TreeLaws.{tree-Local, trees-none, trees-more}
-use Rattle.c_grammar.specs.Items.{Declarator, Label, Named, Case, Default, Start, NoStart, StartValue, StartNames, Item, Declares, States, Plain, From, Statement, Null, Evaluate, If, IfElse, While, DoWhile, For, Switch, Block, Goto, Break, Continue, Return, Unread, Body, Braces, Lone, Items, NoItem}
+use Rattle.c_grammar.specs.Items.{Declarator, Label, Named, Case, Default, Start, NoStart, StartValue, StartNames, Item, Declares, States, Plain, From, Statement, Null, Evaluate, If, IfElse, While, DoWhile, For, Switch, Block, Body, Braces, Lone, Items, NoItem}
 use Rattle.c_grammar.specs.Items as items
 use Rattle.c_kinds.specs.Scopes.{Names, found, with_entry}
 use Rattle.c_statements.specs.declared.extents.Kinded.{Kinded}
@@ -82,11 +82,7 @@ module _ (ctx : Context) where
         body_list b v rest ∙ sym (ap (λ l. (l ++ of_body ctx marked_label m b v) ++ map number_at rest) (start_none start (enter w)))
     statement_list (Switch t b) w rest = body_list b w rest
     statement_list (Block b) w rest = body_list b w rest
-    statement_list (Goto at) w rest = refl
-    statement_list Break w rest = refl
-    statement_list Continue w rest = refl
-    statement_list (Return t) w rest = refl
-    statement_list Unread w rest = refl
+    statement_list _ w rest = refl
 
     body_list : (b : Body) (w : Walk) (rest : List ℕ) → Lists (body_labels b rest) (of_body ctx marked_label m b w) rest
     body_list (Braces first after xs) w rest = list_list xs (enter w) rest

@@ -1,7 +1,7 @@
 -- No name of a label or of a variable of a body is longer than its longest.
 use Rattle.std.proofs.Common.{ℕ, ◌≤◌, List, [], ◌∷◌, ◌++◌, length, max, refl, arith}
 use Rattle.c_tree.specs.declared.tree.Slot.{Slot}
-use Rattle.c_grammar.specs.Items.{Declarator, Declaration, Label, Named, Case, Default, Start, NoStart, StartValue, StartNames, Item, Declares, States, Plain, From, Statement, Null, Evaluate, If, IfElse, While, DoWhile, For, Switch, Block, Goto, Break, Continue, Return, Unread, Body, Braces, Lone, Items, NoItem}
+use Rattle.c_grammar.specs.Items.{Declarator, Label, Named, Case, Default, Start, NoStart, StartValue, StartNames, Item, Declares, States, Plain, From, Statement, Null, Evaluate, If, IfElse, While, DoWhile, For, Switch, Block, Body, Braces, Lone, Items, NoItem}
 use Rattle.c_grammar.specs.Items as items
 use Rattle.c_statements.specs.declared.extents.Kinded.{Kinded}
 use Rattle.c_statements.specs.Context.{Context, Walk, env_in, enter}
@@ -54,11 +54,7 @@ module _ (ctx : Context) (L : ℕ) where
     statement_names (For start t u b) rest h r = body_names b rest (max_right (start_longest ctx.word start) (body_longest ctx.word b) L h) r
     statement_names (Switch t b) rest h r = body_names b rest h r
     statement_names (Block b) rest h r = body_names b rest h r
-    statement_names (Goto at) rest h r = r
-    statement_names Break rest h r = r
-    statement_names Continue rest h r = r
-    statement_names (Return t) rest h r = r
-    statement_names Unread rest h r = r
+    statement_names _ rest h r = r
 
     pub body_names : (b : Body) (rest : List ℕ) → body_longest ctx.word b ≤ L → Each Short rest → Each Short (body_labels b rest)
     body_names (Braces first after xs) rest h r = list_names xs rest h r
@@ -119,11 +115,7 @@ module _ (ctx : Context) (L : ℕ) where
         (body_slots b v (max_right (start_longest ctx.word start) (body_longest ctx.word b) L h))
     statement_slots (Switch t b) w h = body_slots b w h
     statement_slots (Block b) w h = body_slots b w h
-    statement_slots (Goto at) w h = not_grown ShortName w.slots
-    statement_slots Break w h = not_grown ShortName w.slots
-    statement_slots Continue w h = not_grown ShortName w.slots
-    statement_slots (Return t) w h = not_grown ShortName w.slots
-    statement_slots Unread w h = not_grown ShortName w.slots
+    statement_slots _ w h = not_grown ShortName w.slots
 
     body_slots : (b : Body) (w : Walk) → body_longest ctx.word b ≤ L → Grows w (behind_body ctx b w)
     body_slots (Braces first after xs) w h = list_slots xs (enter w) h

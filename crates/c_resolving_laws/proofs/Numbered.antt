@@ -2,7 +2,7 @@
 use Rattle.std.proofs.Common.{ℕ, Bool, true, false, not, cond, ◌&&◌, ◌||◌, List, [], ◌∷◌, ◌++◌, append_assoc, map, append_assoc, true≢false, arith, ◌≡◌, refl, sym, ap, ◌∙◌}
 use Rattle.std.specs.Prelude.{ℤ, ◌+◌, ◌≤◌}
 use Rattle.c_tree.specs.ExpressionTrees.{ExpressionTree}
-use Rattle.c_tree.specs.Trees.{Tree, Forest, SectionTree, Nil, join, expression_trees, tree_of, trees_of, section_tree, sections, sections_of}
+use Rattle.c_tree.specs.Trees.{Forest, SectionTree, Nil, sections}
 use Rattle.c_tree.specs.Trees as tree
 use Rattle.c_types.specs.declared.kinds.IntKind.{IntKind}
 use Rattle.c_kinds.specs.Scopes.{fault_if}
@@ -42,8 +42,7 @@ differs q v e s = not_itself q (ap (λ w. is_eq (int_cmp q w)) s ∙ e)
 
 pub equal_is : (v x : ℤ) (o : Ordering) → MatchOrdering o (v <ℤ x) (v ≡ x) (x <ℤ v) → o ≡ Equal → v ≡ x
 equal_is v x Equal m e = m
-equal_is v x Less m e = absurd (true≢false (sym (ap is_eq e)))
-equal_is v x Greater m e = absurd (true≢false (sym (ap is_eq e)))
+equal_is v x _ m e = absurd (true≢false (sym (ap is_eq e)))
 
 -- a number that is not among these and one more
 pub apart : (q v : ℤ) (seen : List ℤ) → is_among q (with_value v seen) ≡ false → (is_among q seen ≡ false) × (q ≢ v)

@@ -9,7 +9,7 @@ use Rattle.c_types.specs.declared.kinds.Base.TheVariants.{Decimal, Octal, Hex}
 use Rattle.c_types.specs.declared.kinds.Suffix.{Suffix}
 use Rattle.c_types.specs.declared.kinds.Suffix.TheVariants as suffix
 use Rattle.c_types.specs.declared.kinds.IntKind.{IntKind}
-use Rattle.c_types.specs.declared.kinds.IntKind.TheVariants.{Char, UChar, Int, UInt, Long, ULong}
+use Rattle.c_types.specs.declared.kinds.IntKind.TheVariants.{Char, UChar}
 use Rattle.c_types.specs.Numbers.{greatest, constant_kinds, IsInRange}
 use Rattle.c_lexer.specs.declared.number.Integer.{Integer}
 use Rattle.c_lexer.specs.Numbers.{radix, base_of, behind_prefix, is_digit_of, suffix_of, value_of, kind_of, integer_from, integer_of}
@@ -29,10 +29,7 @@ IsNumberOf kind v = IsInRange kind (pos v) × IsConstant (Some kind) (pos v)
 held : (kind : IntKind) (v : ℕ) → IsConstantKind kind → int_le (pos v) (greatest kind) ≡ true → IsNumberOf kind v
 held Char v c h = absurd c
 held UChar v c h = absurd c
-held Int v c h = (record { from_least = grind (arith, ints); to_greatest = grind (arith, ints, nat_tests) }, grind (arith, nat_tests))
-held UInt v c h = (record { from_least = grind (arith, ints); to_greatest = grind (arith, ints, nat_tests) }, grind (arith, nat_tests))
-held Long v c h = (record { from_least = grind (arith, ints); to_greatest = grind (arith, ints, nat_tests) }, grind (arith, nat_tests))
-held ULong v c h = (record { from_least = grind (arith, ints); to_greatest = grind (arith, ints, nat_tests) }, grind (arith, nat_tests))
+held _ v c h = (record { from_least = grind (arith, ints); to_greatest = grind (arith, ints, nat_tests) }, grind (arith, nat_tests))
 
 chosen : (P : IntKind → Type 0) (b : Bool) (k : IntKind) (o : Option IntKind) → (b ≡ true → P k) → IfSome o P → IfSome (cond b (Some k) o) P
 chosen P true k o f h = f refl
@@ -46,8 +43,7 @@ found_held v (kind ∷ kinds) h = chosen (λ k. IsNumberOf k v) (int_le (pos v) 
 constant_kinds_are : (base : Base) (s : Suffix) → Each IsConstantKind (constant_kinds base s)
 constant_kinds_are Decimal suffix.Plain = (tt, (tt, tt))
 constant_kinds_are Decimal suffix.U = (tt, (tt, tt))
-constant_kinds_are Decimal suffix.L = (tt, tt)
-constant_kinds_are Decimal suffix.UL = (tt, tt)
+constant_kinds_are Decimal _ = (tt, tt)
 constant_kinds_are Octal suffix.Plain = (tt, (tt, (tt, (tt, tt))))
 constant_kinds_are Octal suffix.U = (tt, (tt, tt))
 constant_kinds_are Octal suffix.L = (tt, (tt, tt))

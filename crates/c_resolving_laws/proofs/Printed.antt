@@ -13,7 +13,6 @@ use Rattle.c_tree.specs.declared.tree.Slot.{Slot}
 use Rattle.c_tree.specs.declared.tree.Expression.{Expression}
 use Rattle.c_tree.specs.declared.tree.Place as place
 use Rattle.c_tree.specs.declared.tree.Node as node
-use Rattle.c_tree.specs.declared.tree.Node.{Node}
 use Rattle.c_tree.specs.declared.tree.Home.TheVariants as home
 use Rattle.c_tree.specs.declared.tree.UnaryOp.{UnaryOp}
 use Rattle.c_tree.specs.declared.tree.BinaryOp.{BinaryOp}
@@ -72,17 +71,12 @@ module _ (slots : List Slot) where
 
   value_prints : (x : kinds.Typed) → Printed x → IfSome (value_of x) PrintedValue
   value_prints (T.Value v) h = h
-  value_prints (T.Void a) h = tt
-  value_prints (T.Text bytes) h = tt
-  value_prints (T.Array a) h = tt
-  value_prints T.Wrong h = tt
+  value_prints _ h = tt
 
   dropped_prints : (x : kinds.Typed) → Printed x → IfSome (dropped x) PrintedDropped
   dropped_prints (T.Value v) h = subst (Prints slots) (sym (value_rolls v)) h
   dropped_prints (T.Void a) h = subst (Prints slots) (sym (void_rolls a)) h
-  dropped_prints (T.Text bytes) h = tt
-  dropped_prints (T.Array a) h = tt
-  dropped_prints T.Wrong h = tt
+  dropped_prints _ h = tt
 
   pub zero_prints : IsConstant (Some Int) (pos 0)
   zero_prints = grind (arith, nat_tests)
@@ -187,9 +181,7 @@ module _ (slots : List Slot) where
       (sym (node-Comma a (expression b) ∙ ap (Comma (expression_tree a)) (value_rolls b))) (h, k)
   left_prints a (T.Void b) h k = subst (λ x. Prints slots (Typed None x))
       (sym (node-Comma a (expression_of None b) ∙ ap (Comma (expression_tree a)) (void_rolls b))) (h, k)
-  left_prints a (T.Text bytes) h k = tt
-  left_prints a (T.Array b) h k = tt
-  left_prints a T.Wrong h k = tt
+  left_prints a _ h k = tt
 
   comma_prints : (o : Option Expression) (b : kinds.Typed) → IfSome o PrintedDropped → Printed b → Printed (comma o b)
   comma_prints None b h k = tt
@@ -212,9 +204,7 @@ module _ (slots : List Slot) where
       let e = expression_rolls (record { kind = Some a.kind; node = node.Array a.home }) ∙ ap (Typed (Some a.kind)) (node-Array a.home) in
       let p = subst (Prints slots) (sym e) h in
       (as_argument (expression_tree (array_expression a)) p, k)
-  argument_prints (T.Void a) h rest k = k
-  argument_prints (T.Text bytes) h rest k = k
-  argument_prints T.Wrong h rest k = k
+  argument_prints _ h rest k = k
 
   all_print : (gs : List Given) → Each PrintedGiven gs → AllPrint slots (arguments (map expression_tree (all_handed gs)))
   all_print [] h = tt

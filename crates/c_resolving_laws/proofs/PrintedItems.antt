@@ -51,17 +51,12 @@ module _ (slots : List Slot) where
 
   value_by : (x : kinds.Typed) → Printed slots x → Prints slots (expression_tree (or_placeholder (value_of x)))
   value_by (T.Value v) h = subst (Prints slots) (sym (value_rolls v)) h
-  value_by (T.Void a) h = placeholder_prints
-  value_by (T.Text bytes) h = placeholder_prints
-  value_by (T.Array a) h = placeholder_prints
-  value_by T.Wrong h = placeholder_prints
+  value_by _ h = placeholder_prints
 
   dropped_by : (x : kinds.Typed) → Printed slots x → Prints slots (expression_tree (elim (dropped x) [ Some e ↦ e | None ↦ placeholder ]))
   dropped_by (T.Value v) h = subst (Prints slots) (sym (value_rolls v)) h
   dropped_by (T.Void a) h = subst (Prints slots) (sym (void_rolls a)) h
-  dropped_by (T.Text bytes) h = placeholder_prints
-  dropped_by (T.Array a) h = placeholder_prints
-  dropped_by T.Wrong h = placeholder_prints
+  dropped_by _ h = placeholder_prints
 
   chosen_by : (e : Expression) (b : Bool) (o : Option ℤ) → Prints slots (expression_tree e) →
       Prints slots (expression_tree (constant_or_placeholder (cond b (option_map (λ n. (e, n)) o) None)))
@@ -72,10 +67,7 @@ module _ (slots : List Slot) where
   constant_by : (x : kinds.Typed) → Printed slots x → Prints slots (expression_tree (constant_or_placeholder (constant_of x)))
   constant_by (T.Value v) h = chosen_by (expression v) (is_constant (expression_tree (expression v)))
       (constant_value (expression_tree (expression v))) (subst (Prints slots) (sym (value_rolls v)) h)
-  constant_by (T.Void a) h = placeholder_prints
-  constant_by (T.Text bytes) h = placeholder_prints
-  constant_by (T.Array a) h = placeholder_prints
-  constant_by T.Wrong h = placeholder_prints
+  constant_by _ h = placeholder_prints
 
   -- ---- items
 

@@ -2,7 +2,7 @@
 use Rattle.std.proofs.Common.{ℕ, zero, suc, ◌+◌, ◌-◌, List, [], ◌∷◌, ◌++◌, length, ◌≡◌, refl, sym, ap, subst, ◌∙◌, arith, length-append}
 use Rattle.c_tree.specs.Trees.{trees_of}
 use Rattle.c_tree.proofs.TreeLaws.{tree-Local, trees-none, trees-more}
-use Rattle.c_grammar.specs.Items.{Declarator, Declaration, Label, Named, Case, Default, Start, NoStart, StartValue, StartNames, Item, Declares, States, Plain, From, Statement, Null, Evaluate, If, IfElse, While, DoWhile, For, Switch, Block, Goto, Break, Continue, Return, Unread, Body, Braces, Lone, Items, NoItem}
+use Rattle.c_grammar.specs.Items.{Declarator, Label, Named, Case, Default, Start, NoStart, StartValue, StartNames, Item, Declares, States, Plain, From, Statement, Null, Evaluate, If, IfElse, While, DoWhile, For, Switch, Block, Body, Braces, Lone, Items, NoItem}
 use Rattle.c_grammar.specs.Items as items
 use Rattle.c_statements.specs.declared.extents.Kinded.{Kinded}
 use Rattle.c_statements.specs.Context.{Context, Walk, env_in, enter}
@@ -100,11 +100,7 @@ module _ (ctx : Context) where
         run_both (at w) (at v) (at (behind_body ctx b v)) _ _ (start_runs start (enter w)) (body_runs b v)
     statement_runs (Switch t b) w = body_runs b w
     statement_runs (Block b) w = body_runs b w
-    statement_runs (Goto x) w = run_none (at w)
-    statement_runs Break w = run_none (at w)
-    statement_runs Continue w = run_none (at w)
-    statement_runs (Return t) w = run_none (at w)
-    statement_runs Unread w = run_none (at w)
+    statement_runs _ w = run_none (at w)
 
     body_runs : (b : Body) (w : Walk) → Runs w (behind_body ctx b w) (of_body ctx declared_slot slots_gather b w)
     body_runs (Braces first after xs) w = list_runs xs (enter w)

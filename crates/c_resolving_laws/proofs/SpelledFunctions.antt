@@ -5,7 +5,7 @@ use Rattle.std.proofs.lemmas.List.{append-nil}
 use Rattle.c_tree.specs.declared.tree.Top.{Top}
 use Rattle.c_tree.specs.Trees.{Tree, trees_of}
 use Rattle.c_tree.proofs.WellMoved.{everywhere_map, everywhere_both}
-use Rattle.c_grammar.specs.Items.{Label, Named, Case, Default, Item, Declares, States, Plain, From, Statement, Null, Evaluate, If, IfElse, While, DoWhile, For, Switch, Block, Goto, Break, Continue, Return, Unread, Body, Braces, Lone, Items, NoItem}
+use Rattle.c_grammar.specs.Items.{Label, Named, Case, Default, Item, Declares, States, Plain, From, Statement, Null, Evaluate, If, IfElse, While, DoWhile, For, Switch, Block, Body, Braces, Lone, Items, NoItem}
 use Rattle.c_grammar.specs.Items as items
 use Rattle.c_grammar.specs.Tops.{Parameter, Function}
 use Rattle.c_kinds.specs.Scopes.{Scope, Faults, fault_if, bind_fault}
@@ -68,11 +68,7 @@ module _ (word : ℕ → List ℕ) (notes : Anchor → List (List ℕ)) where
     statement_are (For start t u b) rest h r = body_are b rest h.3 r
     statement_are (Switch t b) rest h r = body_are b rest h.1 r
     statement_are (Block b) rest h r = body_are b rest h r
-    statement_are (Goto at) rest h r = r
-    statement_are Break rest h r = r
-    statement_are Continue rest h r = r
-    statement_are (Return t) rest h r = r
-    statement_are Unread rest h r = r
+    statement_are _ rest h r = r
 
     pub body_are : (b : Body) (rest : List ℕ) → IsReadBody word b → Each Is rest → Each Is (body_labels b rest)
     body_are (Braces first after xs) rest h r = list_are xs rest h r

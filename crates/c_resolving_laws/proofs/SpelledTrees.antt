@@ -12,7 +12,7 @@ use Rattle.c_tree.specs.Everywhere.{Everywhere, EverywhereOf, EverywhereIn}
 use Rattle.c_tree.specs.ExpressionTrees.{ExpressionTree, Typed}
 use Rattle.c_tree.specs.ExpressionTrees as e
 use Rattle.c_tree.specs.InRange.{IsSourceTest, IsSourceSelector}
-use Rattle.c_tree.specs.TestTrees.{TestTree, Source, On, Off, AndOff, OrOn, SelectorTree, Selects, Pick}
+use Rattle.c_tree.specs.TestTrees.{TestTree, Source, SelectorTree, Selects, Pick}
 use Rattle.c_tree.specs.TextExpressions.{binary_level}
 use Rattle.c_tree.specs.Cases.{selector_source}
 use Rattle.c_tree.specs.Trees.{Tree, Forest, Nil, Then, Sections, NoSection, Section, Evaluate, Return, If, While, Do, For, Switch, Block, Local, Break, Continue, Goto, Mark, Arm, Leap, Land, Arrival, Note}
@@ -72,11 +72,7 @@ module _ (Q : ℕ → Type 0) where
     mark_is Continue h = tt
     mark_is (Goto l) h = tt
     mark_is (Mark l) h = h.0
-    mark_is (Arm l e) h = tt
-    mark_is (Leap l) h = tt
-    mark_is (Land l) h = tt
-    mark_is (Arrival e) h = tt
-    mark_is (Note bs) h = tt
+    mark_is _ h = tt
 
     marks_in : (c : Sections) → Each Q (gathered_in marked_label c) → EverywhereIn (MarkIs Q) c
     marks_in NoSection h = tt
@@ -117,14 +113,7 @@ arith_above A.Xor = omega arith
 
 binary_above : (op : BinaryOp) → 1 ≤ binary_level op
 binary_above (O.Arith op) = arith_above op
-binary_above O.Less = omega arith
-binary_above O.Greater = omega arith
-binary_above O.AtMost = omega arith
-binary_above O.AtLeast = omega arith
-binary_above O.Equal = omega arith
-binary_above O.Unequal = omega arith
-binary_above O.AndThen = omega arith
-binary_above O.OrElse = omega arith
+binary_above _ = omega arith
 
 level_above : (x : ExpressionTree) → 1 ≤ level_of x
 level_above (Typed kind (e.Number n)) = omega arith
@@ -173,10 +162,7 @@ module _ (slots : List Slot) where
 
   test : (t : TestTree) → IsSourceTest t → TestExpression (Prints slots) t → most_tested t ≤ most → TestPrints slots t
   test (Source x) s p h = full x p h
-  test (On l) s p h = absurd s
-  test (Off l) s p h = absurd s
-  test (AndOff l t) s p h = absurd s
-  test (OrOn l t) s p h = absurd s
+  test _ s p h = absurd s
 
   selector : (s : SelectorTree) → IsSourceSelector s → Prints slots (selector_source s) → counted (selector_source s) ≤ most → SelectorPrints slots s
   selector (Selects x) s p h = full x p h

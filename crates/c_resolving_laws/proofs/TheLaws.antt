@@ -100,16 +100,11 @@ module _ (file : File) (ts : List Top) (known : (slots : List Slot) → IsDefine
   one_constant : (t : Top) → TopHolds file ts known comments t → HasConstants ts t
   one_constant (T.Enum es) h = h
   one_constant (T.Global g) h = h
-  one_constant (T.Function f) h = tt
-  one_constant (T.Include bs) h = tt
-  one_constant (T.Note bs) h = tt
+  one_constant _ h = tt
 
   one_function : (t : Top) → TopHolds file ts known comments t → OfFunction (Resolves file.flat ts) t
   one_function (T.Function f) h = h
-  one_function (T.Enum es) h = tt
-  one_function (T.Global g) h = tt
-  one_function (T.Include bs) h = tt
-  one_function (T.Note bs) h = tt
+  one_function _ h = tt
 
 file_answered : (file : File) (xs : List tops.Top) → ((m : List ℕ) → defined file m ≡ has_function (bodies_of file.word xs) m) →
     IsReadFile file.word xs → ((a : Anchor) → Each IsComment (file.notes a)) → file_faults file xs start [] ≡ [] → Answered file.flat (program_of file xs)
@@ -136,10 +131,7 @@ all_answered flat text tokens comments x p r e =
 
 of_map : (P Q : Function → Type 0) → ((f : Function) → P f → Q f) → (t : Top) → OfFunction P t → OfFunction Q t
 of_map P Q g (T.Function f) h = g f h
-of_map P Q g (T.Enum es) h = tt
-of_map P Q g (T.Global v) h = tt
-of_map P Q g (T.Include bs) h = tt
-of_map P Q g (T.Note bs) h = tt
+of_map P Q g _ h = tt
 
 each_function : (P : List Top → Function → Type 0) → ((flat : FlatCounts) (ts : List Top) (f : Function) → Resolves flat ts f → P ts f) →
     Gives (λ p. Each (OfFunction (P p.tops)) p.tops)
@@ -179,8 +171,7 @@ module _ (counts : Limits.FlatCounts) (flat : FlatCounts) (c : AreCounts flat co
   top_resolved (T.Function f) h k = function_resolved counts flat c ts f k
   top_resolved (T.Enum es) h k = h
   top_resolved (T.Global v) h k = h
-  top_resolved (T.Include bs) h k = tt
-  top_resolved (T.Note bs) h k = tt
+  top_resolved _ h k = tt
 
   tops_resolved : (xs : List Top) → Each (HasConstants ts) xs → Each (OfFunction (Resolves flat ts)) xs → Each (IsResolvedTop counts ts) xs
   tops_resolved [] h k = tt

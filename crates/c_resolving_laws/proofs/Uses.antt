@@ -115,10 +115,7 @@ module _ (n : Names) (ss : List Scope) (env : Env) (knows : Knows n ss env) wher
         constant = subst IsConstantValue (sym i) (record { kind = tt; constant = c.2; untrapped = some_value (constant_value (value_tree v)) c.0 c.3 });
         value = ap constant_value i ∙ c.3;
       })
-  constant_typed (T.Void a) s h = absurd (true≢false (sym h))
-  constant_typed (T.Text bytes) s h = absurd (true≢false (sym h))
-  constant_typed (T.Array a) s h = absurd (true≢false (sym h))
-  constant_typed T.Wrong s h = absurd (true≢false (sym h))
+  constant_typed _ s h = absurd (true≢false (sym h))
 
   pub constant_is_value : (t : Term) → IsReadTerm env.word t → constant_faults env t [] ≡ [] → ConstantIs (constant_of (typed env t)) (constant_at env t)
   constant_is_value t r e = by (is_some (constant_of (typed env t))) refl e

@@ -1,6 +1,6 @@
 -- What stands behind a function's body: the scopes around it, and its parameters among the slots.
-use Rattle.std.proofs.Common.{◌≡◌, ◌+◌, ℕ, List, [], ◌∷◌, ◌++◌, length, drop, Option, Some, None, refl, ap, ◌∙◌, length-append, arith}
-use Rattle.c_grammar.specs.Items.{Declarator, Item, Declares, States, Plain, From, Statement, Null, Evaluate, If, IfElse, While, DoWhile, For, Switch, Block, Goto, Break, Continue, Return, Unread, Body, Braces, Lone, Items, NoItem, Then}
+use Rattle.std.proofs.Common.{◌≡◌, ◌+◌, ℕ, List, [], ◌∷◌, length, drop, Option, Some, None, refl, ap, ◌∙◌, length-append, arith}
+use Rattle.c_grammar.specs.Items.{Declarator, Item, Declares, States, From, Statement, If, IfElse, While, DoWhile, For, Switch, Block, Body, Braces, Lone, Items, NoItem, Then}
 use Rattle.c_grammar.specs.Tops.{Parameter, Function}
 use Rattle.c_kinds.specs.declared.binding.Binding.{Binding}
 use Rattle.c_kinds.specs.declared.binding.Binding.TheVariants.{Local}
@@ -9,7 +9,7 @@ use Rattle.c_statements.specs.declared.anchors.Anchor.{Anchor}
 use Rattle.c_statements.specs.declared.extents.Kinded.{Kinded}
 use Rattle.c_statements.specs.Context.{Context, Walk}
 use Rattle.c_statements.specs.Declarations.{declared, all_declared}
-use Rattle.c_statements.specs.Statements.{behind_item, behind_plain, behind_statement, behind_body, behind_items}
+use Rattle.c_statements.specs.Statements.{behind_item, behind_statement, behind_body, behind_items}
 use Rattle.c_statements.specs.Functions as functions
 use Rattle.c_statements.specs.Functions.{bind_parameter, bind_parameters, parameter_shape, inside, behind_within, context}
 
@@ -37,13 +37,7 @@ statement-scopes ctx (DoWhile b t) w = body-scopes ctx b w
 statement-scopes ctx (For start t u b) w = refl
 statement-scopes ctx (Switch t b) w = body-scopes ctx b w
 statement-scopes ctx (Block b) w = body-scopes ctx b w
-statement-scopes ctx Null w = refl
-statement-scopes ctx (Evaluate t) w = refl
-statement-scopes ctx (Goto at) w = refl
-statement-scopes ctx Break w = refl
-statement-scopes ctx Continue w = refl
-statement-scopes ctx (Return t) w = refl
-statement-scopes ctx Unread w = refl
+statement-scopes ctx _ w = refl
 
 item-outer : (ctx : Context) (x : Item) (w : Walk) → outer (behind_item ctx x w) ≡ outer w
 item-outer ctx (Declares first after d) w = declared-outer ctx.word _ d.names w

@@ -2,7 +2,7 @@
 use Rattle.std.proofs.Common.{ℕ, Bool, true, false, cond, List, [], ◌∷◌, ◌++◌, map, refl, sym, subst, inl, inr}
 use Rattle.std.specs.Prelude.{filter}
 use Rattle.c_lexer.specs.declared.token.Span.{Span}
-use Rattle.c_lexer.specs.Pieces.{Piece, text, spelled, behind, comment_of, tokens_of, comments_of, Fits, Longest, Spells}
+use Rattle.c_lexer.specs.Pieces.{Piece, text, behind, comment_of, tokens_of, comments_of, Fits, Longest, Spells}
 use Rattle.c_lexer.specs.PieceSteps.{all_of, first_behind, Good}
 use Rattle.c_lexer.specs.Pieces as l
 use Rattle.c_lexer.proofs.PieceLemmas.{Stands}
@@ -22,13 +22,7 @@ use Rattle.c_source_laws.proofs.Lines.{one_line}
 piece_comments : (first : Bool) (p : Piece) (r : List ℕ) → Fits first p → Longest p r → Each IsComment (comment_bytes p)
 piece_comments first (l.Line w) r f m = ((refl, inl (refl, one_line w r m)), tt)
 piece_comments first (l.Block w) r f m = ((refl, inr (refl, f)), tt)
-piece_comments first (l.Space b) r f m = tt
-piece_comments first (l.Word w) r f m = tt
-piece_comments first (l.Number w) r f m = tt
-piece_comments first (l.Char x) r f m = tt
-piece_comments first (l.Text xs) r f m = tt
-piece_comments first (l.Sign x) r f m = tt
-piece_comments first (l.Directive w) r f m = tt
+piece_comments first _ r f m = tt
 
 of_map : (t : List ℕ) (xs ys : List Span) → Each IsComment (map (comment_at t) xs) → Each IsComment (map (comment_at t) ys) →
     Each IsComment (map (comment_at t) (xs ++ ys))

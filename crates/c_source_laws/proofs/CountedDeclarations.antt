@@ -9,7 +9,7 @@ use Rattle.c_grammar.specs.declared.syntax.Production.TheVariants as p
 use Rattle.c_grammar.specs.Nodes.{node, leaf}
 use Rattle.c_grammar.specs.Events.{Event, Outside, first_over}
 use Rattle.c_grammar.specs.Counts.{type_events, expression_events, assignment_events, conditional_events, word_events, more_events, rest_events, size_events, initialiser_events, value_events, declarator_events, local_events}
-use Rattle.c_grammar.specs.Expressions.{Base, CharBase, IntBase, LongBase, LongIntBase, NumberType, OfBase, Signed, SignedOf, Unsigned, UnsignedOf, Expression, Assignment, Conditional, expression_tokens, assignment_tokens, conditional_tokens, FitsExpression, FitsAssignment, FitsConditional}
+use Rattle.c_grammar.specs.Expressions.{Base, LongIntBase, NumberType, OfBase, Signed, SignedOf, Unsigned, UnsignedOf, Expression, Assignment, Conditional, expression_tokens, assignment_tokens, conditional_tokens, FitsExpression, FitsAssignment, FitsConditional}
 use Rattle.c_grammar.specs.ExpressionSyntax.{base_parts, type_end, type_parts, type_node, expression_node, assignment_end, assignment_node, conditional_end, conditional_node}
 use Rattle.c_grammar.specs.Statements.{Size, NoSize, Unsized, Sized, Initialiser, OneValue, ValueList, Declarator, Declared, Local, Locals, more_tokens, rest_tokens, size_tokens, initialiser_tokens, value_tokens, declarator_tokens, local_tokens, FitsMore, FitsSize, FitsInitialiser, FitsValue, FitsDeclarator, FitsLocal}
 use Rattle.c_grammar.specs.StatementSyntax.{word_end, more_end, size_end, initialiser_end, value_end, declarator_end, word_parts, more_parts, rest_parts, size_parts, initialiser_parts, initialiser_node, value_parts, declarator_node, local_node}
@@ -75,9 +75,7 @@ module _ (word : ℕ → List ℕ) where
 
   base_low : (m : ℕ) (b : Base) (at : ℕ) → Low m (base_parts at b)
   base_low m LongIntBase at = (leaf_low m at, (leaf_low m (at + 1), tt))
-  base_low m CharBase at = (leaf_low m at, tt)
-  base_low m IntBase at = (leaf_low m at, tt)
-  base_low m LongBase at = (leaf_low m at, tt)
+  base_low m _ at = (leaf_low m at, tt)
 
   type_parts_low : (m : ℕ) (n : NumberType) (at : ℕ) → Low m (type_parts at n)
   type_parts_low m (OfBase b) at = base_low m b at

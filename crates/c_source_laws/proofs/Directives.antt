@@ -12,7 +12,7 @@ use Rattle.c_lexer.specs.declared.mark.Mark.{Mark}
 use Rattle.c_lexer.specs.declared.mark.Mark.TheVariants as m
 use Rattle.c_lexer.specs.Marks.{mark_of}
 use Rattle.c_lexer.specs.Bytes.{is_blank}
-use Rattle.c_lexer.specs.Pieces.{Piece, text, bare, onto_bare, begins_with_include, is_include, word_kind, tokens_of, Fits, Longest, Spells}
+use Rattle.c_lexer.specs.Pieces.{Piece, bare, onto_bare, begins_with_include, is_include, tokens_of, Fits, Longest, Spells}
 use Rattle.c_lexer.specs.Pieces as l
 use Rattle.c_lexer.specs.IncludeSteps.{leaves_open}
 use Rattle.c_lexer.proofs.IncludeLemmas.{directive_decided}
@@ -109,9 +109,7 @@ piece_lines first (l.Number w) r f m = (tt, tt)
 piece_lines first (l.Char x) r f m = (tt, tt)
 piece_lines first (l.Text xs) r f m = (tt, tt)
 piece_lines first (l.Sign x) r f m = (tt, tt)
-piece_lines first (l.Space b) r f m = tt
-piece_lines first (l.Line w) r f m = tt
-piece_lines first (l.Block w) r f m = tt
+piece_lines first _ r f m = tt
 
 pub directives : (pieces : List Piece) (t : List ℕ) → Spells pieces t →
     Each (λ (x : Token). IsDirectiveToken x.kind (slice_range t x.start x.end)) (tokens_of pieces)

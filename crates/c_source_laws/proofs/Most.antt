@@ -144,9 +144,7 @@ module _ (word : ℕ → List ℕ) where
 
   base_is : (b : Base) (at : ℕ) → most_of (base_parts at b) ≡ 0
   base_is LongIntBase at = let g = leaf_is at in let h = leaf_is (at + 1) in omega (arith, g, h)
-  base_is CharBase at = let g = leaf_is at in omega (arith, g)
-  base_is IntBase at = let g = leaf_is at in omega (arith, g)
-  base_is LongBase at = let g = leaf_is at in omega (arith, g)
+  base_is _ at = let g = leaf_is at in omega (arith, g)
 
   type_parts_are : (n : NumberType) (at : ℕ) → most_of (type_parts at n) ≡ 0
   type_parts_are (OfBase b) at = base_is b at

@@ -31,9 +31,7 @@ found first (l.Number w) f = (classed k.Number w tt, tt)
 found first (l.Char x) f = (classed k.Char (spelled (l.Char x) []) tt, tt)
 found first (l.Text xs) f = (classed k.Text (spelled (l.Text xs) []) tt, tt)
 found first (l.Directive w) f = (classed k.Directive (35 ∷ bare w) tt, tt)
-found first (l.Space b) f = tt
-found first (l.Line w) f = tt
-found first (l.Block w) f = tt
+found first _ f = tt
 
 pub classes : (pieces : List Piece) (t : List ℕ) → Spells pieces t → Along IsClassed (word_of t (tokens_of pieces)) 0
     (classes_of t (tokens_of pieces) ++ c.End ∷ [])

@@ -30,8 +30,7 @@ word_quiet true q = omega arith
 
 pub size_closed : (x : Size) (q : List Event) → count_of q ≡ 0 → count_of (size_events x q) ≡ 0
 size_closed NoSize q z = z
-size_closed Unsized q z = refl
-size_closed (Sized d) q z = refl
+size_closed _ q z = refl
 
 opened_closed : (level : ℕ) (b : Bool) (q : List Event) → count_of q ≡ 0 → count_of (cond b q (Opened level ∷ q)) ≡ 0
 opened_closed level true q z = z
@@ -68,10 +67,7 @@ mutual
   plain_closed (DoWhile t e) level q z = refl
   plain_closed (For f t u b) level q z = statement_closed b (level_within level b) _ (opened_closed (level + 1) (is_block b) _ refl)
   plain_closed (Switch e t) level q z = statement_closed t (level_within level t) _ (opened_closed (level + 1) (is_block t) _ refl)
-  plain_closed Goto level q z = refl
-  plain_closed Break level q z = refl
-  plain_closed Continue level q z = refl
-  plain_closed (Return o) level q z = refl
+  plain_closed _ level q z = refl
 
 -- ---- the greatest of some numbers
 

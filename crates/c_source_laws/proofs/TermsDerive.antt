@@ -34,15 +34,7 @@ mutual
   lone_unary : (u : Unary) (at : ℕ) → FitsUnary u → is_lone_unary u ≡ is_target (unary_form at u)
   lone_unary (Place t) at f = target_writes t at
   lone_unary (Within e) at f = sym (f.0) ∙ lone_expression e (at + 1) (f.1)
-  lone_unary (Prefixed m u) at f = refl
-  lone_unary (StepTo t) at f = refl
-  lone_unary (CastTo n u) at f = refl
-  lone_unary (CastVoid u) at f = refl
-  lone_unary (StepAfter t) at f = refl
-  lone_unary CallNone at f = refl
-  lone_unary (CallWith xs) at f = refl
-  lone_unary Number at f = refl
-  lone_unary Character at f = refl
+  lone_unary _ at f = refl
 
 -- ---- derivations
 

@@ -53,8 +53,7 @@ abbrev has_token : Symbol → ℕ
 has_token (Counted k) = 1
 has_token (Uncounted k) = 1
 has_token (Outside k) = 1
-has_token OpensLevel = 0
-has_token EndsLevel = 0
+has_token _ = 0
 
 number_one : (x : Symbol) (xs : List Symbol) → number (x ∷ xs) ≡ has_token x + number xs
 number_one (Counted k) xs = omega arith

@@ -9,7 +9,7 @@ use Rattle.c_lexer.specs.declared.token.TokenKind.TheVariants as k
 use Rattle.c_lexer.specs.Marks.{mark_of, mark_text}
 use Rattle.c_lexer.specs.MarkSteps.{mark_at, grown}
 use Rattle.c_lexer.specs.Numbers.{continues}
-use Rattle.c_lexer.specs.Pieces.{Piece, word_kind, tokens_of, Fits, Spells}
+use Rattle.c_lexer.specs.Pieces.{Piece, tokens_of, Fits, Spells}
 use Rattle.c_lexer.specs.Pieces as l
 use Rattle.c_lexer.proofs.MarkTable.{mark_is}
 use Rattle.c_lexer.proofs.Truths.{both_true}
@@ -151,9 +151,7 @@ weighed first (l.Char x) f = (unmarked c.Character (l.spelled (l.Char x) []) ref
 weighed first (l.Text xs) f = (unmarked c.Text (l.spelled (l.Text xs) []) refl (record { counts = refl; binds = refl }), tt)
 weighed first (l.Sign x) f = (record { counts = refl; binds = mark_binds (mark_of (mark_text x)) }, tt)
 weighed first (l.Directive w) f = (unmarked c.Directive (35 ∷ l.bare w) refl (record { counts = refl; binds = refl }), tt)
-weighed first (l.Space b) f = tt
-weighed first (l.Line w) f = tt
-weighed first (l.Block w) f = tt
+weighed first _ f = tt
 
 pub weights : (pieces : List Piece) (t : List ℕ) → Spells pieces t → Along IsWeighed (word_of t (tokens_of pieces)) 0
     (classes_of t (tokens_of pieces) ++ c.End ∷ [])

@@ -5,7 +5,7 @@ use Rattle.c_types.specs.Words.{is_word, is_keyword}
 use Rattle.c_lexer.specs.declared.token.TokenKind.{TokenKind}
 use Rattle.c_lexer.specs.declared.token.TokenKind.TheVariants as k
 use Rattle.c_lexer.specs.Marks.{mark_text}
-use Rattle.c_lexer.specs.Pieces.{Piece, text, spelled, behind, bare, word_kind, token_of, tokens_of, Fits, Spells}
+use Rattle.c_lexer.specs.Pieces.{Piece, spelled, bare, word_kind, tokens_of, Fits, Spells}
 use Rattle.c_lexer.specs.Pieces as l
 use Rattle.c_grammar.specs.declared.class.Class.{Class}
 use Rattle.c_grammar.specs.declared.class.Class.TheVariants as c
@@ -35,9 +35,7 @@ found first (l.Number w) f = (classed k.Number w tt, tt)
 found first (l.Char x) f = (classed k.Char (spelled (l.Char x) []) tt, tt)
 found first (l.Text xs) f = (classed k.Text (spelled (l.Text xs) []) tt, tt)
 found first (l.Directive w) f = (classed k.Directive (35 ∷ bare w) tt, tt)
-found first (l.Space b) f = tt
-found first (l.Line w) f = tt
-found first (l.Block w) f = tt
+found first _ f = tt
 
 -- ---- by their numbers
 

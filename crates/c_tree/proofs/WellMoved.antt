@@ -323,18 +323,7 @@ module _ (P Q : Tree → Type 0) where
     both_of (For g t u a) h k = ((h.0, k.0), everywhere_both g h.1 k.1, everywhere_both a h.2 k.2)
     both_of (Switch s c) h k = ((h.0, k.0), both_in c h.1 k.1)
     both_of (Block a) h k = ((h.0, k.0), everywhere_both a h.1 k.1)
-    both_of (Evaluate e) h k = (h, k)
-    both_of (Return e) h k = (h, k)
-    both_of (Local x es) h k = (h, k)
-    both_of Break h k = (h, k)
-    both_of Continue h k = (h, k)
-    both_of (Goto l) h k = (h, k)
-    both_of (Mark l) h k = (h, k)
-    both_of (Arm l e) h k = (h, k)
-    both_of (Leap l) h k = (h, k)
-    both_of (Land l) h k = (h, k)
-    both_of (Arrival e) h k = (h, k)
-    both_of (Note bs) h k = (h, k)
+    both_of _ h k = (h, k)
 
     both_in : (c : Sections) → EverywhereIn P c → EverywhereIn Q c → EverywhereIn (λ x. P x × Q x) c
     both_in NoSection h k = tt

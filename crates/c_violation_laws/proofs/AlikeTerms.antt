@@ -1,6 +1,6 @@
 -- Expressions are the same, and break the same rules, by the maps of a walk and by the scopes of its place.
 use Rattle.std.proofs.Common.{◌≡◌, ℕ, true, false, List, ◌∷◌, Some, None, refl}
-use Rattle.c_grammar.specs.Terms.{Term, Form, Terms, At, Constant, Variable, Cell, Prefix, Suffix, CastTo, CastVoid, Binary, Choice, Assign, Commas, Call, Texts, Unknown, NoTerm, Then, first_of}
+use Rattle.c_grammar.specs.Terms.{Term, Form, Terms, At, Constant, Variable, Cell, Prefix, Suffix, CastTo, CastVoid, Binary, Choice, Assign, Commas, Call, NoTerm, Then, first_of}
 use Rattle.c_grammar.specs.Words.{kind_of}
 use Rattle.c_lexer.specs.Marks.{mark_of}
 use Rattle.c_kinds.specs.declared.typed.Typed.{Typed}
@@ -44,8 +44,7 @@ module _ (word : ℕ → List ℕ) (ms ss : List Scope) (m : AreMaps ms ss) wher
     form_alike (Assign k t a) = λ i. assignment (update_op (mark_of (word k))) (writable (target_alike t i)) (value_of (typed_alike a i))
     form_alike (Commas a bs) = commas_alike (typed the_maps a) (typed the_texts a) (typed_alike a) bs
     form_alike (Call at xs) = λ i. called (word at) (same (word at) i) (given_alike xs i)
-    form_alike (Texts ats) = refl
-    form_alike Unknown = refl
+    form_alike _ = refl
 
     commas_alike : (x y : Typed) → x ≡ y → (bs : Terms) → commas the_maps x bs ≡ commas the_texts y bs
     commas_alike x y e NoTerm = e
@@ -91,8 +90,7 @@ module _ (word : ℕ → List ℕ) (ms ss : List Scope) (m : AreMaps ms ss) wher
     form_faults_alike (Assign k t a) vs = used_alike a _ _ (λ i. faults_alike a (target_faults_alike t vs i) i)
     form_faults_alike (Commas a bs) vs = λ i. unused_faults_alike bs (unused_alike a _ _ (faults_alike a vs) i) i
     form_faults_alike (Call at xs) vs = λ i. call_faults at (same (word at) i) (given_alike xs i) (given_faults_alike xs vs i)
-    form_faults_alike (Texts ats) vs = refl
-    form_faults_alike Unknown vs = refl
+    form_faults_alike _ vs = refl
 
     unused_faults_alike : (bs : Terms) (vs : Faults) → unused_faults the_maps bs vs ≡ unused_faults the_texts bs vs
     unused_faults_alike NoTerm vs = refl

@@ -181,8 +181,7 @@ module _ (env : Env) (x : Term) where
   to (want.Number kind constant) (Void n) e v g = is_void (want.Number kind constant) n v e g
   to (want.Number kind constant) (Text bytes) e v g = is_text (want.Number kind constant) bytes v e g
   to (want.Number kind constant) (Array a) e v g = is_array (want.Number kind constant) a v tt e g
-  to (want.Number kind constant) (Value y) e v g = absurd g
-  to (want.Number kind constant) Wrong e v g = absurd g
+  to (want.Number kind constant) _ e v g = absurd g
   to (want.Array kind constant external) (Value y) e v g = inl
       (subst (ArgumentBreaks env x (want.Array kind constant external)) (sym g) (ArgumentBreaks.number_for_array y (of_value y e)))
   to (want.Array kind constant external) (Void n) e v g = is_void (want.Array kind constant external) n v e g
@@ -366,8 +365,7 @@ module _ (env : Env) where
       text_of_none (Value x) i = refl
       text_of_none (Void n) i = refl
       text_of_none (Text bytes) i = absurd (i bytes refl)
-      text_of_none (Array a) i = refl
-      text_of_none Wrong i = refl
+      text_of_none _ i = refl
 
       -- at the format, and texts behind it
       one_place : (Printed (broken at 40)) → ((v : Fault) → Printed v → HasText env xs v ⊎ (v ≡ broken at 40)) →

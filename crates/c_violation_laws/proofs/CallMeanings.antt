@@ -164,9 +164,7 @@ call_right name binding.Printf (Value v ∷ xs) y h = absurd h
 call_right name binding.Printf (Void v ∷ xs) y h = absurd h
 call_right name binding.Printf (Array v ∷ xs) y h = absurd h
 call_right name binding.Printf (Wrong ∷ xs) y h = absurd h
-call_right name (binding.Constant v) xs y h = absurd h
-call_right name (binding.Global v) xs y h = absurd h
-call_right name (binding.Local n v) xs y h = absurd h
+call_right name _ xs y h = absurd h
 
 -- ---- calls
 
@@ -192,18 +190,13 @@ printed_is name bytes gs x None w e n = absurd (n (sym e))
 printf_is : (name : List ℕ) (y : Typed) (gs : List Given) (x : Typed) → formatted name (text_of y) gs ≡ x → x ≢ Wrong →
     IsCall name binding.Printf (y ∷ types gs) x
 printf_is name (Text bytes) gs x e n = printed_is name bytes gs x (wanted bytes) refl e n
-printf_is name (Value v) gs x e n = absurd (n (sym e))
-printf_is name (Void v) gs x e n = absurd (n (sym e))
-printf_is name (Array v) gs x e n = absurd (n (sym e))
-printf_is name Wrong gs x e n = absurd (n (sym e))
+printf_is name _ gs x e n = absurd (n (sym e))
 
 pub called_is : (name : List ℕ) (b : Binding) (gs : List Given) (x : Typed) → called name (Some b) gs ≡ x → x ≢ Wrong → IsCall name b (types gs) x
 called_is name (binding.Function s) gs x e n = let r = call_is name s.result [] s.wants gs x (all_fit s.wants gs) refl e n in (all_handed gs, r.fits_all, r.is)
 called_is name binding.Printf [] x e n = absurd (n (sym e))
 called_is name binding.Printf (g ∷ gs) x e n = printf_is name g.typed gs x e n
-called_is name (binding.Constant v) gs x e n = absurd (n (sym e))
-called_is name (binding.Global v) gs x e n = absurd (n (sym e))
-called_is name (binding.Local m v) gs x e n = absurd (n (sym e))
+called_is name _ gs x e n = absurd (n (sym e))
 
 is_call : (name : List ℕ) (result : Option IntKind) (front es : List Expression) (ws : List Want) (gs : List Given) → Fit ws gs es
     → call result name front ws gs ≡ of_result result (node.Call name (front ++ es))
@@ -226,6 +219,4 @@ is_called name binding.Printf gs (Value v ∷ xs) x e h = absurd h
 is_called name binding.Printf gs (Void v ∷ xs) x e h = absurd h
 is_called name binding.Printf gs (Array v ∷ xs) x e h = absurd h
 is_called name binding.Printf gs (Wrong ∷ xs) x e h = absurd h
-is_called name (binding.Constant v) gs xs x e h = absurd h
-is_called name (binding.Global v) gs xs x e h = absurd h
-is_called name (binding.Local n v) gs xs x e h = absurd h
+is_called name _ gs xs x e h = absurd h

@@ -4,7 +4,7 @@ use Rattle.std.specs.Prelude.{filter, option_and_then}
 use Rattle.std.specs.Option.{option_or}
 use Rattle.c_lexer.specs.declared.token.Token.{Token}
 use Rattle.c_lexer.specs.declared.token.Span.{Span}
-use Rattle.c_grammar.specs.Items.{Label, Named, Case, Default, Item, Declares, States, Plain, From, Statement, Null, Evaluate, If, IfElse, While, DoWhile, For, Switch, Block, Goto, Break, Continue, Return, Unread, Body, Braces, Lone, Items, NoItem, Then, label_first}
+use Rattle.c_grammar.specs.Items.{Label, Named, Case, Default, Item, Declares, States, Plain, From, Statement, Null, Evaluate, If, IfElse, While, DoWhile, For, Switch, Block, Unread, Body, Braces, Lone, Items, NoItem, Then, label_first}
 use Rattle.c_grammar.specs.Tops.{Form, Defines, Top}
 use Rattle.c_grammar.specs.Tops as tops
 use Rattle.c_statements.specs.declared.anchors.Anchor.{Anchor}
@@ -177,11 +177,7 @@ module _ (t : ℕ) where
     statement_same first (For start e u b) = body_same (Before first) b
     statement_same first (Switch e b) = switch_same first b
     statement_same first (Block b) = body_same (Before first) b
-    statement_same first (Goto at) = refl
-    statement_same first Break = refl
-    statement_same first Continue = refl
-    statement_same first (Return e) = refl
-    statement_same first Unread = refl
+    statement_same first _ = refl
 
     body_same : (before : Anchor) (b : Body) → walked.body_place before b t ≡ or_behind (in_body b t) before
     body_same before (Braces first after xs) =

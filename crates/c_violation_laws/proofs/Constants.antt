@@ -3,7 +3,7 @@ use Rattle.std.proofs.Common.{◌≡◌, ℤ, Option, Some, None, refl, ap, ◌�
 use Rattle.c_tree.specs.declared.tree.Expression.{Expression}
 use Rattle.c_grammar.specs.Terms.{Term}
 use Rattle.c_kinds.specs.declared.typed.Typed.{Typed}
-use Rattle.c_kinds.specs.declared.typed.Typed.TheVariants.{Value, Void, Text, Array, Wrong}
+use Rattle.c_kinds.specs.declared.typed.Typed.TheVariants.{Value}
 use Rattle.c_kinds.specs.Constants.{constant_of}
 use Rattle.c_kinds.specs.Scopes.{Env}
 use Rattle.c_kinds.specs.Typing.{typed}
@@ -13,10 +13,7 @@ use Rattle.c_violation_laws.proofs.Meanings.{is_typed, typed_is, value_right}
 module _ (env : Env) (t : Term) where
   constant_by : (e : Expression) (n : ℤ) (x : Typed) → typed env t ≡ x → constant_of x ≡ Some (e, n) → IsConstantExpression env t e n
   constant_by e n (Value v) i k = (v, typed_is env t (Value v) i (value_right v), k)
-  constant_by e n (Void m) i k = cc
-  constant_by e n (Text bytes) i k = cc
-  constant_by e n (Array a) i k = cc
-  constant_by e n Wrong i k = cc
+  constant_by e n _ i k = cc
 
   pub constant_is : (e : Expression) (n : ℤ) → constant_of (typed env t) ≡ Some (e, n) → IsConstantExpression env t e n
   constant_is e n k = constant_by e n (typed env t) refl k

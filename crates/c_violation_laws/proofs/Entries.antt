@@ -10,7 +10,7 @@ use Rattle.std.proofs.lemmas.Int.{ints}
 use Rattle.c_types.specs.declared.kinds.IntKind.{IntKind}
 use Rattle.c_types.specs.Numbers.{promoted, converted}
 use Rattle.c_tree.specs.declared.tree.Expression.{Expression}
-use Rattle.c_grammar.specs.Items.{Label, Named, Case, Default, Item, Declares, States, Plain, From, Statement, Null, Evaluate, If, IfElse, While, DoWhile, For, Switch, Block, Goto, Break, Continue, Return, Unread, Body, Braces, Lone, Items, NoItem, Then}
+use Rattle.c_grammar.specs.Items.{Label, Named, Case, Default, Item, Declares, States, Plain, From, Statement, If, IfElse, While, DoWhile, For, Block, Body, Braces, Lone, Items, NoItem, Then}
 use Rattle.c_kinds.specs.declared.typed.Fault.{Fault}
 use Rattle.c_kinds.specs.Constants.{constant_of}
 use Rattle.c_kinds.specs.Scopes.{fault_if}
@@ -102,14 +102,7 @@ module _ (ctx : Context) (names : List (List ℕ)) (vs : List ℕ) (apart : Apar
         body b v q rest (stands_behind vs v q (option_marks u) (body_marks b) more
         (stands_behind vs v q (option_marks t) (option_marks u ++ body_marks b) more g)) found
     statement (Block b) w p rest s found = body b w p rest s found
-    statement Null w p rest s found = append_none found
-    statement (Evaluate t) w p rest s found = append_none found
-    statement (Switch t b) w p rest s found = append_none found
-    statement (Goto at) w p rest s found = append_none found
-    statement Break w p rest s found = append_none found
-    statement Continue w p rest s found = append_none found
-    statement (Return t) w p rest s found = append_none found
-    statement Unread w p rest s found = append_none found
+    statement _ w p rest s found = append_none found
 
     pub body : (b : Body) (w : Walk) (p : Place) (rest : List ℕ) → Stands vs w p (body_marks b) (body_variables b ++ rest) → (found : List Entry) →
         walked.body_entries ctx b w found ≡ found ++ body_entries typed f p b
@@ -138,8 +131,7 @@ itself q = by (int_cmp q q) (int_ranks q q)
 
 equal_is : (v x : ℤ) (o : Ordering) → MatchOrdering o (v <ℤ x) (v ≡ x) (x <ℤ v) → is_eq o ≡ true → v ≡ x
 equal_is v x Equal m e = m
-equal_is v x Less m e = absurd (true≢false (sym e))
-equal_is v x Greater m e = absurd (true≢false (sym e))
+equal_is v x _ m e = absurd (true≢false (sym e))
 
 is_equal : (q v : ℤ) → is_eq (int_cmp q v) ≡ true → q ≡ v
 is_equal q v e = equal_is q v (int_cmp q v) (int_ranks q v) e

@@ -34,8 +34,7 @@ module _ (env : Env) where
     form (Assign m t a) = finds_both _ _ _ _ (target t) (value a)
     form (Commas a bs) = finds_both _ _ _ _ (dropped a) (all_dropped bs)
     form (Call at xs) = finds_both _ _ _ _ (arguments xs) (call env at xs)
-    form (Texts ats) = finds_none
-    form Unknown = finds_none
+    form _ = finds_none
 
     -- an expression of which the value is used
     pub value : (t : Term) → Finds (λ vs. used env t (faults env t vs)) (λ v. ExpressionBreaks env NeedsValue t v)

@@ -118,8 +118,7 @@ from_long b bs out zs false rest e h = cc
 
 reads : (bs : List ℕ) (zs : List Want) → Reads bs zs
 reads [] zs Plain out e = let k : out ≡ zs = cc in record { wants = []; is = ends; all = sym k ∙ sym (append-nil out) }
-reads [] zs Percent out e = cc
-reads [] zs PercentLong out e = cc
+reads [] zs _ out e = cc
 reads (b ∷ bs) zs Plain out e = from_plain b bs out zs (b == 37) (reads bs zs) refl e
 reads (b ∷ bs) zs Percent out e = from_percent b bs out zs (b == 37) (is_short b) (b == 108) (reads bs zs) refl refl refl e
 reads (b ∷ bs) zs PercentLong out e = from_long b bs out zs (is_long b) (reads bs zs) refl e

@@ -140,10 +140,7 @@ value_right v e = cc
 
 value_is : (x : Typed) (v : Valued) → value_of x ≡ Some v → x ≡ Value v
 value_is (Value w) v e = let f : w ≡ v = cc in ap Value f
-value_is (Void w) v e = cc
-value_is (Text w) v e = cc
-value_is (Array w) v e = cc
-value_is Wrong v e = cc
+value_is _ v e = cc
 
 dropped_right : (x : Typed) (e : Expression) → dropped x ≡ Some e → x ≢ Wrong
 dropped_right (Value w) e f g = cc
@@ -214,9 +211,7 @@ wrong_commas env (Then b bs) = wrong_commas env bs
 comma_is : (o : Option Expression) (b : Typed) → comma o b ≢ Wrong → Needs o (λ a. Needs (dropped b) (λ e. comma o b ≡ with_left a b))
 comma_is (Some a) (Value v) r = record { it = a; it_is = refl; holds = record { it = expression v; it_is = refl; holds = refl } }
 comma_is (Some a) (Void n) r = record { it = a; it_is = refl; holds = record { it = _; it_is = refl; holds = refl } }
-comma_is (Some a) (Text n) r = absurd (r refl)
-comma_is (Some a) (Array n) r = absurd (r refl)
-comma_is (Some a) Wrong r = absurd (r refl)
+comma_is (Some a) _ r = absurd (r refl)
 comma_is None b r = absurd (r refl)
 
 -- ---- commas
@@ -319,18 +314,7 @@ mutual
   is_form_target env (Variable at) y h = is_number env at y h
   is_form_target env (Cell at i) y h = ap (λ x. cell_target (variable_of (env.word at) (meaning env at)) (value_of x))
       (is_typed env i (Value h.0) h.1) ∙ is_cell env at h.0 y h.2
-  is_form_target env (Constant at) y h = absurd h
-  is_form_target env (Prefix m a) y h = absurd h
-  is_form_target env (Suffix m a) y h = absurd h
-  is_form_target env (CastTo words a) y h = absurd h
-  is_form_target env (CastVoid a) y h = absurd h
-  is_form_target env (Binary m a b) y h = absurd h
-  is_form_target env (Choice a b c) y h = absurd h
-  is_form_target env (Assign m t a) y h = absurd h
-  is_form_target env (Commas a bs) y h = absurd h
-  is_form_target env (Call at xs) y h = absurd h
-  is_form_target env (Texts ats) y h = absurd h
-  is_form_target env Unknown y h = absurd h
+  is_form_target env _ y h = absurd h
 
   are_given : (env : Env) (ts : Terms) (ys : List Typed) → AreMeant env ts ys → types (given env ts) ≡ ys
   are_given env NoTerm ys h = sym h
@@ -431,18 +415,7 @@ mutual
   form_target_is env (Cell at i) y e =
       let c = cell_is env at (value_of (typed env i)) y (variable_of (env.word at) (meaning env at)) refl e in
       (c.index, typed_is env i (Value c.index) (value_is (typed env i) c.index c.index_is) (value_right c.index), c.cell)
-  form_target_is env (Constant at) y e = cc
-  form_target_is env (Prefix m a) y e = cc
-  form_target_is env (Suffix m a) y e = cc
-  form_target_is env (CastTo words a) y e = cc
-  form_target_is env (CastVoid a) y e = cc
-  form_target_is env (Binary m a b) y e = cc
-  form_target_is env (Choice a b c) y e = cc
-  form_target_is env (Assign m t a) y e = cc
-  form_target_is env (Commas a bs) y e = cc
-  form_target_is env (Call at xs) y e = cc
-  form_target_is env (Texts ats) y e = cc
-  form_target_is env Unknown y e = cc
+  form_target_is env _ y e = cc
 
   given_are : (env : Env) (ts : Terms) → AllRight (types (given env ts)) → AreMeant env ts (types (given env ts))
   given_are env NoTerm r = refl
@@ -477,9 +450,7 @@ wrong_call name binding.Printf (Value v ∷ xs) h = absurd h
 wrong_call name binding.Printf (Void v ∷ xs) h = absurd h
 wrong_call name binding.Printf (Array v ∷ xs) h = absurd h
 wrong_call name binding.Printf (Wrong ∷ xs) h = absurd h
-wrong_call name (binding.Constant v) xs h = absurd h
-wrong_call name (binding.Global v) xs h = absurd h
-wrong_call name (binding.Local n v) xs h = absurd h
+wrong_call name _ xs h = absurd h
 
 left_right : (e f : Expression) (z : Typed) → dropped z ≡ Some f → with_left e z ≢ Wrong
 left_right e f (Value v) d w = cc

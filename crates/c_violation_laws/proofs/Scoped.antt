@@ -94,9 +94,7 @@ module _ (file : File) where
   form_fixed front (Enum es) later lo hi r f =
       let behind = constants_behind file.word front first_before es in
       constants_are file.word ((front ++ (behind ++ later)) ∷ []) es ∙ constants_fixed file.word front first_before es later lo hi r f
-  form_fixed front (Globals static d) later lo hi r f = refl
-  form_fixed front (Defines g) later lo hi r f = refl
-  form_fixed front Unread later lo hi r f = refl
+  form_fixed front _ later lo hi r f = refl
 
   tops_fixed : (front : List Identifier) (xs : List Top) (lo hi : ℕ) → Rising lo (each_marks top_marks xs) hi →
       file_identifiers typed file ((front ++ tops_behind front xs) ∷ []) xs ≡ tops_behind front xs

@@ -1,7 +1,7 @@
 -- The slots of a walk are those that are declared in front of its place.
 use Rattle.std.proofs.Common.{◌≡◌, ℕ, List, [], ◌∷◌, ◌++◌, map, ap, sym, ◌∙◌, append_assoc, append-nil}
 use Rattle.c_tree.specs.declared.tree.Slot.{Slot}
-use Rattle.c_grammar.specs.Items.{Declarator, Start, NoStart, StartValue, StartNames, Item, Declares, States, Plain, From, Statement, Null, Evaluate, If, IfElse, While, DoWhile, For, Switch, Block, Goto, Break, Continue, Return, Unread, Body, Braces, Lone, Items, NoItem, Then}
+use Rattle.c_grammar.specs.Items.{Declarator, Start, NoStart, StartValue, StartNames, Item, Declares, States, Plain, From, Statement, If, IfElse, While, DoWhile, For, Switch, Block, Body, Braces, Lone, Items, NoItem, Then}
 use Rattle.c_grammar.specs.Tops.{Parameter}
 use Rattle.c_statements.specs.declared.extents.Kinded.{Kinded}
 use Rattle.c_statements.specs.Context.{Context, Walk, env_in, enter}
@@ -87,13 +87,7 @@ module _ (c : Context) (labels : List (List ℕ)) (vs : List ℕ) (apart : Apart
         (start_slots start (enter w) q more k) (body_slots b v q rest inner)
     statement_slots (Switch t b) w p rest h = body_slots b w p rest (stands_behind vs w p (term_marks t) (body_marks b) (body_variables b ++ rest) h)
     statement_slots (Block b) w p rest h = body_slots b w p rest h
-    statement_slots Null w p rest h = sym (append-nil w.slots)
-    statement_slots (Evaluate t) w p rest h = sym (append-nil w.slots)
-    statement_slots (Goto t) w p rest h = sym (append-nil w.slots)
-    statement_slots Break w p rest h = sym (append-nil w.slots)
-    statement_slots Continue w p rest h = sym (append-nil w.slots)
-    statement_slots (Return t) w p rest h = sym (append-nil w.slots)
-    statement_slots Unread w p rest h = sym (append-nil w.slots)
+    statement_slots _ w p rest h = sym (append-nil w.slots)
 
     body_slots : (b : Body) (w : Walk) (p : Place) (rest : List ℕ) → Stands vs w p (body_marks b) (body_variables b ++ rest) →
         (behind_body c b w).slots ≡ w.slots ++ slots_of_body typed f b p

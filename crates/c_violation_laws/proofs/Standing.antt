@@ -1,6 +1,6 @@
 -- A walk stands at a place: the names are the same there, and it has as many slots as variables are declared before.
 use Rattle.std.proofs.Common.{◌≡◌, ◌≤◌, ℕ, ◌+◌, List, [], ◌∷◌, ◌++◌, map, length, length-append, Option, Some, None, refl, ap, sym, subst, ◌∙◌, arith, add-zero, add_assoc, append_assoc, append-nil}
-use Rattle.c_grammar.specs.Items.{Declarator, Label, Named, Case, Default, Start, NoStart, StartValue, StartNames, Item, Declares, States, Plain, From, Statement, Null, Evaluate, If, IfElse, While, DoWhile, For, Switch, Block, Goto, Break, Continue, Return, Unread, Body, Braces, Lone, Items, NoItem, Then}
+use Rattle.c_grammar.specs.Items.{Declarator, Label, Named, Case, Default, Start, NoStart, StartValue, StartNames, Item, Declares, States, Plain, From, Statement, If, IfElse, While, DoWhile, For, Switch, Block, Body, Braces, Lone, Items, NoItem, Then}
 use Rattle.c_grammar.specs.Terms.{Term, first_of}
 use Rattle.c_kinds.specs.declared.binding.Binding.TheVariants.{Local}
 use Rattle.c_statements.specs.declared.extents.Kinded.{Kinded}
@@ -351,13 +351,7 @@ module _ (ctx : Context) where
         in_turn (length w.slots) (length v.slots) (start_variables start) (body_variables b) (start_count start (enter w)) (body_count b v)
     statement_count (Switch t b) w = body_count b w
     statement_count (Block b) w = body_count b w
-    statement_count Null w = sym (add-zero (length w.slots))
-    statement_count (Evaluate t) w = sym (add-zero (length w.slots))
-    statement_count (Goto t) w = sym (add-zero (length w.slots))
-    statement_count Break w = sym (add-zero (length w.slots))
-    statement_count Continue w = sym (add-zero (length w.slots))
-    statement_count (Return t) w = sym (add-zero (length w.slots))
-    statement_count Unread w = sym (add-zero (length w.slots))
+    statement_count _ w = sym (add-zero (length w.slots))
 
     body_count : (b : Body) (w : Walk) → length (behind_body ctx b w).slots ≡ length w.slots + length (body_variables b)
     body_count (Braces first after xs) w = list_count xs (enter w)
@@ -382,13 +376,7 @@ statement_scopes ctx (DoWhile b t) w = body_scopes ctx b w
 statement_scopes ctx (For start t u b) w = refl
 statement_scopes ctx (Switch t b) w = body_scopes ctx b w
 statement_scopes ctx (Block b) w = body_scopes ctx b w
-statement_scopes ctx Null w = refl
-statement_scopes ctx (Evaluate t) w = refl
-statement_scopes ctx (Goto t) w = refl
-statement_scopes ctx Break w = refl
-statement_scopes ctx Continue w = refl
-statement_scopes ctx (Return t) w = refl
-statement_scopes ctx Unread w = refl
+statement_scopes ctx _ w = refl
 
 plain_scopes : (ctx : Context) (s : Plain) (w : Walk) → (behind_plain ctx s w).scopes ≡ w.scopes
 plain_scopes ctx (From first after s) w = statement_scopes ctx s w

@@ -104,8 +104,7 @@ module _ (env : Env) (at : ℕ) where
   a_number (Constant n) vs = refl
   a_number (Global shape) vs = turned shape.array (fault at 22 vs) (fault_if shape.constant at 26 vs)
   a_number (Local slot shape) vs = turned shape.array (fault at 22 vs) (fault_if shape.constant at 26 vs)
-  a_number (Function s) vs = refl
-  a_number Printf vs = refl
+  a_number _ vs = refl
 
   -- of a name that has no declaration, all rules but that are kept
   module _ (i : Term) where

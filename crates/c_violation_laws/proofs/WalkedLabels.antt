@@ -1,6 +1,6 @@
 -- The labels that a walk puts in front of others are those of the statement.
 use Rattle.std.proofs.Common.{◌≡◌, ℕ, List, [], ◌∷◌, ◌++◌, refl, ap, sym, ◌∙◌, append_assoc, append-nil}
-use Rattle.c_grammar.specs.Items.{Label, Named, Case, Default, Item, Declares, States, Plain, From, Statement, Null, Evaluate, If, IfElse, While, DoWhile, For, Switch, Block, Goto, Break, Continue, Return, Unread, Body, Braces, Lone, Items, NoItem, Then}
+use Rattle.c_grammar.specs.Items.{Label, Named, Case, Default, Item, Declares, States, Plain, From, Statement, If, IfElse, While, DoWhile, For, Switch, Block, Body, Braces, Lone, Items, NoItem, Then}
 use Rattle.c_statements.specs.Labels.{named_in}
 use Rattle.c_statements.specs.Labels as walked
 use Rattle.c_reading_defs.specs.Labels.{labels_among, item_labels, plain_labels, statement_labels, body_labels, list_labels}
@@ -29,13 +29,7 @@ mutual
   in_statement (For start t u b) rest = in_body b rest
   in_statement (Switch t b) rest = in_body b rest
   in_statement (Block b) rest = in_body b rest
-  in_statement Null rest = refl
-  in_statement (Evaluate t) rest = refl
-  in_statement (Goto t) rest = refl
-  in_statement Break rest = refl
-  in_statement Continue rest = refl
-  in_statement (Return t) rest = refl
-  in_statement Unread rest = refl
+  in_statement _ rest = refl
 
   in_body : (b : Body) (rest : List ℕ) → walked.body_labels b rest ≡ body_labels b ++ rest
   in_body (Braces first after xs) rest = in_list xs rest

@@ -8,14 +8,14 @@ use Rattle.c_tree.specs.Trees.{Tree, Forest, Nil, Then, Sections, NoSection, Sec
 use Rattle.c_tree.specs.Exits.{breaks, continues}
 use Rattle.jump_meaning.specs.Values.{Value, Integer, integer}
 use Rattle.jump_meaning.specs.Code.{FunctionTree, Code}
-use Rattle.jump_meaning.specs.World.{World, Outcome, Gives, Traps, Exits, push, world_at_start}
+use Rattle.jump_meaning.specs.World.{World, Outcome, Gives, push, world_at_start}
 use Rattle.jump_meaning.specs.Operations.{holds}
 use Rattle.jump_meaning.specs.Known.{call_without_body}
 use Rattle.jump_meaning.specs.Calls.{returned, fallen, leave_call, leave_entry}
 use Rattle.jump_meaning.specs.Effects.{Op, Drops, Effect, Does, Fails, Stops, Invokes, Leaves, effect, top}
 use Rattle.jump_meaning.specs.Tasks.{Loop, WhileLoop, DoLoop, ForLoop, Task, Runs, Works, Asks, Branches, Turns, Loops, Heads, Arms, AsksSelector, Enters, EndsSection, Out, items, works, end_of, tail_tasks, turn, cut, cut_to}
 use Rattle.jump_meaning.specs.Search.{Goal, ToLabel, ToCase, ToDefault, is_goal, is_section_goal, enters_switches, or_else, seek, seek_in, seek_sections, first_of_three, find}
-use Rattle.jump_meaning.specs.Step.{Guards, no_guards, Frame, Waits, State, At, HasEnded, HasTrapped, View, Finishes, Goes, Guarding, Yields, Takes, Arming, Acts, dropped, view, is_dropped, settle, leave, begin_call, invoke, perform, move, step}
+use Rattle.jump_meaning.specs.Step.{Guards, no_guards, Frame, Waits, State, At, View, Finishes, Goes, Guarding, Yields, Takes, Arming, Acts, dropped, view, is_dropped, settle, leave, begin_call, invoke, perform, move, step}
 use Rattle.jump_meaning.specs.Runs.{start}
 use Rattle.jump_meaning.proofs.Growth.{either}
 use Rattle.core_laws.specs.Ways.{Peeled, Ask, Known, peel, after_do}
@@ -139,8 +139,7 @@ module _ (Here : List ℕ → Tree → List Task → Type 0) where
 
   abbrev pub AllState : State → Type 0
   AllState (At f g k v cs w) = AllTasks f k × AllFrames cs
-  AllState (HasEnded n es) = Unit {0}
-  AllState (HasTrapped t es) = Unit {0}
+  AllState _ = Unit {0}
 
   all_items : (f : List ℕ) (a : Forest) (k : List Task) → AllIn f a k → Behind f k → Behind f (items a k)
   all_items f Nil k h q = q
@@ -302,8 +301,7 @@ module _ (Here : List ℕ → Tree → List Task → Type 0) where
     all_settle : (o : Outcome) (f : List ℕ) (g : Guards) (k : List Task) (v : List Value) (cs : List Frame) → AllTasks f k → AllFrames cs →
         AllState (settle o f g k v cs)
     all_settle (Gives x w) f g k v cs h q = (h, q)
-    all_settle (Traps t w) f g k v cs h q = tt
-    all_settle (Exits n w) f g k v cs h q = tt
+    all_settle _ f g k v cs h q = tt
 
     all_leave : (h : FunctionTree) (x : Value) (cs : List Frame) (w : World) → AllFrames cs → AllState (leave h x cs w)
     all_leave h x [] w q = all_settle (leave_entry h x w) [] no_guards [] [] [] tt tt
@@ -337,8 +335,7 @@ module _ (Here : List ℕ → Tree → List Task → Type 0) where
 
     pub all_next : (c : State) → AllState c → AllState (step p c)
     all_next (At f g k v cs w) h = all_move (view (body_in p f) g k) f g v cs w (all_view f g k h.0) h.1
-    all_next (HasEnded n es) h = tt
-    all_next (HasTrapped t es) h = tt
+    all_next _ h = tt
 
     pub all_start : (m : List ℕ) (arguments : List ℤ) (input : List ℕ) (answers : List ℤ) → AllState (start p m arguments input answers)
     all_start m arguments input answers =
@@ -356,12 +353,7 @@ module _ (Here : List ℕ → Tree → List Task → Type 0) where
   drop_seen f (Turns (DoLoop a t) ∷ k) h = undropped_turn (peel no_guards t) (breaks a + continues a) (core a (after_do a t (task_way k))) (task_core k)
   drop_seen f (Turns (ForLoop t u a) ∷ k) h = refl
   drop_seen f (Loops x ∷ k) h = undropped (Loops x ∷ k) h.1.0
-  drop_seen f (Heads t u a ∷ k) h = refl
-  drop_seen f (Arms l ∷ k) h = refl
-  drop_seen f (AsksSelector s ∷ k) h = refl
-  drop_seen f (Enters kind c ∷ k) h = refl
-  drop_seen f (EndsSection ∷ k) h = refl
-  drop_seen f (Out ∷ k) h = refl
+  drop_seen f _ h = refl
 
   pub sees_drop : (cs : List Frame) → AllFrames cs → SeesDrop cs
   sees_drop [] h = tt

@@ -1,7 +1,7 @@
 -- Where the way of a guard lands, the run lands.
 use Rattle.std.proofs.Common.{Option, Some, None, ℕ, ℤ, Bool, true, false, cond, List, [], ◌∷◌, eqb, ◌≡◌, ◌≢◌, refl, sym, ◌∙◌, subst, eqb-true, eq-eqb, true≢false}
 use Rattle.c_tree.specs.Operators.{truth}
-use Rattle.c_tree.specs.TestTrees.{TestTree, Source, On, Off, AndOff, OrOn, SelectorTree, Selects, Pick}
+use Rattle.c_tree.specs.TestTrees.{TestTree, Source, SelectorTree, Selects, Pick}
 use Rattle.c_tree.specs.Trees.{Tree, Forest, Nil, Then, Sections, NoSection, Section, If, While, Do, Switch, Leap, Land}
 use Rattle.jump_meaning.specs.Values.{Value, Integer}
 use Rattle.jump_meaning.specs.Code.{Code}
@@ -37,10 +37,7 @@ module _ (p : Code) (Inv : State → Type 0) (law : Lawful p Inv) (l : ℕ) (f :
   back : (g : Guards) (u : List Value) → Agree g (only l) → (t : TestTree) (k : List Task) (v : List Value) → IsMadeTest t →
       Kept u (step p (At f g (Asks t ∷ k) v cs w)) → Kept u (At f g (Asks t ∷ k) v cs w)
   back g u a (Source e) k v n r i = absurd n
-  back g u a (On m) k v n r i = onward _ _ _ a tt (r (law.next _ i))
-  back g u a (Off m) k v n r i = onward _ _ _ a tt (r (law.next _ i))
-  back g u a (AndOff m t) k v n r i = onward _ _ _ a tt (r (law.next _ i))
-  back g u a (OrOn m t) k v n r i = onward _ _ _ a tt (r (law.next _ i))
+  back g u a _ k v n r i = onward _ _ _ a tt (r (law.next _ i))
 
   decided : (g : Guards) (u : List Value) (a : Agree g (only l)) (t : TestTree) (k : List Task) (v : List Value) (b : Bool) →
       peel (only l) t ≡ Known b → Kept u (At f g k (Integer (truth b) ∷ v) cs w) → Kept u (At f g (Asks t ∷ k) v cs w)

@@ -14,7 +14,7 @@ use Rattle.jump_meaning.specs.Tasks.{Loop, WhileLoop, DoLoop, ForLoop, Task, Run
 use Rattle.jump_meaning.specs.Search.{Goal, ToLabel, ToCase, ToDefault, is_goal, is_section_goal, enters_switches, or_else, seek, seek_in, seek_sections, first_of_three, find, entry}
 use Rattle.jump_meaning.specs.Step.{no_guards}
 use Rattle.jump_meaning.proofs.TaskFacts.{items_join, cut_items, cut_to_items}
-use Rattle.core_laws.specs.Ways.{Peeled, Ask, Known, peel, Way, Lands, Past, Lost, lost, before, after_do, after_section}
+use Rattle.core_laws.specs.Ways.{Peeled, Ask, Known, peel, Way, Lands, lost, before, after_do, after_section}
 use Rattle.core_laws.specs.Core.{constant, source_of, jump_if, core_if, core_do, core, core_of, core_sections, body_core, core_function}
 use Rattle.core_laws.proofs.TaskWays.{task_way, follow_items, follow_section}
 use Rattle.core_laws.proofs.TaskCores.{core_do_loop, core_do_turn, task_core, core_items, core_end, core_section, core_tail}
@@ -203,8 +203,7 @@ seek_do l (Known false) (suc n) a k = seek_kept_do l a (constant false) k
 
 no_jump : (l : Goal) (m : ℕ) (y : Way) (k : List Task) → seek l (one (jump_if y m)) k ≡ None
 no_jump l m Lands k = or_none (seek_of l (Goto m) k) ∙ seek_of_inner l (Goto m) k (no_goal (Goto m) (λ n. refl) (λ kind n. refl) refl l)
-no_jump l m Past k = or_none (seek_of l (Arm m None) k) ∙ seek_of_inner l (Arm m None) k (no_goal (Arm m None) (λ n. refl) (λ kind n. refl) refl l)
-no_jump l m Lost k = or_none (seek_of l (Arm m None) k) ∙ seek_of_inner l (Arm m None) k (no_goal (Arm m None) (λ n. refl) (λ kind n. refl) refl l)
+no_jump l m _ k = or_none (seek_of l (Arm m None) k) ∙ seek_of_inner l (Arm m None) k (no_goal (Arm m None) (λ n. refl) (λ kind n. refl) refl l)
 
 no_arm : (l : Goal) (m : ℕ) (e : Option ExpressionTree) (k : List Task) → None ≡ through (seek_of l (Arm m e) k)
 no_arm l m e k = ap through (sym (seek_of_inner l (Arm m e) k (no_goal (Arm m e) (λ n. refl) (λ kind n. refl) refl l)))

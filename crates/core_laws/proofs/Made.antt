@@ -1,6 +1,6 @@
 -- Well made bodies, and bodies without guards, owe nothing.
 use Rattle.std.proofs.Common.{Option, Some, None, ℕ, ◌≤◌, Bool, true, false, cond, List, [], ◌∷◌, ◌≡◌, refl, ap, ◌∙◌, arith, inl, inr, true≢false}
-use Rattle.c_tree.specs.Trees.{Tree, Forest, Nil, Then, Sections, NoSection, Section, Evaluate, Return, If, While, Do, For, Switch, Block, Local, Break, Continue, Goto, Mark, Arm, Leap, Land, Arrival, Note}
+use Rattle.c_tree.specs.Trees.{Tree, Forest, Nil, Then, Sections, NoSection, Section, If, While, Do, For, Switch, Block, Mark, Arm, Leap, Land, Arrival}
 use Rattle.c_tree.specs.Everywhere.{total, total_of, total_in, Everywhere, EverywhereOf, EverywhereIn}
 use Rattle.c_tree.specs.Labels.{land_of, lands, GuardLabels}
 use Rattle.c_tree.specs.WellMade.{IsConverted, IsPlainFor, IsWellMade}
@@ -50,18 +50,7 @@ module _ (goal : Goal) (e : enters_switches goal ≡ false) where
     itself (For first t u a) h = h.0
     itself (Switch s c) h = h.0
     itself (Block a) h = h.0
-    itself (Evaluate x) h = h
-    itself (Return x) h = h
-    itself (Local x es) h = h
-    itself Break h = h
-    itself Continue h = h
-    itself (Goto m) h = h
-    itself (Mark m) h = h
-    itself (Arm m x) h = h
-    itself (Leap m) h = h
-    itself (Land m) h = h
-    itself (Arrival x) h = h
-    itself (Note bs) h = h
+    itself _ h = h
 
     no_case_in : (x : Tree) → EverywhereOf IsConverted x → (k : List Task) → seek_in goal x k ≡ None
     no_case_in (If t a b) h k = both_none (seek goal a k) (seek goal b k) (no_case a h.1 k) (no_case b h.2 k)
@@ -117,18 +106,7 @@ module _ (f g : Tree → ℕ) where
     total_same_of (For first t u a) h = let z = h.0 in let p = total_same first h.1 in let q = total_same a h.2 in omega (arith, z, p, q)
     total_same_of (Switch s c) h = let z = h.0 in let p = total_same_in c h.1 in omega (arith, z, p)
     total_same_of (Block a) h = let z = h.0 in let p = total_same a h.1 in omega (arith, z, p)
-    total_same_of (Evaluate x) h = h
-    total_same_of (Return x) h = h
-    total_same_of (Local x es) h = h
-    total_same_of Break h = h
-    total_same_of Continue h = h
-    total_same_of (Goto m) h = h
-    total_same_of (Mark m) h = h
-    total_same_of (Arm m x) h = h
-    total_same_of (Leap m) h = h
-    total_same_of (Land m) h = h
-    total_same_of (Arrival x) h = h
-    total_same_of (Note bs) h = h
+    total_same_of _ h = h
 
     total_same_in : (c : Sections) → EverywhereIn (λ x. f x ≡ g x) c → total_in f c ≡ total_in g c
     total_same_in NoSection h = refl

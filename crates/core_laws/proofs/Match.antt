@@ -5,7 +5,7 @@ use Rattle.c_types.specs.declared.trap.Trap.{Trap}
 use Rattle.c_tree.specs.Operators.{truth}
 use Rattle.c_tree.specs.ExpressionTrees.{ExpressionTree}
 use Rattle.c_tree.specs.TestTrees.{TestTree, Source, On, Off, AndOff, OrOn, SelectorTree, Selects, Pick}
-use Rattle.c_tree.specs.Trees.{Tree, Forest, Nil, Then, Evaluate, Return, If, While, Do, For, Switch, Block, Local, Break, Continue, Goto, Mark, Arm, Leap, Land, Arrival, Note}
+use Rattle.c_tree.specs.Trees.{Tree, Forest, Nil, Then, Evaluate, Return, If, While, Do, For, Switch, Block, Local, Break, Continue, Goto, Mark, Arm, Leap, Land}
 use Rattle.c_tree.specs.Cases.{selector_source}
 use Rattle.c_tree.specs.Exits.{breaks, continues}
 use Rattle.jump_meaning.specs.Values.{Value, Integer, integer}
@@ -102,8 +102,7 @@ perform_core p (Leaves None w) f g k cs s = leave_core (p.functions f) (fallen f
 settle_calm : (o : Outcome) (f : List ℕ) (g : Guards) (k : List Task) (v : List Value) (cs : List Frame) → Agree g no_guards → CalmFrames cs →
     Calm (settle o f g k v cs)
 settle_calm (Gives x w) f g k v cs a h = (a, h)
-settle_calm (Traps t w) f g k v cs a h = tt
-settle_calm (Exits n w) f g k v cs a h = tt
+settle_calm _ f g k v cs a h = tt
 
 leave_calm : (h : FunctionTree) (x : Value) (cs : List Frame) (w : World) → CalmFrames cs → Calm (leave h x cs w)
 leave_calm h x [] w c = settle_calm (leave_entry h x w) [] no_guards [] [] [] (λ l. refl) tt
@@ -423,8 +422,7 @@ module _ (p : Code) (Inv : State → Type 0) (law : Lawful p Inv) (H : State →
     match_item (Arm l (Some e)) k m = λ g v a i h. ahead_core p _ _ tt (last p _ _ (calmly (a, cf)) tt refl (a, cf))
     match_item (Leap l) k m = match_leap l k m
     match_item (Land l) k m = λ g v a i h. last p _ _ (calmly (a, cf)) tt refl (cleared l g a, cf)
-    match_item (Arrival e) k m = λ g v a i h. last p _ _ (calmly (a, cf)) tt refl (a, cf)
-    match_item (Note bs) k m = λ g v a i h. last p _ _ (calmly (a, cf)) tt refl (a, cf)
+    match_item _ k m = λ g v a i h. last p _ _ (calmly (a, cf)) tt refl (a, cf)
 
   dropped_core : (u : Option ExpressionTree) (k : List Task) → dropped u (task_core k) ≡ task_core (dropped u k)
   dropped_core None k = refl

@@ -4,7 +4,7 @@ use Rattle.c_types.specs.declared.kinds.IntKind.{IntKind}
 use Rattle.c_types.specs.declared.trap.Trap.{Trap}
 use Rattle.c_tree.specs.ExpressionTrees.{ExpressionTree}
 use Rattle.c_tree.specs.TestTrees.{TestTree, Source, On, Off, AndOff, OrOn, SelectorTree, Selects, Pick}
-use Rattle.c_tree.specs.Trees.{Tree, Forest, Sections, Evaluate, Return, If, While, Do, For, Switch, Block, Local, Break, Continue, Goto, Mark, Arm, Leap, Land, Arrival, Note}
+use Rattle.c_tree.specs.Trees.{Tree, Forest, Sections, Evaluate, Return, If, While, Do, For, Switch, Block, Local, Break, Continue, Goto, Mark, Arm, Leap, Land}
 use Rattle.jump_meaning.specs.Values.{Value, Event, integer}
 use Rattle.jump_meaning.specs.World.{World, Outcome, Gives, Traps, Exits}
 use Rattle.jump_meaning.specs.Operations.{holds}
@@ -146,16 +146,7 @@ leaf_in l (Do a t) h k k' = absurd h
 leaf_in l (For first t u a) h k k' = absurd h
 leaf_in l (Switch s c) h k k' = absurd h
 leaf_in l (Block a) h k k' = absurd h
-leaf_in l (Local x es) h k k' = le_none
-leaf_in l Break h k k' = le_none
-leaf_in l Continue h k k' = le_none
-leaf_in l (Goto m) h k k' = le_none
-leaf_in l (Mark m) h k k' = le_none
-leaf_in l (Arm m e) h k k' = le_none
-leaf_in l (Leap m) h k k' = le_none
-leaf_in l (Land m) h k k' = le_none
-leaf_in l (Arrival e) h k k' = le_none
-leaf_in l (Note bs) h k k' = le_none
+leaf_in l _ h k k' = le_none
 
 mutual
   seek_le : (l : Goal) {a a' : Forest} → LeAll a a' → {k k' : List Task} → LeTasks k k' → LeFound (seek l a k) (seek l a' k')
@@ -233,8 +224,7 @@ module _ {b b' : Forest} (le : LeAll b b') (g : Guards) where
   leaf_view (Arm l (Some e)) h q = le_goes (le_task (le_works _) (le_task (le_arms l) q))
   leaf_view (Leap l) h q = cond_view (g l) (le_goes (find_le l le)) (le_goes q)
   leaf_view (Land l) h q = le_guarding l false q
-  leaf_view (Arrival e) h q = le_goes q
-  leaf_view (Note bs) h q = le_goes q
+  leaf_view _ h q = le_goes q
 
   asks_view : (t : TestTree) {k k' : List Task} → LeTasks k k' → LeView (view b g (Asks t ∷ k)) (view b' g (Asks t ∷ k'))
   asks_view (Source e) q = le_goes (le_task (le_works _) q)

@@ -180,17 +180,7 @@ module _ (b : Forest) (l : ℕ) (d : lands l b ≡ 1) where
     seek_land_of (Switch s c) k o n e = seek_land_in c k o.1 (omega (arith, n)) (omega (arith, e))
     seek_land_of (Block a) k o n e = seek_land a k o.1 (omega (arith, n)) (omega (arith, e))
     seek_land_of (Land m) k o n e = here_land l m (m == l) (eqb l m) k (same_label m l) refl e
-    seek_land_of (Evaluate x) k o n e = absurd (omega (arith, e))
-    seek_land_of (Return x) k o n e = absurd (omega (arith, e))
-    seek_land_of (Local x es) k o n e = absurd (omega (arith, e))
-    seek_land_of Break k o n e = absurd (omega (arith, e))
-    seek_land_of Continue k o n e = absurd (omega (arith, e))
-    seek_land_of (Goto m) k o n e = absurd (omega (arith, e))
-    seek_land_of (Mark m) k o n e = absurd (omega (arith, e))
-    seek_land_of (Arm m x) k o n e = absurd (omega (arith, e))
-    seek_land_of (Leap m) k o n e = absurd (omega (arith, e))
-    seek_land_of (Arrival x) k o n e = absurd (omega (arith, e))
-    seek_land_of (Note bs) k o n e = absurd (omega (arith, e))
+    seek_land_of _ k o n e = absurd (omega (arith, e))
 
     seek_land_in : (c : Sections) (k : List Task) → EverywhereIn (Owes b) c → total_in (spot_of l) c ≤ 1 → total_in (land_of l) c ≡ 1 →
         SomeLand l (seek_sections (ToLabel l) c k)
@@ -305,13 +295,7 @@ module _ (p : Code) (f : List ℕ) (all : Everywhere (Owes (body_in p f)) (body_
     place_of (Arm m e) k o x c n h = o
     place_of (Leap m) k o x c n h = let s = seek_land body m o body [] all (once m o) o in (s.0, ap (λ r. first_of_three r None []) s.1)
     place_of (Land m) k o x c n h = λ d. land_home m (eqb m m) k refl (h m d (one_here m (m == m) refl))
-    place_of (Evaluate e) k o x c n h = tt
-    place_of (Return e) k o x c n h = tt
-    place_of (Local y es) k o x c n h = tt
-    place_of (Goto m) k o x c n h = tt
-    place_of (Mark m) k o x c n h = tt
-    place_of (Arrival e) k o x c n h = tt
-    place_of (Note bs) k o x c n h = tt
+    place_of _ k o x c n h = tt
 
     place_in : (y : Sections) (k : List Task) → EverywhereIn (Owes body) y → (0 < continues_in y → HasKeptLoop k) →
         Once (λ l. total_in (spot_of l) y) → Home (λ l. total_in (spot_of l) y) (λ l. seek_sections (ToLabel l) y k) → AllSections (Here p) f y k

@@ -8,7 +8,7 @@ use Rattle.jump_meaning.specs.Code.{Code, items_of}
 use Rattle.jump_meaning.specs.World.{World}
 use Rattle.jump_meaning.specs.Tasks.{Task, Runs, Asks, AsksSelector}
 use Rattle.jump_meaning.specs.Search.{find}
-use Rattle.jump_meaning.specs.Step.{Guards, no_guards, with_guard, Frame, Waits, State, At, HasEnded, HasTrapped, Goes, Yields, move, step}
+use Rattle.jump_meaning.specs.Step.{Guards, no_guards, with_guard, Frame, Waits, State, At, Goes, Yields, move, step}
 use Rattle.jump_meaning.specs.Steady.{IsSilentTask}
 use Rattle.core_laws.specs.Ways.{only, Known, peel, KnownSelector, peel_selector}
 
@@ -31,8 +31,7 @@ CalmFrames (Waits f g k v ∷ cs) = Agree g no_guards × CalmFrames cs
 -- no call has
 abbrev pub Calm : State → Type 0
 Calm (At f g k v cs w) = Agree g no_guards × CalmFrames cs
-Calm (HasEnded n es) = Unit {0}
-Calm (HasTrapped t es) = Unit {0}
+Calm _ = Unit {0}
 
 -- the items of a function of a program
 abbrev pub body_in : Code → List ℕ → Forest

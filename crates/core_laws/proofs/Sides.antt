@@ -7,7 +7,7 @@ use Rattle.jump_meaning.specs.Effects.{top}
 use Rattle.jump_meaning.specs.Tasks.{Task, Runs, Arms}
 use Rattle.jump_meaning.specs.Step.{State, At}
 use Rattle.jump_meaning.specs.Runs.{run}
-use Rattle.core_laws.specs.Ways.{Way, Lands, Past, Lost}
+use Rattle.core_laws.specs.Ways.{Way, Lands}
 use Rattle.core_laws.specs.Core.{jump_if, core_code}
 use Rattle.core_laws.proofs.TaskWays.{task_way}
 use Rattle.core_laws.proofs.TaskCores.{task_core}
@@ -28,8 +28,7 @@ CoreSafe p c = (i : ℕ) → SafeAt (run (core_code p) i (core_state c))
 
 jump_safe : (y : Way) (l : ℕ) (k : List Task) → IsNoArm (Runs (jump_if y l) ∷ k) → y ≡ Lands
 jump_safe Lands l k h = refl
-jump_safe Past l k h = absurd h
-jump_safe Lost l k h = absurd h
+jump_safe _ l k h = absurd h
 
 module _ (p : Code) where
   pub real_sure : Sure p (RealSure p)

@@ -8,7 +8,7 @@ use Rattle.jump_meaning.specs.Behaviour.{events_of}
 use Rattle.jump_meaning.specs.Effects.{rest}
 use Rattle.jump_meaning.specs.Tasks.{Task, Runs, Works, Arms}
 use Rattle.jump_meaning.specs.Search.{find}
-use Rattle.jump_meaning.specs.Step.{Guards, no_guards, with_guard, Frame, Waits, State, At, HasEnded, HasTrapped, step}
+use Rattle.jump_meaning.specs.Step.{Guards, no_guards, with_guard, Frame, Waits, State, At, step}
 use Rattle.jump_meaning.specs.Runs.{run, shows, IsEntry, start, SameBehaviour}
 use Rattle.jump_meaning.specs.Steady.{AtMostOneSet, IsSourceTask, IsSilentTask, IsSilent, HasLanded, LeadsTo, IsSteadyCall, AreSteadyFrames, IsSteadyState, IsSteadyCode}
 use Rattle.jump_meaning.proofs.RunFacts.{run_add, same_sym, same_trans}
@@ -130,8 +130,7 @@ calm_frames p c (Waits f g k v ∷ cs) h = (calm_call p c f g k cs h.0, calm_fra
 
 calm_state : (p : Code) (c : State) → Calm c → IsSteadyState p c
 calm_state p (At f g k v cs w) h = (calm_call p (At f g k v cs w) f g k cs h.0, calm_frames p (At f g k v cs w) cs h.1)
-calm_state p (HasEnded n es) h = tt
-calm_state p (HasTrapped t es) h = tt
+calm_state p _ h = tt
 
 only_one : (l : ℕ) (g : Guards) → Agree g (only l) → AtMostOneSet g
 only_one l g ag a b p q = sym (eqb-true l a (sym (ag a) ∙ p)) ∙ eqb-true l b (sym (ag b) ∙ q)

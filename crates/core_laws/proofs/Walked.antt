@@ -11,7 +11,7 @@ use Rattle.jump_meaning.specs.Operations.{holds}
 use Rattle.jump_meaning.specs.Effects.{top, rest}
 use Rattle.jump_meaning.specs.Tasks.{Loop, WhileLoop, DoLoop, ForLoop, Task, Runs, Asks, Branches, Turns, Loops, Heads, AsksSelector, Enters, EndsSection, Out, items, turn}
 use Rattle.jump_meaning.specs.Search.{ToCase, ToDefault, seek_sections, first_of_three, find}
-use Rattle.jump_meaning.specs.Step.{Guards, switch_kind, Frame, State, At, HasEnded, HasTrapped, View, Goes, Yields, dropped, move, step}
+use Rattle.jump_meaning.specs.Step.{Guards, switch_kind, Frame, State, At, View, Goes, Yields, dropped, move, step}
 use Rattle.jump_meaning.specs.Runs.{run}
 use Rattle.jump_meaning.specs.Steady.{IsSilentTask, IsSilent, HasLanded, LeadsTo}
 use Rattle.jump_meaning.proofs.Growth.{either}
@@ -28,8 +28,7 @@ again_lost Lost = refl
 
 abbrev pub state_way : ℕ → State → Way
 state_way l (At f g k v cs w) = value_way l k v
-state_way l (HasEnded n es) = Lost
-state_way l (HasTrapped t es) = Lost
+state_way l _ = Lost
 
 -- ---- a silent step comes from a way that lands, where it leads to one
 
@@ -146,8 +145,7 @@ module _ (p : Code) (l : ℕ) (f : List ℕ) (cs : List Frame) (w : World) where
 
 abbrev pub AgreesAt : ℕ → State → Type 0
 AgreesAt l (At f g k v cs w) = Agree g (only l)
-AgreesAt l (HasEnded n es) = Unit {0}
-AgreesAt l (HasTrapped t es) = Unit {0}
+AgreesAt l _ = Unit {0}
 
 module _ (p : Code) (l : ℕ) (f : List ℕ) (cs : List Frame) (w : World) where
   abbrev Keeps : Guards → List Value → View → Type 0
@@ -189,8 +187,7 @@ lead_way p m ds l zero c ag s h = landed_way p m ds l c h
 lead_way p m ds l (suc n) (At f g k v cs w) ag s h =
     let q = s 0 (omega arith) in
     one_back p l f cs w g k v ag q (lead_way p m ds l n (step p (At f g k v cs w)) (silent_agrees p l f cs w g k v ag q) (λ i j. s (suc i) (omega arith)) h)
-lead_way p m ds l (suc n) (HasEnded x es) ag s h = absurd (s 0 (omega arith))
-lead_way p m ds l (suc n) (HasTrapped t es) ag s h = absurd (s 0 (omega arith))
+lead_way p m ds l (suc n) _ ag s h = absurd (s 0 (omega arith))
 
 mutual
   plain_value : (l : ℕ) (k : List Task) (v : List Value) → Plain k → value_way l k v ≡ task_way k l

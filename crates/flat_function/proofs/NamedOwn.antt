@@ -51,8 +51,7 @@ module _ (m : List ℕ) where
   top_scope (T.Enum es) e = enums_scope es e
   top_scope (T.Global g) e = first_not m g.slot.name [] e
   top_scope (T.Function f) e = first_not m f.name [] e
-  top_scope (T.Include bytes) e = tt
-  top_scope (T.Note bytes) e = tt
+  top_scope _ e = tt
 
   tops_scope : (ts : List Top) → has_name (tops_name ts) m ≡ false → IsFreeIn ts m
   tops_scope [] e = tt

@@ -50,8 +50,7 @@ by_last : (e f : Ending) (x y xs ys z : Forest) → (is_gone e ≡ true → xs �
     later e f ≡ Breaks → join x xs ≡ join (cond (is_gone e) y (join x ys)) z
 by_last Gone f x y xs ys z none g k h = ap (join x) (none refl) ∙ join-nil x ∙ g h
 by_last Breaks f x y xs ys z none g k h = ap (join x) (k refl) ∙ sym (joined x ys z)
-by_last Jumps f x y xs ys z none g k h = cc
-by_last Otherwise f x y xs ys z none g k h = cc
+by_last _ f x y xs ys z none g k h = cc
 
 module _ (p : Plan) where
   mutual
@@ -93,6 +92,4 @@ module _ (p : Plan) where
 pub cut_is : (p : Plan) (h : Here) (b c : Aim) (a : Forest) (e : Ending) → ending p.live a ≡ e →
     if_breaks e (but_last (flat p h b c NoArrival a)) (flat p h b c NoArrival a) ≡ if_breaks e (flat_last p h b c NoArrival a) (flat p h b c NoArrival a)
 cut_is p h b c a Breaks g = ap but_last (ends_by_exit p h b c NoArrival a g) ∙ but_last_exit (flat_last p h b c NoArrival a) b Break
-cut_is p h b c a Gone g = refl
-cut_is p h b c a Jumps g = refl
-cut_is p h b c a Otherwise g = refl
+cut_is p h b c a _ g = refl

@@ -5,7 +5,7 @@ use Rattle.c_tree.specs.ExpressionTrees.{ExpressionTree}
 use Rattle.c_tree.specs.Cases.{case_number}
 use Rattle.c_tree.specs.TestTrees.{Source}
 use Rattle.c_tree.specs.Everywhere.{total, total_of, total_in}
-use Rattle.c_tree.specs.Trees.{Tree, Forest, Nil, Then, Sections, NoSection, Section, Evaluate, Return, If, While, Do, For, Switch, Block, Local, Break, Continue, Goto, Mark, Arm, Leap, Land, Arrival, Note, join}
+use Rattle.c_tree.specs.Trees.{Tree, Forest, Nil, Then, Sections, NoSection, Section, If, While, Do, For, Switch, Block, Local, Break, Continue, Goto, Mark, Land, Arrival, join}
 use Rattle.c_tree.specs.Changed.{one}
 use Rattle.jump_meaning.specs.Step.{switch_kind}
 use Rattle.std.specs.Option.{option_map_or}
@@ -15,7 +15,7 @@ use Rattle.flat_laws.specs.Loose.{Arrivals, NoArrival, Arrives}
 use Rattle.c_tree.specs.Exits.{breaks, continues}
 use Rattle.jump_meaning.specs.Code.{entry_or}
 use Rattle.jump_meaning.specs.World.{no_slot}
-use Rattle.flat_laws.specs.Parts.{arrivals, arrivals_in, leaves, kept_breaks, is_scattered, section_labels, switch_labels, holds_jump, Here, past, past_item, inside, Ending, Gone, Breaks, Jumps, Otherwise, ending, is_gone}
+use Rattle.flat_laws.specs.Parts.{arrivals, arrivals_in, leaves, kept_breaks, is_scattered, section_labels, switch_labels, holds_jump, Here, past, past_item, inside, Ending, Breaks, ending, is_gone}
 use Rattle.flat_laws.specs.FlatForm.{Plan, names_of, scatter_aim, otherwise_label, aim, exit, end_goto, is_jumpy_switch, assigned, mark_if, arrival, dissolved, if_breaks, flat_for, flat, flat_item, flat_last, flat_last_item, flat_sections, spread}
 
 abbrev pub one_if : Bool → ℕ
@@ -173,9 +173,7 @@ le_switch L lab m false a b h k = omega (arith, k)
 
 le_breaks : (L m : ℕ) (e : Ending) (a b : Forest) → places L a ≤ m → places L b ≤ m → places L (if_breaks e a b) ≤ m
 le_breaks L m Breaks a b h k = h
-le_breaks L m Gone a b h k = k
-le_breaks L m Jumps a b h k = k
-le_breaks L m Otherwise a b h k = k
+le_breaks L m _ a b h k = k
 
 pub exit_break : (L : ℕ) (b : Aim) → places L (exit b Break) ≡ 0
 exit_break L Stays = refl
@@ -284,12 +282,7 @@ module _ (L : ℕ) (p : Plan) where
         let o = aim_places L y (kept_breaks p.live d) (p.break_label h.construct) in
         let z = le_switch L lab (brk + rest) (is_scattered d) (dissolved p h s d sp) (Then (Switch s (flat_sections p h' y m c d)) (mark_of m))
         (omega (arith, i, j, k, l)) (omega (arith, n, o)) in omega (arith, z)
-    bounded_in (Evaluate e) h b c r = omega arith
-    bounded_in (Return e) h b c r = omega arith
-    bounded_in (Arm l e) h b c r = omega arith
-    bounded_in (Leap l) h b c r = omega arith
-    bounded_in (Land l) h b c r = omega arith
-    bounded_in (Note bs) h b c r = omega arith
+    bounded_in _ h b c r = omega arith
 
     bounded_among : (d : Sections) (h : Here) (y : Bool) (b c : Aim) →
         places_among L (flat_sections p h y b c d) ≤ total_in (sourced L p) d + gathered_among within past (makes L p) h d

@@ -46,9 +46,7 @@ module _ (p : Plan) (s : Setting) (labels : (l : ℕ) → s.labels l ≡ cond (p
   switch_jumps false y e h = cc
   switch_jumps true true e h = cc
   switch_jumps true false Jumps h = (refl, refl, refl)
-  switch_jumps true false Gone h = cc
-  switch_jumps true false Breaks h = cc
-  switch_jumps true false Otherwise h = cc
+  switch_jumps true false _ h = cc
 
   gone_else : (b : Bool) → gone_or b ≡ Gone → b ≡ false
   gone_else false e = refl
@@ -56,9 +54,7 @@ module _ (p : Plan) (s : Setting) (labels : (l : ℕ) → s.labels l ≡ cond (p
 
   later_gone : (e f : Ending) → later e f ≡ Gone → (e ≡ Gone) × (f ≡ Gone)
   later_gone Gone f h = (refl, h)
-  later_gone Breaks f h = cc
-  later_gone Jumps f h = cc
-  later_gone Otherwise f h = cc
+  later_gone _ f h = cc
 
   mutual
     gone : (xs : Forest) → ending p.live xs ≡ Gone → AreGone s xs
@@ -79,12 +75,7 @@ module _ (p : Plan) (s : Setting) (labels : (l : ℕ) → s.labels l ≡ cond (p
     gone_item (Do a t) e = cc
     gone_item (For f t u a) e = cc
     gone_item (Switch t d) e = absurd (switch_stays (is_scattered d && not (leaves d)) (last_ending p.live d) e)
-    gone_item Continue e = cc
-    gone_item (Arm l x) e = cc
-    gone_item (Leap l) e = cc
-    gone_item (Land l) e = cc
-    gone_item (Arrival x) e = cc
-    gone_item (Note bs) e = cc
+    gone_item _ e = cc
 
   mutual
     gone_flat : (xs : Forest) (h : Here) (b c : Aim) (r : Arrivals) → ending p.live xs ≡ Gone → flat p h b c r xs ≡ Nil
@@ -107,12 +98,7 @@ module _ (p : Plan) (s : Setting) (labels : (l : ℕ) → s.labels l ≡ cond (p
     gone_flat_item (Do a t) h b c r e = cc
     gone_flat_item (For f t u a) h b c r e = cc
     gone_flat_item (Switch t d) h b c r e = absurd (switch_stays (is_scattered d && not (leaves d)) (last_ending p.live d) e)
-    gone_flat_item Continue h b c r e = cc
-    gone_flat_item (Arm l x) h b c r e = cc
-    gone_flat_item (Leap l) h b c r e = cc
-    gone_flat_item (Land l) h b c r e = cc
-    gone_flat_item (Arrival x) h b c r e = cc
-    gone_flat_item (Note bs) h b c r e = cc
+    gone_flat_item _ h b c r e = cc
 
   -- ---- loops
 
@@ -145,15 +131,11 @@ module _ (p : Plan) (s : Setting) (labels : (l : ℕ) → s.labels l ≡ cond (p
   -- the last item that stays decides
   later_else : (e f x : Ending) → later e f ≡ x → is_gone e ≡ false → e ≡ x
   later_else Gone f x h k = false_true (sym k)
-  later_else Breaks f x h k = h
-  later_else Jumps f x h k = h
-  later_else Otherwise f x h k = h
+  later_else _ f x h k = h
 
   later_last : (e f x : Ending) → later e f ≡ x → is_gone e ≡ true → (e ≡ Gone) × (f ≡ x)
   later_last Gone f x h k = (refl, h)
-  later_last Breaks f x h k = false_true k
-  later_last Jumps f x h k = false_true k
-  later_last Otherwise f x h k = false_true k
+  later_last _ f x h k = false_true k
 
   -- ---- lists and items
 
@@ -414,12 +396,7 @@ module _ (p : Plan) (s : Setting) (labels : (l : ℕ) → s.labels l ≡ cond (p
     derived_last_item (Do a t) h b c r i e k = cc
     derived_last_item (For f t u a) h b c r i e k = cc
     derived_last_item (Switch t d) h b c r i e k = absurd (switch_no_break (is_scattered d && not (leaves d)) (last_ending p.live d) e)
-    derived_last_item Continue h b c r i e k = cc
-    derived_last_item (Arm l x) h b c r i e k = cc
-    derived_last_item (Leap l) h b c r i e k = cc
-    derived_last_item (Land l) h b c r i e k = cc
-    derived_last_item (Arrival x) h b c r i e k = cc
-    derived_last_item (Note bs) h b c r i e k = cc
+    derived_last_item _ h b c r i e k = cc
 
     -- a list that ends by a goto
     derived_jumps : (xs : Forest) (m : Mode) → IsLast m → (h : Here) (b c : Aim) (r : Arrivals) → In_list h b c r xs → ending p.live xs ≡ Jumps →
@@ -459,9 +436,4 @@ module _ (p : Plan) (s : Setting) (labels : (l : ℕ) → s.labels l ≡ cond (p
         (mark_of (aim y (kept_breaks p.live d) (p.break_label h.construct)))) last i z.0 z.1
         (derived_spread_last d h' c names (i.0.1, i.1.1, i.3) (no_breaks (not (has_default (switch_labels d)) || ends_some d) (breaks_in d) z.1)
         (no_ends (not (has_default (switch_labels d))) (ends_some d) (is_some_number (breaks_in d)) z.1) z.2)
-    derived_jump_item Continue m last h b c r i e k = cc
-    derived_jump_item (Arm l x) m last h b c r i e k = cc
-    derived_jump_item (Leap l) m last h b c r i e k = cc
-    derived_jump_item (Land l) m last h b c r i e k = cc
-    derived_jump_item (Arrival x) m last h b c r i e k = cc
-    derived_jump_item (Note bs) m last h b c r i e k = cc
+    derived_jump_item _ m last h b c r i e k = cc

@@ -135,10 +135,7 @@ module _ (opens : ℕ → ℕ → Bool) (Shaped : ℕ → ℕ → Variable → T
     gives_stored : (p x : Value) (z : ℤ) → R d p → R d x → OutcomeAlike d (Gives x (store p z w)) (Gives x (store p z (over s w)))
     gives_stored (Designates o i) x z r q =
         oa_gives x (store (Designates o i) z w) (put o (with_number i z (s o)) s) q refl (changed_alike opens Shaped (numbers i z) o w s r a)
-    gives_stored (Integer n) x z r q = oa_gives x w s q refl a
-    gives_stored (Lends o) x z r q = oa_gives x w s q refl a
-    gives_stored (Format bs) x z r q = oa_gives x w s q refl a
-    gives_stored Missing x z r q = oa_gives x w s q refl a
+    gives_stored _ x z r q = oa_gives x w s q refl a
 
     assign_alike : (p v : Value) → R d p → OutcomeAlike d (assign p v w) (assign p v (over s w))
     assign_alike p v r =
@@ -240,10 +237,7 @@ module _ (opens : ℕ → ℕ → Bool) (Shaped : ℕ → ℕ → Variable → T
       (initialise x i es v (store p z (over s w)))
   stored_then (Designates o j) z x i es v w s a r p q t =
       initialise_alike (store (Designates o j) z w) (put o (with_number j z (s o)) s) (changed_alike opens Shaped (numbers j z) o w s r a) x i es v p q t
-  stored_then (Integer n) z x i es v w s a r p q t = initialise_alike w s a x i es v p q t
-  stored_then (Lends o) z x i es v w s a r p q t = initialise_alike w s a x i es v p q t
-  stored_then (Format bs) z x i es v w s a r p q t = initialise_alike w s a x i es v p q t
-  stored_then Missing z x i es v w s a r p q t = initialise_alike w s a x i es v p q t
+  stored_then _ z x i es v w s a r p q t = initialise_alike w s a x i es v p q t
 
   -- all tasks of expressions
   pub effect_alike : (o : Op) (v : List Value) (w : World) (s : Owner → Variable) → A w s → OpIn w.calls o → Rs w.calls v →

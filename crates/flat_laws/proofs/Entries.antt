@@ -64,11 +64,9 @@ no_arrival (Leap l) h g q = no_goal (Leap l) (λ m. refl) (λ k n. refl) refl g
 no_arrival (Note bs) h g q = no_goal (Note bs) (λ m. refl) (λ k n. refl) refl g
 no_arrival (Arrival e) h g q = absurd h
 no_arrival (Mark l) h (ToLabel m) q = cc
-no_arrival (Mark l) h (ToCase k n) q = refl
-no_arrival (Mark l) h ToDefault q = refl
+no_arrival (Mark l) h _ q = refl
 no_arrival (Land l) h (ToLabel m) q = cc
-no_arrival (Land l) h (ToCase k n) q = refl
-no_arrival (Land l) h ToDefault q = refl
+no_arrival (Land l) h _ q = refl
 
 module _ (g : Goal) (out : enters_switches g ≡ false) where
   mutual

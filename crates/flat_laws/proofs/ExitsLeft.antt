@@ -13,7 +13,7 @@ use Rattle.jump_meaning.specs.Step.{switch_kind}
 use Rattle.flat_laws.specs.Pieces.{Aim, Stays, Becomes, Absent, mark_of, test_or_one, with_third, assign_number, Names, tests_among, case_marks}
 use Rattle.flat_laws.specs.Loose.{Arrivals, NoArrival, Arrives}
 use Rattle.flat_laws.proofs.Exits.{Free, free_join, stay_join, joined, mark_free, cells_free, marks_free, tests_among_free}
-use Rattle.flat_laws.specs.Parts.{is_some_number, is_scattered, switch_labels, has_default, ends_some, holds_jump, Here, past, past_item, inside, Ending, Gone, Breaks, Jumps, Otherwise, ending, is_gone, trimmed, trimmed_item, section_list, kept_breaks}
+use Rattle.flat_laws.specs.Parts.{is_some_number, is_scattered, switch_labels, has_default, ends_some, holds_jump, Here, past, past_item, inside, Ending, Breaks, ending, is_gone, trimmed, trimmed_item, section_list, kept_breaks}
 use Rattle.flat_laws.specs.FlatForm.{Plan, names_of, scatter_aim, otherwise_label, end_goto, aim, exit, is_jumpy_switch, assigned, mark_if, arrival, dissolved, if_breaks, flat_for, flat, flat_item, flat_last, flat_last_item, flat_sections, spread}
 
 -- how many of n exits are left
@@ -108,9 +108,7 @@ module _ (p : Plan) where
   section_fewer : (b c : Aim) (a xs ys : Forest) (e : Ending) → Fewer b c (breaks (trimmed p.live a)) (continues a) xs →
       Fewer b c (breaks a) (continues a) ys → Fewer b c (breaks (section_list p.live a e)) (continues a) (if_breaks e xs ys)
   section_fewer b c a xs ys Breaks f g = f
-  section_fewer b c a xs ys Gone f g = g
-  section_fewer b c a xs ys Jumps f g = g
-  section_fewer b c a xs ys Otherwise f g = g
+  section_fewer b c a xs ys _ f g = g
 
   last_fewer : (b c : Aim) (n : ℕ) (u v xs ys : Forest) (y : Bool) → Fewer b c (breaks u) n xs → Fewer b c (breaks v) n ys →
       Fewer b c (breaks (cond y u v)) n (cond y xs ys)

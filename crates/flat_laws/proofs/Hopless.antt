@@ -11,7 +11,7 @@ use Rattle.jump_meaning.specs.World.{no_slot}
 use Rattle.jump_meaning.specs.Step.{switch_kind}
 use Rattle.flat_laws.specs.Pieces.{Aim, Stays, Becomes, Absent, mark_of, third_items, assigned_cells}
 use Rattle.flat_laws.specs.Loose.{Arrivals, NoArrival}
-use Rattle.flat_laws.specs.Parts.{is_some_number, is_scattered, holds_jump, holds_jump_in, holds_jump_among, Here, past, past_item, inside, Ending, Gone, Breaks, Jumps, Otherwise, ending, is_gone, kept_breaks}
+use Rattle.flat_laws.specs.Parts.{is_some_number, is_scattered, holds_jump, holds_jump_in, holds_jump_among, Here, past, past_item, inside, Ending, Breaks, ending, is_gone, kept_breaks}
 use Rattle.flat_laws.specs.FlatForm.{Plan, names_of, scatter_aim, aim, exit, is_moved, is_jumpy_switch, assigned, mark_if, dissolved, if_breaks, flat_for, flat, flat_item, flat_last, flat_last_item, flat_sections, spread}
 use Rattle.flat_laws.specs.FlatMade.{hop_of, hops, AreFirst}
 use Rattle.flat_laws.proofs.LiveGotos.{IsGoodItem}
@@ -23,18 +23,15 @@ or_false false y e = (refl, e)
 -- exits that stay, or none
 abbrev pub IsSilent : Aim → ℕ → Type 0
 IsSilent Stays n = Unit {0}
-IsSilent (Becomes l) n = n ≡ 0
-IsSilent Absent n = n ≡ 0
+IsSilent _ n = n ≡ 0
 
 silent_left : (b : Aim) (m n : ℕ) → IsSilent b (m + n) → IsSilent b m
 silent_left Stays m n h = tt
-silent_left (Becomes l) m n h = omega (arith, h)
-silent_left Absent m n h = omega (arith, h)
+silent_left _ m n h = omega (arith, h)
 
 silent_right : (b : Aim) (m n : ℕ) → IsSilent b (m + n) → IsSilent b n
 silent_right Stays m n h = tt
-silent_right (Becomes l) m n h = omega (arith, h)
-silent_right Absent m n h = omega (arith, h)
+silent_right _ m n h = omega (arith, h)
 
 pub silent_aim : (y : Bool) (n l m : ℕ) → y ≡ false → IsSilent (aim y n l) m
 silent_aim true n l m e = absurd (true≢false e)
@@ -48,8 +45,7 @@ aim_hops false n l e = refl
 calm : (x : Bool) (c : Aim) (n : ℕ) → x ≡ false → IsSilent c n → (x || (is_moved c && is_some_number n)) ≡ false
 calm true c n e h = e
 calm false Stays n e h = refl
-calm false (Becomes l) n e h = ap is_some_number h
-calm false Absent n e h = ap is_some_number h
+calm false _ n e h = ap is_some_number h
 
 some_number : (n : ℕ) → is_some_number n ≡ false → n ≡ 0
 some_number zero e = refl
@@ -58,8 +54,7 @@ some_number (suc n) e = absurd (true≢false e)
 pub calm_back : (x : Bool) (c : Aim) (n : ℕ) → (x || (is_moved c && is_some_number n)) ≡ false → (x ≡ false) × IsSilent c n
 calm_back true c n e = absurd (true≢false e)
 calm_back false Stays n e = (refl, tt)
-calm_back false (Becomes l) n e = (refl, some_number n e)
-calm_back false Absent n e = (refl, some_number n e)
+calm_back false _ n e = (refl, some_number n e)
 
 third_hops : (u : Option ExpressionTree) → hops (third_items u) ≡ 0
 third_hops None = refl
@@ -92,9 +87,7 @@ either_hops false a b h k = k
 
 breaks_hops : (e : Ending) (a b : Forest) → hops a ≡ 0 → hops b ≡ 0 → hops (if_breaks e a b) ≡ 0
 breaks_hops Breaks a b h k = h
-breaks_hops Gone a b h k = k
-breaks_hops Jumps a b h k = k
-breaks_hops Otherwise a b h k = k
+breaks_hops _ a b h k = k
 
 exit_break : (b : Aim) → IsSilent b 1 → hops (exit b Break) ≡ 0
 exit_break Stays h = refl

@@ -14,7 +14,7 @@ use Rattle.jump_meaning.specs.Calls.{slot_cell, is_array_slot, is_array}
 use Rattle.jump_meaning.specs.Effects.{Computes, Converts, Drops, Stores, Sets, Clears, Does, initialise}
 use Rattle.jump_meaning.specs.Tasks.{WhileLoop, DoLoop, ForLoop, Task, Runs, Works, Turns, Loops, Heads, Enters, Out, items}
 use Rattle.jump_meaning.specs.Search.{ToDefault, find}
-use Rattle.jump_meaning.specs.Step.{Guards, Frame, State, At, HasEnded, HasTrapped, Takes, switch_kind, view, perform, step}
+use Rattle.jump_meaning.specs.Step.{Guards, Frame, State, At, Takes, switch_kind, view, perform, step}
 use Rattle.jump_meaning.specs.Runs.{iterate}
 use Rattle.jump_meaning.proofs.Scheme.{Joint}
 use Rattle.core_laws.proofs.Reach.{Reach, stay, more}
@@ -31,7 +31,6 @@ use Rattle.flat_laws.proofs.ControlFacts.{placed_join, unlabelled_placed, behind
 use Rattle.flat_laws.proofs.Locate.{locate}
 use Rattle.flat_laws.proofs.Entries.{entry_lo}
 use Rattle.flat_laws.proofs.Tests as tests
-use Rattle.flat_laws.proofs.Tests.{turned, GoesTo, goes_among}
 use Rattle.flat_laws.proofs.Stores.{of_shape, number_place, cell_place, zero_cells}
 use Rattle.flat_laws.proofs.Names.{HasShape, opens_of, IsShapedFor, open_below, opens, Shapes, AlikeIn, RefersIn, RefersAllIn, number_shaped, zeros_shaped}
 use Rattle.flat_laws.proofs.Running.{body, rn_still, rn_evaluates, Stack, Related, rl_at, falls}
@@ -58,8 +57,7 @@ task_weight (_ ∷ k) = task_weight k
 
 abbrev pub weight : State → ℕ
 weight (At f g k v cs w) = task_weight k
-weight (HasEnded n es) = 0
-weight (HasTrapped t es) = 0
+weight _ = 0
 
 items_weight : (xs : Forest) (k : List Task) → task_weight (items xs k) ≡ sizes xs + task_weight k
 items_weight Nil k = omega arith

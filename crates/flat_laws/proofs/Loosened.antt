@@ -4,7 +4,7 @@ use Rattle.c_types.specs.declared.kinds.IntKind.{IntKind}
 use Rattle.c_types.specs.Numbers.{converted, promoted}
 use Rattle.c_tree.specs.ExpressionTrees.{ExpressionTree}
 use Rattle.c_tree.specs.Trees.{Forest, Then, Sections, Goto, Mark, join}
-use Rattle.jump_meaning.specs.Values.{Owner, OfCall, Variable, Holds, Value, Integer, Designates, Lends, Format, Missing, integer}
+use Rattle.jump_meaning.specs.Values.{Owner, OfCall, Variable, Holds, Value, Designates, integer}
 use Rattle.jump_meaning.specs.Code.{Code}
 use Rattle.jump_meaning.specs.World.{World, put, store, with_number}
 use Rattle.jump_meaning.specs.Calls.{is_array_slot, is_array}
@@ -58,10 +58,7 @@ module _ (p q : Code) (lo : LooserCode p q) where
           (numbers (opens p q lo names) (Shapes p q lo names) (number_shaped p q lo names) (zeros_shaped p q lo names) i z) o w s
           (subst (λ n. Seen (opens p q lo names) (Shapes p q lo names) n o) (sym c) r) a;
     }
-    stored w s c a (Integer n) z r = record { memory = s; is = refl; calls = c; alike = a }
-    stored w s c a (Lends o) z r = record { memory = s; is = refl; calls = c; alike = a }
-    stored w s c a (Format bs) z r = record { memory = s; is = refl; calls = c; alike = a }
-    stored w s c a Missing z r = record { memory = s; is = refl; calls = c; alike = a }
+    stored w s c a _ z r = record { memory = s; is = refl; calls = c; alike = a }
 
     module _ (w : World) (s : Owner → Variable) (c : w.calls ≡ suc d) (a : AlikeIn p q lo names w s) where
       abbrev JT : List Task → List Task → List Value → List Value → Type 0

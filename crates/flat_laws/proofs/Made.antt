@@ -7,7 +7,7 @@ use Rattle.c_tree.specs.TestTrees.{Source, SelectorTree}
 use Rattle.c_tree.specs.Cases.{case_number, selector_kind, AreCases}
 use Rattle.c_tree.specs.Everywhere.{Everywhere, EverywhereOf, EverywhereIn}
 use Rattle.c_tree.specs.Exits.{breaks, breaks_in, continues, continues_in}
-use Rattle.c_tree.specs.Trees.{Tree, Forest, Nil, Then, Sections, NoSection, Section, Evaluate, Return, If, While, Do, For, Switch, Block, Local, Break, Continue, Goto, Mark, Arm, Leap, Land, Arrival, Note, join}
+use Rattle.c_tree.specs.Trees.{Tree, Forest, Nil, Then, Sections, NoSection, Section, Evaluate, Return, If, While, Do, For, Switch, Block, Local, Break, Continue, Goto, Mark, Arrival, Note, join}
 use Rattle.c_tree.specs.Changed.{one}
 use Rattle.c_tree.proofs.KeptLemmas.{total-join, SameEntries, everywhere_join}
 use Rattle.jump_meaning.specs.Code.{entry_or}
@@ -18,7 +18,7 @@ use Rattle.flat_laws.specs.Placed.{places, places_among}
 use Rattle.flat_laws.specs.Loose.{Arrivals, NoArrival, Arrives}
 use Rattle.flat_laws.proofs.Exits.{free_join, stay_join, mark_free, third_free}
 use Rattle.c_tree.specs.TextItems.{is_empty}
-use Rattle.flat_laws.specs.Parts.{arrivals, arrivals_in, is_scattered, section_labels, switch_labels, has_default, ends_some, is_some_number, holds_jump, holds_jump_among, Here, past, past_item, inside, Ending, Gone, Breaks, Jumps, Otherwise, ending, is_gone, kept_breaks}
+use Rattle.flat_laws.specs.Parts.{arrivals, arrivals_in, is_scattered, section_labels, switch_labels, has_default, ends_some, is_some_number, holds_jump, holds_jump_among, Here, past, past_item, inside, Ending, Breaks, ending, is_gone, kept_breaks}
 use Rattle.flat_laws.specs.FlatForm.{Plan, names_of, scatter_aim, otherwise_label, end_goto, aim, exit, is_jumpy_switch, assigned, mark_if, arrival, dissolved, if_breaks, flat_for, flat, flat_item, flat_last, flat_last_item, flat_sections, spread}
 use Rattle.flat_laws.proofs.Counts.{one_if, places_join, labelled, labelled_append, for_places}
 use Rattle.flat_laws.specs.Source.{IfTrue}
@@ -281,9 +281,7 @@ module _ (G : ℕ → Type 0) where
 
   breaks_flat : (e : Ending) (a b : Forest) → Marked (if_breaks e a b) → (Marked a → AreFlat a) → (Marked b → AreFlat b) → AreFlat (if_breaks e a b)
   breaks_flat Breaks a b g f k = f g
-  breaks_flat Gone a b g f k = k g
-  breaks_flat Jumps a b g f k = k g
-  breaks_flat Otherwise a b g f k = k g
+  breaks_flat _ a b g f k = k g
 
   module _ (p : Plan) (sources : (l : ℕ) → p.live l ≡ true → G (p.source l)) where
     abbrev Good : Forest → Type 0
@@ -462,9 +460,7 @@ module _ (G : ℕ → Type 0) where
       flat_made_in (Evaluate e) h b c r g w i j m = (tt, tt)
       flat_made_in (Return e) h b c r g w i j m = (tt, tt)
       flat_made_in (Note bs) h b c r g w i j m = (tt, tt)
-      flat_made_in (Arm l e) h b c r g w i j m = absurd g
-      flat_made_in (Leap l) h b c r g w i j m = absurd g
-      flat_made_in (Land l) h b c r g w i j m = absurd g
+      flat_made_in _ h b c r g w i j m = absurd g
 
       sections_made : (d : Sections) (h : Here) (y : Bool) (b c : Aim) → EverywhereIn (IsGoodItem p.live) d → is_scattered d ≡ false → Leads b →
           Leads c → MarkedIn (flat_sections p h y b c d) → EverywhereIn (IsFlatItem G) (flat_sections p h y b c d)

@@ -4,7 +4,7 @@ use Rattle.std.proofs.Common.{ℕ, zero, suc, pred, ◌≤◌, ◌<◌, ◌+◌,
 use Rattle.std.specs.Option.{option_map_or}
 use Rattle.c_types.specs.declared.trap.Trap.{Trap}
 use Rattle.c_tree.specs.declared.tree.Slot.{Slot}
-use Rattle.jump_meaning.specs.Values.{Owner, OfFile, OfCall, Variable, Holds, Lent, Value, Integer, Designates, Lends, Format, Missing}
+use Rattle.jump_meaning.specs.Values.{Owner, OfFile, OfCall, Variable, Holds, Lent, Value, Integer, Designates, Lends, Missing}
 use Rattle.jump_meaning.specs.Code.{FunctionTree, Code, entry_or, cell_count, cells_of}
 use Rattle.jump_meaning.specs.World.{World, with_number, with_zeros, no_slot, zeros, parameter, slot_at_start, put_call, enter_call, push, pop, most_calls, most_cells}
 use Rattle.jump_meaning.proofs.Memory.{chosen}
@@ -165,8 +165,7 @@ module _ (p q : Code) (lo : LooserCode p q) where
     refers_kept c (Integer n) h i = tt
     refers_kept c (Designates o j) h i = seen_kept c o h i
     refers_kept c (Lends o) h i = seen_kept c o h i
-    refers_kept c (Format bs) h i = tt
-    refers_kept c Missing h i = tt
+    refers_kept c _ h i = tt
 
     pub refers_all_kept : (c : ℕ) (v : List Value) → c ≤ d → RefersAllIn names c v → RefersAllIn names' c v
     refers_all_kept c [] h i = tt
@@ -183,10 +182,7 @@ module _ (p q : Code) (lo : LooserCode p q) where
 
     parameter_refers : (t : Slot) (v : Value) → RefersIn names d v → RefersTo (opens names') (Shapes names') (suc d) (parameter t v)
     parameter_refers t (Lends o) h = seen_more (opens names') (Shapes names') d (suc d) o (omega arith) (seen_kept d o (omega arith) h)
-    parameter_refers t (Integer n) h = tt
-    parameter_refers t (Designates o j) h = tt
-    parameter_refers t (Format bs) h = tt
-    parameter_refers t Missing h = tt
+    parameter_refers t _ h = tt
 
     module _ (vs : List Value) (rs : RefersAllIn names d vs) (w : World) (s : Owner → Variable) (e : w.calls ≡ d) (a : AlikeIn names w s) where
       abbrev f : FunctionTree

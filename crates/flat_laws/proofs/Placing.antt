@@ -1,6 +1,6 @@
 -- Where each label stands at most once, a jump to it comes to where it stands.
 use Rattle.std.proofs.Common.{ℕ, ◌+◌, ◌≤◌, ◌<◌, Bool, true, false, cond, List, [], ◌∷◌, eqb, Option, Some, None, ◌≡◌, refl, ap, sym, ◌∙◌, subst, arith, eq-eqb}
-use Rattle.c_tree.specs.Trees.{Tree, Forest, Nil, Then, Sections, NoSection, Section, Evaluate, Return, If, While, Do, For, Switch, Block, Local, Break, Continue, Goto, Mark, Arm, Leap, Land, Arrival, Note}
+use Rattle.c_tree.specs.Trees.{Tree, Forest, Nil, Then, Sections, NoSection, Section, If, While, Do, For, Switch, Block, Mark, Land}
 use Rattle.jump_meaning.specs.Tasks.{Task, Runs, Loops, WhileLoop, DoLoop, ForLoop, items, end_of, tail_tasks}
 use Rattle.jump_meaning.specs.Search.{ToLabel, or_else, seek, seek_sections, first_of_three, find}
 use Rattle.core_laws.proofs.Lookup.{seek_of, or_none}
@@ -86,17 +86,7 @@ module _ (B : Forest) where
     place_of (Block a) k n h = place a k n h
     place_of (Switch s c) k n h = place_among c k n h
     place_of (Mark m) k n h = mark_at m k h
-    place_of (Evaluate e) k n h = tt
-    place_of (Return e) k n h = tt
-    place_of (Local x es) k n h = tt
-    place_of Break k n h = tt
-    place_of Continue k n h = tt
-    place_of (Goto m) k n h = tt
-    place_of (Arm m e) k n h = tt
-    place_of (Leap m) k n h = tt
-    place_of (Land m) k n h = tt
-    place_of (Arrival e) k n h = tt
-    place_of (Note bs) k n h = tt
+    place_of _ k n h = tt
 
     place_among : (c : Sections) (k : List Task) → ((l : ℕ) → places_among l c ≤ 1) →
         Home (λ l. places_among l c) (λ l. seek_sections (ToLabel l) c k) → ArePlacedAmong B c k

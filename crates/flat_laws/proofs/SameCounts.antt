@@ -7,7 +7,7 @@ use Rattle.c_tree.specs.Cases.{case_number}
 use Rattle.c_tree.specs.Exits.{breaks, continues, continues_in}
 use Rattle.c_tree.specs.ExpressionTrees.{ExpressionTree}
 use Rattle.c_tree.specs.TestTrees.{Source}
-use Rattle.c_tree.specs.Trees.{Tree, Forest, Nil, Then, Sections, NoSection, Section, Evaluate, Return, If, While, Do, For, Switch, Block, Local, Break, Continue, Goto, Mark, Arm, Leap, Land, Arrival, Note, join}
+use Rattle.c_tree.specs.Trees.{Tree, Forest, Nil, Then, Sections, NoSection, Section, If, While, Do, For, Switch, Block, Local, Break, Continue, Goto, Mark, Arrival, join}
 use Rattle.c_tree.specs.Changed.{one}
 use Rattle.c_tree.specs.Everywhere.{total, total_of, total_in}
 use Rattle.c_tree.proofs.KeptLemmas.{total-join}
@@ -16,7 +16,7 @@ use Rattle.jump_meaning.specs.World.{no_slot}
 use Rattle.jump_meaning.specs.Step.{switch_kind}
 use Rattle.flat_laws.specs.Pieces.{Aim, Stays, Becomes, Absent, mark_of, third_items, assigned_cells, Names, is_number, test_for, tests_for, tests, tests_in, tests_among, case_marks}
 use Rattle.flat_laws.specs.Loose.{Arrivals, NoArrival, Arrives}
-use Rattle.flat_laws.specs.Parts.{is_some_number, is_scattered, leaves, holds_jump, holds_jump_among, kept_breaks, Here, past, past_item, inside, Ending, Gone, Breaks, Jumps, Otherwise, ending, is_gone}
+use Rattle.flat_laws.specs.Parts.{is_some_number, is_scattered, leaves, holds_jump, holds_jump_among, kept_breaks, Here, past, past_item, inside, Ending, Breaks, ending, is_gone}
 use Rattle.flat_laws.specs.FlatForm.{Plan, names_of, scatter_aim, otherwise_label, end_goto, aim, exit, is_moved, is_jumpy_switch, assigned, mark_if, arrival, dissolved, if_breaks, flat_for, flat, flat_item, flat_last, flat_last_item, flat_sections, spread, marks, marks_in, marks_among}
 
 -- what an exit becomes, apart from the label
@@ -98,9 +98,7 @@ module _ (gotos labels : ℕ) where
 
   if_breaks_same : (e : Ending) (a b c d : Forest) → weights a ≡ weights c → weights b ≡ weights d → weights (if_breaks e a b) ≡ weights (if_breaks e c d)
   if_breaks_same Breaks a b c d h k = h
-  if_breaks_same Gone a b c d h k = k
-  if_breaks_same Jumps a b c d h k = k
-  if_breaks_same Otherwise a b c d h k = k
+  if_breaks_same _ a b c d h k = k
 
   cond_same : (q : Bool) (a b c d : Forest) → weights a ≡ weights c → weights b ≡ weights d → weights (cond q a b) ≡ weights (cond q c d)
   cond_same true a b c d h k = h
@@ -261,12 +259,7 @@ module _ (gotos labels : ℕ) where
           let e = sections_same i i' (is_jumpy_switch p c d) (is_jumpy_switch q c' d) d B k in
           let m = mark_same B in
           cond_same (is_scattered d) (dissolved p h s d y) _ (dissolved q h' s d y') _ (omega (arith, z)) (omega (arith, e, m))
-      item_same h h' (Evaluate e) j k l = refl
-      item_same h h' (Return e) j k l = refl
-      item_same h h' (Note bs) j k l = refl
-      item_same h h' (Arm x e) j k l = refl
-      item_same h h' (Leap x) j k l = refl
-      item_same h h' (Land x) j k l = refl
+      item_same h h' _ j k l = refl
 
       last_same : (h h' : Here) {b b' c c' : Aim} {r r' : Arrivals} (a : Forest) → Alike b b' → Alike c c' → AlikeArrivals r r' →
           Same (flat_last p h b c r a) (flat_last q h' b' c' r' a)
@@ -312,18 +305,7 @@ mutual
       omega (arith, e, i, j)
   marks_counted_in (Block a) = let i = marks_counted a in omega (arith, i)
   marks_counted_in (Switch s d) = let i = marks_counted_among d in omega (arith, i)
-  marks_counted_in (Mark l) = refl
-  marks_counted_in (Evaluate e) = refl
-  marks_counted_in (Return e) = refl
-  marks_counted_in (Local x es) = refl
-  marks_counted_in Break = refl
-  marks_counted_in Continue = refl
-  marks_counted_in (Goto l) = refl
-  marks_counted_in (Arm l e) = refl
-  marks_counted_in (Leap l) = refl
-  marks_counted_in (Land l) = refl
-  marks_counted_in (Arrival e) = refl
-  marks_counted_in (Note bs) = refl
+  marks_counted_in _ = refl
 
   marks_counted_among : (d : Sections) → length (marks_among d) ≡ total_in (weight 0 1) d
   marks_counted_among NoSection = refl

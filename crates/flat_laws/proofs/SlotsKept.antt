@@ -5,7 +5,7 @@ use Rattle.std.specs.List.{AllByRecursion}
 use Rattle.std.proofs.lemmas.List.Elements.{All-from_recursion, recursion_from_All}
 use Rattle.c_types.specs.declared.kinds.IntKind.{IntKind}
 use Rattle.c_tree.specs.ExpressionTrees.{ExpressionTree}
-use Rattle.c_tree.specs.TestTrees.{TestTree, Source, On, Off, AndOff, OrOn, SelectorTree, Selects, Pick}
+use Rattle.c_tree.specs.TestTrees.{TestTree, Source, AndOff, OrOn, SelectorTree, Selects, Pick}
 use Rattle.c_tree.specs.Cases.{case_number, selector_source}
 use Rattle.c_tree.specs.Everywhere.{total, total_of, total_in, Everywhere, EverywhereOf, EverywhereIn}
 use Rattle.c_tree.specs.Exits.{breaks, continues}
@@ -19,7 +19,7 @@ use Rattle.jump_meaning.specs.Step.{switch_kind}
 use Rattle.flat_laws.specs.Pieces.{Aim, Stays, Becomes, Absent, mark_of, test_or_one, third_items, assigned_cells, Names, is_number, test_for, tests_for, tests, tests_in, tests_among, case_marks}
 use Rattle.flat_laws.proofs.SlotsMore.{expression_more}
 use Rattle.flat_laws.specs.Loose.{Arrivals, NoArrival, Arrives}
-use Rattle.flat_laws.specs.Parts.{is_scattered, variables_of, holds_jump, Here, past, past_item, inside, Ending, Gone, Breaks, Jumps, Otherwise, ending, is_gone, kept_breaks}
+use Rattle.flat_laws.specs.Parts.{is_scattered, variables_of, holds_jump, Here, past, past_item, inside, Ending, Breaks, ending, is_gone, kept_breaks}
 use Rattle.flat_laws.specs.FlatForm.{Plan, names_of, scatter_aim, otherwise_label, end_goto, aim, exit, is_jumpy_switch, assigned, mark_if, arrival, dissolved, if_breaks, flat_for, flat, flat_item, flat_last, flat_last_item, flat_sections, spread}
 use Rattle.flat_laws.proofs.Counts.{one_if}
 
@@ -91,9 +91,7 @@ module _ (N : ℕ) where
 
   breaks_in : (e : Ending) (a b : Forest) → AreIn a → AreIn b → AreIn (if_breaks e a b)
   breaks_in Breaks a b h k = h
-  breaks_in Gone a b h k = k
-  breaks_in Jumps a b h k = k
-  breaks_in Otherwise a b h k = k
+  breaks_in _ a b h k = k
 
   for_in : (y : Bool) (t u : Option ExpressionTree) (a : Forest) (b c : Aim) → IfSome t (ExpressionSlots P) → IfSome u (ExpressionSlots P) → AreIn a →
       AreIn (flat_for y t u a b c)
@@ -259,8 +257,7 @@ module _ (P Q : ℕ → Type 0) (more : (x : ℕ) → P x → Q x) where
   test_more (Source e) h = expression_more P Q more e h
   test_more (AndOff l t) h = test_more t h
   test_more (OrOn l t) h = test_more t h
-  test_more (On l) h = tt
-  test_more (Off l) h = tt
+  test_more _ h = tt
 
   selector_more : (s : SelectorTree) → SelectorSlots P s → SelectorSlots Q s
   selector_more (Selects e) h = expression_more P Q more e h

@@ -36,21 +36,15 @@ switch_no_break true Otherwise h = cc
 
 later_gone : (e f : Ending) → later e f ≡ Gone → (e ≡ Gone) × (f ≡ Gone)
 later_gone Gone f h = (refl, h)
-later_gone Breaks f h = cc
-later_gone Jumps f h = cc
-later_gone Otherwise f h = cc
+later_gone _ f h = cc
 
 later_last : (e f g : Ending) → later e f ≡ g → is_gone e ≡ true → (e ≡ Gone) × (f ≡ g)
 later_last Gone f g h q = (refl, h)
-later_last Breaks f g h q = absurd (true≢false (sym q))
-later_last Jumps f g h q = absurd (true≢false (sym q))
-later_last Otherwise f g h q = absurd (true≢false (sym q))
+later_last _ f g h q = absurd (true≢false (sym q))
 
 later_else : (e f g : Ending) → later e f ≡ g → is_gone e ≡ false → e ≡ g
 later_else Gone f g h q = absurd (true≢false q)
-later_else Breaks f g h q = h
-later_else Jumps f g h q = h
-later_else Otherwise f g h q = h
+later_else _ f g h q = h
 
 gone_else : (b : Bool) → gone_or b ≡ Gone → b ≡ false
 gone_else false e = refl
@@ -66,9 +60,7 @@ either_places L m false a b f g = g refl
 
 breaks_places : (L m : ℕ) (e : Ending) (a b : Forest) → (e ≡ Breaks → m ≤ places L a) → m ≤ places L b → m ≤ places L (if_breaks e a b)
 breaks_places L m Breaks a b f g = f refl
-breaks_places L m Gone a b f g = g
-breaks_places L m Jumps a b f g = g
-breaks_places L m Otherwise a b f g = g
+breaks_places L m _ a b f g = g
 
 module _ (l : ℕ) (p : Plan) (live : p.live l ≡ true) where
   abbrev L : ℕ

@@ -14,7 +14,7 @@ use Rattle.c_tree.specs.ExpressionTrees.{ExpressionTree, Typed, Read, Var}
 use Rattle.c_tree.specs.Constants.{kind_of, constant_value}
 use Rattle.c_tree.specs.Operators.{truth, unary_result, binary_result}
 use Rattle.c_tree.specs.TestTrees.{Source}
-use Rattle.c_tree.specs.Trees.{Tree, Forest, Nil, Then, Sections, NoSection, Section, Evaluate, Return, If, While, Do, For, Switch, Block, Local, Break, Continue, Goto, Mark, Arm, Leap, Land, Arrival, Note, join}
+use Rattle.c_tree.specs.Trees.{Tree, Forest, Nil, Then, Sections, NoSection, Section, If, While, Do, For, Block, Goto, Arrival, join}
 use Rattle.c_tree.specs.Changed.{one}
 use Rattle.jump_meaning.specs.Values.{OfCall, Holds, Value, Integer, Designates}
 use Rattle.jump_meaning.specs.Code.{Code, items_of}
@@ -171,19 +171,7 @@ module _ (q : Code) (f : List ℕ) (g : Guards) (cs : List Frame) (w : World) wh
         goes_in (For i t u a) k = goes a k
         goes_in (Block a) k = goes a k
         goes_in (Arrival (Some e)) k = goes_one e k
-        goes_in (Arrival None) k = nothing k
-        goes_in (Evaluate e) k = nothing k
-        goes_in (Return e) k = nothing k
-        goes_in (Switch t c) k = nothing k
-        goes_in (Local y es) k = nothing k
-        goes_in Break k = nothing k
-        goes_in Continue k = nothing k
-        goes_in (Goto l) k = nothing k
-        goes_in (Mark l) k = nothing k
-        goes_in (Arm l e) k = nothing k
-        goes_in (Leap l) k = nothing k
-        goes_in (Land l) k = nothing k
-        goes_in (Note bs) k = nothing k
+        goes_in _ k = nothing k
 
       pub goes_among : (d : Sections) (k : List Task) → GoesTo (wanted_among goal names d) (tests_among number (promoted j) v names d) k
       goes_among NoSection k = nothing k

@@ -2,7 +2,7 @@
 use Rattle.std.proofs.Common.{ℕ, [], Option, Some, None, ◌≡◌, refl, sym, ◌∙◌, ap, subst, true≢false}
 use Rattle.c_tree.specs.TestTrees.{Source, On, Off, AndOff, OrOn, Selects, Pick}
 use Rattle.c_tree.specs.Everywhere.{Everywhere, EverywhereOf, EverywhereIn}
-use Rattle.c_tree.specs.Trees.{Tree, Forest, Nil, Then, Sections, NoSection, Section, Evaluate, Return, If, While, Do, For, Switch, Block, Local, Break, Continue, Goto, Mark, Arm, Leap, Land, Arrival, Note, join}
+use Rattle.c_tree.specs.Trees.{Tree, Forest, Nil, Then, Sections, NoSection, Section, Evaluate, Return, If, While, Do, For, Switch, Block, Local, Break, Continue, Goto, Mark, Note, join}
 use Rattle.c_tree.specs.Changed.{one}
 use Rattle.jump_meaning.specs.Code.{FunctionTree, items_of}
 use Rattle.flat_laws.specs.Pieces.{Stays}
@@ -82,10 +82,7 @@ module _ (s : Setting) (dropped : (l : ℕ) → s.labels l ≡ None) where
     kept_item Continue g = lo_continue
     kept_item (Goto l) g = absurd (true≢false (sym g))
     kept_item (Mark l) g = lo_drop l (dropped l)
-    kept_item (Arm l e) g = absurd g
-    kept_item (Leap l) g = absurd g
-    kept_item (Land l) g = absurd g
-    kept_item (Arrival e) g = absurd g
+    kept_item _ g = absurd g
 
     kept_among : (d : Sections) → EverywhereIn (IsCalmItem s) d → LooserSections s Stays Stays d (unlabelled_among d)
     kept_among NoSection g = lc_none

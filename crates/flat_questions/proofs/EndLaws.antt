@@ -5,7 +5,7 @@ use Rattle.c_tree.specs.declared.tree.Item.{Item}
 use Rattle.c_tree.specs.declared.tree.Section as Real
 use Rattle.c_tree.specs.Paths.{list_of}
 use Rattle.c_tree.specs.Trees.{trees_of, sections_of}
-use Rattle.flat_laws.specs.Parts.{Ending, Gone, Breaks, Jumps, Otherwise, later, is_gone, ending, ending_of, last_ending}
+use Rattle.flat_laws.specs.Parts.{Ending, Gone, later, is_gone, ending, ending_of, last_ending}
 use Rattle.c_tree.specs.Views.{tree_at, before}
 use Rattle.c_tree.proofs.Views.{trees-first, trees-at, trees-end, section-first}
 use Rattle.c_tree.proofs.TreeLaws.{sections-none}
@@ -16,21 +16,15 @@ goes live xs i = is_gone (ending live (trees_of (drop i xs)))
 
 later_gone : (e f : Ending) → is_gone e ≡ true → later e f ≡ f
 later_gone Gone f h = refl
-later_gone Breaks f h = absurd (false≢true h)
-later_gone Jumps f h = absurd (false≢true h)
-later_gone Otherwise f h = absurd (false≢true h)
+later_gone _ f h = absurd (false≢true h)
 
 later_kept : (e f : Ending) → is_gone e ≡ false → later e f ≡ e
 later_kept Gone f h = absurd (false≢true (sym h))
-later_kept Breaks f h = refl
-later_kept Jumps f h = refl
-later_kept Otherwise f h = refl
+later_kept _ f h = refl
 
 pub gone_is : (e : Ending) → is_gone e ≡ true → e ≡ Gone
 gone_is Gone h = refl
-gone_is Breaks h = absurd (false≢true h)
-gone_is Jumps h = absurd (false≢true h)
-gone_is Otherwise h = absurd (false≢true h)
+gone_is _ h = absurd (false≢true h)
 
 ending_at : (live : ℕ → Bool) (xs : List Item) (i : ℕ) (x : Item) → i < length xs → x ≡ get_or xs i x →
     ending live (trees_of (drop i xs)) ≡ later (ending live (trees_of (drop (i + 1) xs))) (ending_of live (tree_at x))

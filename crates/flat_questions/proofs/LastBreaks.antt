@@ -21,9 +21,7 @@ gone_or_no false h = cc
 
 pub later_both : (e f : Ending) → is_gone (later e f) ≡ true → (is_gone e ≡ true) × (is_gone f ≡ true)
 later_both Gone f h = (refl, h)
-later_both Breaks f h = absurd (false≢true h)
-later_both Jumps f h = absurd (false≢true h)
-later_both Otherwise f h = absurd (false≢true h)
+later_both _ f h = absurd (false≢true h)
 
 cond_breaks : (y : Bool) (u v : Forest) → breaks (cond y u v) ≡ cond y (breaks u) (breaks v)
 cond_breaks true u v = refl
@@ -45,8 +43,7 @@ by_last : (e f : Ending) (m n a b : ℕ) → (is_gone e ≡ true → n ≡ 0) �
     m + n ≡ suc (cond (is_gone e) a (m + b))
 by_last Gone f m n a b z g k h = let i = z refl in let j = g h in omega (arith, i, j)
 by_last Breaks f m n a b z g k h = let j = k refl in omega (arith, j)
-by_last Jumps f m n a b z g k h = cc
-by_last Otherwise f m n a b z g k h = cc
+by_last _ f m n a b z g k h = cc
 
 module _ (live : ℕ → Bool) where
   mutual

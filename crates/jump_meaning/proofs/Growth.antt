@@ -16,7 +16,7 @@ use Rattle.jump_meaning.specs.Calls.{lacks, returned, fallen, leave_call, leave_
 use Rattle.jump_meaning.specs.Behaviour.{More, Covers}
 use Rattle.jump_meaning.specs.Effects.{Op, Computes, Finds, Drops, Indexes, Loads, Fetches, AppliesUnary, AppliesBinary, Converts, LeavesNothing, Ands, Ors, Judges, Decides, Stores, Counts, Calls, Ends, Begins, Sets, Clears, Effect, Does, Fails, Stops, Invokes, Leaves, left, top, rest, node_effect, initialise, effect}
 use Rattle.jump_meaning.specs.Tasks.{Task}
-use Rattle.jump_meaning.specs.Step.{Guards, Frame, Waits, State, At, HasEnded, HasTrapped, View, Finishes, Goes, Guarding, Yields, Takes, Arming, Acts, view, is_dropped, settle, leave, begin_call, invoke, perform, move, step}
+use Rattle.jump_meaning.specs.Step.{Guards, Frame, Waits, State, At, View, Finishes, Goes, Guarding, Yields, Takes, Arming, Acts, view, is_dropped, settle, leave, begin_call, invoke, perform, move, step}
 use Rattle.jump_meaning.specs.Runs.{shows}
 
 -- the second events are the first and maybe more
@@ -238,5 +238,4 @@ move_grows p (Acts o k) f g v cs w = perform_grows w.events p (effect o v w) f g
 -- a step shows what was shown before it, and maybe more
 pub step_covers : (p : Code) (c : State) → Covers (shows c) (shows (step p c))
 step_covers p (At f g k v cs w) = move_grows p (view (items_of (p.functions f)) g k) f g v cs w
-step_covers p (HasEnded n es) = refl
-step_covers p (HasTrapped t es) = refl
+step_covers p _ = refl

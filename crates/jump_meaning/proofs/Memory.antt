@@ -103,17 +103,11 @@ left_alike : {A : Type 0} (F : Variable → A) (keeps : (i : ℕ) (z : ℤ) (v :
 left_alike F keeps (Designates o i) z w q =
     put_holds (λ v. F v ≡ F (w.variables q)) o (with_number i z (w.variables o)) w.variables q
     (λ e. keeps i z (w.variables o) ∙ ap (λ r. F (w.variables r)) e) (λ n. refl)
-left_alike F keeps (Integer n) z w q = refl
-left_alike F keeps (Lends o) z w q = refl
-left_alike F keeps (Format bs) z w q = refl
-left_alike F keeps Missing z w q = refl
+left_alike F keeps _ z w q = refl
 
 kinds : (p q : Value) (z : ℤ) (w : World) → kind_at q (store p z w) ≡ kind_at q w
 kinds p (Designates o i) z w = left_alike kind_held kind_kept p z w o
-kinds p (Integer n) z w = refl
-kinds p (Lends o) z w = refl
-kinds p (Format bs) z w = refl
-kinds p Missing z w = refl
+kinds p _ z w = refl
 
 named_kept : (h : Home) (p : Value) (z : ℤ) (w : World) → named h (store p z w) ≡ named h w
 named_kept (H.Global m) p z w = refl

@@ -10,14 +10,14 @@ use Rattle.c_tree.specs.Everywhere.{Everywhere, EverywhereOf, EverywhereIn}
 use Rattle.c_tree.specs.InRange.{IsUnguarded, IsSourceTest, IsSourceSelector}
 use Rattle.jump_meaning.specs.Values.{Value, Integer, integer}
 use Rattle.jump_meaning.specs.Code.{FunctionTree, Code, items_of}
-use Rattle.jump_meaning.specs.World.{World, Outcome, Gives, Traps, Exits, push, world_at_start}
+use Rattle.jump_meaning.specs.World.{World, Outcome, Gives, push, world_at_start}
 use Rattle.jump_meaning.specs.Operations.{holds}
 use Rattle.jump_meaning.specs.Known.{call_without_body}
 use Rattle.jump_meaning.specs.Calls.{returned, fallen, leave_call, leave_entry}
 use Rattle.jump_meaning.specs.Effects.{Op, Effect, Does, Fails, Stops, Invokes, Leaves, effect}
 use Rattle.jump_meaning.specs.Tasks.{Loop, WhileLoop, DoLoop, ForLoop, Task, Runs, Works, Asks, Branches, Turns, Loops, Heads, Arms, AsksSelector, Enters, EndsSection, Out, items, works, end_of, tail_tasks, turn, cut, cut_to}
 use Rattle.jump_meaning.specs.Search.{Goal, ToLabel, ToCase, ToDefault, is_goal, is_section_goal, enters_switches, or_else, seek, seek_in, seek_sections, first_of_three, find, entry}
-use Rattle.jump_meaning.specs.Step.{Guards, no_guards, Frame, Waits, State, At, HasEnded, HasTrapped, View, Finishes, Goes, Guarding, Yields, Takes, Arming, Acts, dropped, view, is_dropped, settle, leave, begin_call, invoke, perform, move, step}
+use Rattle.jump_meaning.specs.Step.{Guards, no_guards, Frame, Waits, State, At, View, Finishes, Goes, Guarding, Yields, Takes, Arming, Acts, dropped, view, is_dropped, settle, leave, begin_call, invoke, perform, move, step}
 use Rattle.jump_meaning.specs.Runs.{run, start}
 use Rattle.jump_meaning.specs.Steady.{AllReset, IsSteadyCall, AreSteadyFrames, IsSteadyState, IsSteadyCode}
 use Rattle.jump_meaning.proofs.Growth.{either}
@@ -43,8 +43,7 @@ IsUnguardedTask (Heads t u a) = IsUnguardedList a
 IsUnguardedTask (Arms l) = ⊥
 IsUnguardedTask (AsksSelector s) = IsSourceSelector s
 IsUnguardedTask (Enters k c) = EverywhereIn IsUnguarded c
-IsUnguardedTask EndsSection = Unit {0}
-IsUnguardedTask Out = Unit {0}
+IsUnguardedTask _ = Unit {0}
 
 abbrev pub AreUnguarded : List Task → Type 0
 AreUnguarded [] = Unit {0}
@@ -204,8 +203,7 @@ IsUnguardedState _ = Unit {0}
 unguarded_settle : (o : Outcome) (f : List ℕ) (g : Guards) (k : List Task) (v : List Value) (cs : List Frame) → AllReset g → AreUnguarded k →
     AreUnguardedFrames cs → IsUnguardedState (settle o f g k v cs)
 unguarded_settle (Gives x w) f g k v cs r i c = (r, i, c)
-unguarded_settle (Traps t w) f g k v cs r i c = tt
-unguarded_settle (Exits n w) f g k v cs r i c = tt
+unguarded_settle _ f g k v cs r i c = tt
 
 unguarded_leave : (h : FunctionTree) (x : Value) (cs : List Frame) (w : World) → AreUnguardedFrames cs → IsUnguardedState (leave h x cs w)
 unguarded_leave h x [] w c = unguarded_settle (leave_entry h x w) [] no_guards [] [] [] (λ l. refl) tt tt
@@ -246,8 +244,7 @@ module _ (p : Code) (bare : (m : List ℕ) → IsUnguardedList (items_of (p.func
   unguarded_step : (c : State) → IsUnguardedState c → IsUnguardedState (step p c)
   unguarded_step (At f g k v cs w) h = unguarded_move (view (items_of (p.functions f)) g k) f g v cs w
       (unguarded_view (items_of (p.functions f)) g k (bare f) h.1) h.0 h.2
-  unguarded_step (HasEnded n es) h = tt
-  unguarded_step (HasTrapped t es) h = tt
+  unguarded_step _ h = tt
 
   unguarded_run : (n : ℕ) (c : State) → IsUnguardedState c → IsUnguardedState (run p n c)
   unguarded_run zero c h = h
@@ -267,8 +264,7 @@ module _ (p : Code) (bare : (m : List ℕ) → IsUnguardedList (items_of (p.func
 
   steady_state : (c : State) → IsUnguardedState c → IsSteadyState p c
   steady_state (At f g k v cs w) h = (steady_call (At f g k v cs w) f g k cs h.0, steady_frames (At f g k v cs w) cs h.2)
-  steady_state (HasEnded n es) h = tt
-  steady_state (HasTrapped t es) h = tt
+  steady_state _ h = tt
 
   pub unguarded_steady : IsSteadyCode p
   unguarded_steady = record {

@@ -3,7 +3,7 @@ use Rattle.std.proofs.Common.{◌≡◌, ℕ, suc, List, Some, take, drop, slice
 use Rattle.c_tree.specs.declared.tree.Item.{Item}
 use Rattle.c_tree.specs.declared.tree.Step.{Step}
 use Rattle.c_tree.specs.Paths.{list_at}
-use Rattle.c_tree.specs.Trees.{Tree, Forest, Sections, Evaluate, Return, If, While, Do, For, Switch, Block, Local, Break, Continue, Goto, Mark, Arm, Leap, Land, Arrival, Note, join, tree_of, trees_of}
+use Rattle.c_tree.specs.Trees.{Tree, Forest, Sections, If, While, Do, For, Switch, Block, join, tree_of, trees_of}
 use Rattle.c_tree.specs.Everywhere.{Everywhere, EverywhereOf, EverywhereIn}
 use Rattle.c_tree.specs.Changed.{one, Changed, ChangedSections, here, within, in_then, in_else, in_while, in_do, in_for, in_switch, in_block, in_section, in_later}
 use Rattle.c_tree.proofs.ChangeLemmas.{trees-split, changed_at}
@@ -34,18 +34,7 @@ module _ (P : Tree → Type 0) where
   self (For f t u a) h = h.0
   self (Switch s c) h = h.0
   self (Block a) h = h.0
-  self (Evaluate e) h = h
-  self (Return e) h = h
-  self (Local x es) h = h
-  self Break h = h
-  self Continue h = h
-  self (Goto l) h = h
-  self (Mark l) h = h
-  self (Arm l e) h = h
-  self (Leap l) h = h
-  self (Land l) h = h
-  self (Arrival e) h = h
-  self (Note bs) h = h
+  self _ h = h
 
   pub holds_at : (body : List Item) (steps : List Step) (a : List Item) (i : ℕ) (x : Item) → list_at body steps ≡ Some a → slice_get a i ≡ Some x →
       Everywhere P (trees_of body) → P (tree_of x)

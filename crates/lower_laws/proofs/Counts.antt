@@ -4,7 +4,7 @@ use Rattle.c_tree.specs.ExpressionTrees.{ExpressionTree}
 use Rattle.c_tree.specs.TestTrees.{TestTree, Source}
 use Rattle.c_tree.specs.Everywhere.{total, total_of, total_in}
 use Rattle.c_tree.specs.Exits.{breaks, continues}
-use Rattle.c_tree.specs.Trees.{Tree, Forest, Nil, Then, Sections, NoSection, Section, Evaluate, Return, If, While, Do, For, Switch, Block, Local, Break, Continue, Goto, Mark, Arm, Leap, Land, Arrival, Note, join}
+use Rattle.c_tree.specs.Trees.{Tree, Forest, Nil, Then, Sections, NoSection, Section, If, While, Do, For, Switch, Block, Local, Break, Continue, Goto, Mark, Arrival, join}
 use Rattle.c_tree.specs.Changed.{one}
 use Rattle.jump_meaning.specs.Code.{entry_or}
 use Rattle.jump_meaning.specs.World.{no_slot}
@@ -132,12 +132,7 @@ module _ (L : ℕ) (q : Layout) where
         let ts = tests_among q.plan.number (switch_kind s) h.variable names d in
         let k = places_join L ts (Then (Goto (otherwise_label q.plan h d)) sp) in
         let l = tests_among_places L q.plan.number (switch_kind s) h.variable names d in omega (arith, i, j, k, l)
-    bounded_in (Evaluate e) h b c r = omega arith
-    bounded_in (Return e) h b c r = omega arith
-    bounded_in (Arm l e) h b c r = omega arith
-    bounded_in (Leap l) h b c r = omega arith
-    bounded_in (Land l) h b c r = omega arith
-    bounded_in (Note bs) h b c r = omega arith
+    bounded_in _ h b c r = omega arith
 
     bounded_among : (d : Sections) (h : Here) (b c : Aim) (names : Names) →
         places L (lowered_among q h b c names d) ≤ places L (mark_of b) + (total_in (sourced L q.plan) d + gathered_among inside past (makes L q) h

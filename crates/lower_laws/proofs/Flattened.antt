@@ -192,8 +192,7 @@ module _ (A : Forest) (ls : List ℕ) where
 
   ended : (ends : Bool) (b : Aim) → Stand (end_goto ends b) → S None (end_goto ends b) (end_goto ends (to b))
   ended true (Becomes l) h = unit (st_goto l (h l (inl refl)))
-  ended true Stays h = sl_nil
-  ended true Absent h = sl_nil
+  ended true _ h = sl_nil
   ended false Stays h = sl_nil
   ended false (Becomes l) h = sl_nil
   ended false Absent h = sl_nil
@@ -233,8 +232,7 @@ module _ (A : Forest) (ls : List ℕ) where
 
     exited : (b : Aim) (x : Tree) → Bound b 1 → Stand (exit b x) → S None (exit b x) (exit (to b) x)
     exited (Becomes l) x k h = unit (st_goto l (h l (inl refl)))
-    exited Stays x k h = absurd (omega (arith, k))
-    exited Absent x k h = absurd (omega (arith, k))
+    exited _ x k h = absurd (omega (arith, k))
 
     mark_item : (y : Bool) (l : ℕ) → S None (mark_if y l) (mark_if y (s l))
     mark_item true l = unit (st_mark l)

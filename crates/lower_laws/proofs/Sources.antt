@@ -2,7 +2,7 @@
 use Rattle.std.proofs.Common.{ℕ, ◌+◌, ◌≤◌, ◌⊎◌, inl, inr, eqb, Bool, true, false, cond, [], Option, Some, None, ◌≡◌, refl, sym, ◌∙◌, ap, arith}
 use Rattle.c_tree.specs.TestTrees.{TestTree, Source}
 use Rattle.c_tree.specs.Changed.{one}
-use Rattle.c_tree.specs.Trees.{Tree, Forest, Nil, Then, Sections, NoSection, Section, Evaluate, Return, If, While, Do, For, Switch, Block, Local, Break, Continue, Goto, Mark, Arm, Leap, Land, Arrival, Note, join}
+use Rattle.c_tree.specs.Trees.{Tree, Forest, Nil, Then, Sections, NoSection, Section, If, While, Do, For, Switch, Block, Goto, Mark, join}
 use Rattle.jump_meaning.specs.Step.{switch_kind}
 use Rattle.flat_laws.specs.Pieces.{Aim, Becomes, mark_of, third_items, Names, tests_among, case_marks}
 use Rattle.flat_laws.specs.Placed.{Has, HasIn, HasAmong, places, places_of, IsOnce}
@@ -88,17 +88,7 @@ module _ (p : Layout) (m : ℕ) (live : p.plan.live m ≡ true) where
         inr (has_right g (tests_among p.plan.number k h.variable names d) (Then (Goto (otherwise_label p.plan h d)) ys)
         (inr (stays_among d (inside (Switch t d) h) (scatter_aim p.plan h d) c names n)))
     stays_in (Mark k) h b c r n = mark_has (p.plan.live k) k refl n
-    stays_in (Evaluate e) h b c r n = absurd n
-    stays_in (Return e) h b c r n = absurd n
-    stays_in (Local x es) h b c r n = absurd n
-    stays_in Break h b c r n = absurd n
-    stays_in Continue h b c r n = absurd n
-    stays_in (Goto k) h b c r n = absurd n
-    stays_in (Arrival e) h b c r n = absurd n
-    stays_in (Arm k e) h b c r n = absurd n
-    stays_in (Leap k) h b c r n = absurd n
-    stays_in (Land k) h b c r n = absurd n
-    stays_in (Note bs) h b c r n = absurd n
+    stays_in _ h b c r n = absurd n
 
     stays_among : (d : Sections) (h : Here) (b c : Aim) (names : Names) → HasAmong m d → Has g (opened_among p h b c names d)
     stays_among NoSection h b c names n = absurd n

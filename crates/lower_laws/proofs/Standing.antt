@@ -260,18 +260,7 @@ module _ (p : Layout) where
       default_stands_in (Block a) h b c n = default_stands a h b c n
       default_stands_in (Arrival (Some e)) h b c n = false_true n
       default_stands_in (Arrival None) h b c n = inl refl
-      default_stands_in (Evaluate e) h b c n = false_true n
-      default_stands_in (Return e) h b c n = false_true n
-      default_stands_in (Switch t d) h b c n = false_true n
-      default_stands_in (Local x es) h b c n = false_true n
-      default_stands_in Break h b c n = false_true n
-      default_stands_in Continue h b c n = false_true n
-      default_stands_in (Goto m) h b c n = false_true n
-      default_stands_in (Mark m) h b c n = false_true n
-      default_stands_in (Arm m e) h b c n = false_true n
-      default_stands_in (Leap m) h b c n = false_true n
-      default_stands_in (Land m) h b c n = false_true n
-      default_stands_in (Note bs) h b c n = false_true n
+      default_stands_in _ h b c n = false_true n
 
     default_case : (cases : List ExpressionTree) (default : Bool) → has_default (section_labels cases default) ≡ true → Has d0 (case_marks names cases default)
     default_case [] true e = inl refl
@@ -334,14 +323,12 @@ module _ (p : Layout) where
     exit_named : (b : Aim) (x : Tree) → (Naming l (one x) → Goal) → There b → Naming l (exit b x) → Goal
     exit_named (Becomes m) x f t (inl e) = equals m e t
     exit_named (Becomes m) x f t (inr n) = absurd n
-    exit_named Stays x f t n = f n
-    exit_named Absent x f t n = f n
+    exit_named _ x f t n = f n
 
     end_named : (ends : Bool) (b : Aim) → There b → Naming l (end_goto ends b) → Goal
     end_named true (Becomes m) t (inl e) = equals m e t
     end_named true (Becomes m) t (inr n) = absurd n
-    end_named true Stays t n = absurd n
-    end_named true Absent t n = absurd n
+    end_named true _ t n = absurd n
     end_named false Stays t n = absurd n
     end_named false (Becomes m) t n = absurd n
     end_named false Absent t n = absurd n
@@ -461,12 +448,7 @@ module _ (p : Layout) where
       named_item (Goto m) h b c r tb tc i into (inr n) = absurd n
       named_item (Mark m) h b c r tb tc i into n = mark_named (p.plan.live m) (p.plan.source m) n
       named_item (Arrival e) h b c r tb tc i into n = arrival_named r e n
-      named_item (Evaluate e) h b c r tb tc i into n = none n
-      named_item (Return e) h b c r tb tc i into n = none n
-      named_item (Note bs) h b c r tb tc i into n = none n
-      named_item (Arm m e) h b c r tb tc i into n = none n
-      named_item (Leap m) h b c r tb tc i into n = none n
-      named_item (Land m) h b c r tb tc i into n = none n
+      named_item _ h b c r tb tc i into n = none n
 
       named_among : (d : Sections) (h : Here) (b c : Aim) (names : Names) → There b → There c → EverywhereIn Fine d →
           Into (opened_among p h b c names d) → Naming l (opened_among p h b c names d) → Goal

@@ -18,7 +18,7 @@ use Rattle.c_tree.specs.ExpressionTrees.{ExpressionTree, Typed, Unary}
 use Rattle.c_tree.specs.declared.tree.UnaryOp.TheVariants.{Minus}
 use Rattle.c_tree.specs.InRange.{body_of}
 use Rattle.c_tree.specs.Numerals.{number, least_constant, constant}
-use Rattle.c_tree.specs.TestTrees.{TestTree, Source, On, Off, AndOff, OrOn, SelectorTree}
+use Rattle.c_tree.specs.TestTrees.{TestTree, Source, AndOff, OrOn, SelectorTree}
 use Rattle.c_tree.specs.Trees.{Tree, Forest, Nil, Then, Sections, NoSection, Section, Evaluate, Return, If, While, Do, For, Switch, Block, Local, Goto, Mark, Arm, Note, join, trees_of}
 use Rattle.c_tree.proofs.WellMoved.{everywhere_map, everywhere_both}
 use Rattle.c_resolved_defs.specs.Limits.{FlatCounts}
@@ -115,8 +115,7 @@ module _ (a : Forest) where
   tested (Source e) k = k e refl
   tested (AndOff l t) k = tested t k
   tested (OrOn l t) k = tested t k
-  tested (On l) k = tt
-  tested (Off l) k = tt
+  tested _ k = tt
 
   optional : (o : Option ExpressionTree) → ((e : ExpressionTree) → o ≡ Some e → V e) → IfSome o V
   optional None k = tt

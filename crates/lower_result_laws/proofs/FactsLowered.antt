@@ -8,7 +8,7 @@ use Rattle.c_tree.specs.Constants.{constant_value}
 use Rattle.c_tree.specs.Cases.{selector_source}
 use Rattle.c_tree.specs.ExpressionTrees.{ExpressionTree}
 use Rattle.c_tree.specs.TestTrees.{TestTree, Source, SelectorTree}
-use Rattle.c_tree.specs.Trees.{Tree, Forest, Nil, Then, Sections, NoSection, Section, Evaluate, Return, If, While, Do, For, Switch, Block, Local, Break, Continue, Goto, Mark, Arm, Leap, Land, Arrival, Note, join}
+use Rattle.c_tree.specs.Trees.{Tree, Forest, Nil, Then, Sections, NoSection, Section, Evaluate, Return, If, While, Do, For, Switch, Block, Local, Break, Continue, Goto, Mark, Arm, Arrival, Note, join}
 use Rattle.c_tree.specs.Changed.{one}
 use Rattle.c_tree.specs.Everywhere.{total, total_of, total_in, Everywhere, EverywhereOf, EverywhereIn}
 use Rattle.c_tree.proofs.KeptLemmas.{everywhere_join}
@@ -226,8 +226,7 @@ module _ (V O C : ExpressionTree → Type 0) (R : Option ExpressionTree → Type
       item_has h b e r (Return x) o v n = ((o.0, tt), tt)
       item_has h b e r (Note bs) o v n = ((o.0, tt), tt)
       item_has h b e r (Arm l x) o v n = ((o.0, tt), tt)
-      item_has h b e r (Leap l) o v n = (nothing, tt)
-      item_has h b e r (Land l) o v n = (nothing, tt)
+      item_has h b e r _ o v n = (nothing, tt)
 
       among_has : (h : Here) (b e : Aim) (names : Names) (d : Sections) → EverywhereIn F d → HaveVariablesAmong s h d →
           h.variable + total_in variables_of d ≤ Most → AreH (lowered_among p h b e names d)

@@ -135,10 +135,7 @@ module _ (counts : FlatCounts) (p : Program) (few : length (names p) ≤ most_he
 
     top_resolved : (t u : Top) → IsTopLowered (names p) (file_names p) t u → Known t → IsTopUntangled counts' u → IsResolvedTop counts' us u
     top_resolved (T.Function f) (T.Function h) w k o = function_resolved f h w k o
-    top_resolved (T.Function f) (T.Include bytes) w k o = absurd w
-    top_resolved (T.Function f) (T.Enum xs) w k o = absurd w
-    top_resolved (T.Function f) (T.Global g) w k o = absurd w
-    top_resolved (T.Function f) (T.Note bytes) w k o = absurd w
+    top_resolved (T.Function f) _ w k o = absurd w
     top_resolved (T.Include bytes) u w k o = subst (IsResolvedTop counts' us) (sym w) tt
     top_resolved (T.Enum xs) u w k o = subst (IsResolvedTop counts' us) (sym w) (values_over _ xs k.resolved)
     top_resolved (T.Global g) u w k o = subst (IsResolvedTop counts' us) (sym w) (global_top g _ k.resolved)
@@ -160,10 +157,7 @@ module _ (counts : FlatCounts) (p : Program) (few : length (names p) ≤ most_he
 
   top_spelled : (t u : Top) → IsTopLowered (names p) (file_names p) t u → Known t → TopIsSpelled u
   top_spelled (T.Function f) (T.Function h) w k = function_spelled f h w k
-  top_spelled (T.Function f) (T.Include bytes) w k = absurd w
-  top_spelled (T.Function f) (T.Enum xs) w k = absurd w
-  top_spelled (T.Function f) (T.Global g) w k = absurd w
-  top_spelled (T.Function f) (T.Note bytes) w k = absurd w
+  top_spelled (T.Function f) _ w k = absurd w
   top_spelled (T.Include bytes) u w k = subst TopIsSpelled (sym w) k.spelled
   top_spelled _ u w k = subst TopIsSpelled (sym w) k.spelled
 
@@ -189,19 +183,13 @@ module _ (counts : FlatCounts) (p : Program) (few : length (names p) ≤ most_he
     top_bound : (t u : Top) → IsTopLowered (names p) (file_names p) t u → Known t → ((n : List ℕ) → IsFree p.tops n → TopIsOther n t) →
         TopIsBound ss t → TopIsBound ss u
     top_bound (T.Function f) (T.Function h) w k d b = function_bound f h w k d b
-    top_bound (T.Function f) (T.Include bytes) w k d b = absurd w
-    top_bound (T.Function f) (T.Enum xs) w k d b = absurd w
-    top_bound (T.Function f) (T.Global g) w k d b = absurd w
-    top_bound (T.Function f) (T.Note bytes) w k d b = absurd w
+    top_bound (T.Function f) _ w k d b = absurd w
     top_bound (T.Include bytes) u w k d b = subst (TopIsBound ss) (sym w) b
     top_bound _ u w k d b = subst (TopIsBound ss) (sym w) b
 
     same_behind : (t u : Top) → IsTopLowered (names p) (file_names p) t u → Known t → behind_top ss u ≡ behind_top ss t
     same_behind (T.Function f) (T.Function h) w k = let d = function_declared f h w k in ap (λ n. bind n AFunction ss) d.name
-    same_behind (T.Function f) (T.Include bytes) w k = absurd w
-    same_behind (T.Function f) (T.Enum xs) w k = absurd w
-    same_behind (T.Function f) (T.Global g) w k = absurd w
-    same_behind (T.Function f) (T.Note bytes) w k = absurd w
+    same_behind (T.Function f) _ w k = absurd w
     same_behind (T.Include bytes) u w k = ap (behind_top ss) w
     same_behind _ u w k = ap (behind_top ss) w
 

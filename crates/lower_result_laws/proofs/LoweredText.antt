@@ -50,10 +50,7 @@ module _ (counts : FlatCounts) (ts : List Top) (names file : List (List ℕ)) wh
 
   top_text : (t u : Top) → IsResolvedTop counts ts t → IsTopLowered names file t u → TopHasText u
   top_text (T.Function f) (T.Function h) r w = function_text f h r w
-  top_text (T.Function f) (T.Include bytes) r w = tt
-  top_text (T.Function f) (T.Enum xs) r w = tt
-  top_text (T.Function f) (T.Global g) r w = tt
-  top_text (T.Function f) (T.Note bytes) r w = tt
+  top_text (T.Function f) _ r w = tt
   top_text (T.Include bytes) u r w = subst TopHasText (sym w) tt
   top_text _ u r w = subst TopHasText (sym w) tt
 

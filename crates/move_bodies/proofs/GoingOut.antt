@@ -73,10 +73,7 @@ not_outward Outward ss ts i j e m = absurd (true≢false e)
 
 outward_is : (r : Rule) → is_outward r ≡ true → r ≡ Outward
 outward_is Outward e = refl
-outward_is SiblingBefore e = absurd (true≢false (sym e))
-outward_is SiblingAfter e = absurd (true≢false (sym e))
-outward_is LiftOf e = absurd (true≢false (sym e))
-outward_is InwardOf e = absurd (true≢false (sym e))
+outward_is _ e = absurd (true≢false (sym e))
 
 module _ (l : ℕ) (start : Path) (old : List Item) (land : Path) (before : List Kept) (w : IsWellMade (trees_of old))
     (leap : item_at old start.steps start.item ≡ Some (Leap l)) (there : item_at old land.steps land.item ≡ Some (Land l)) where

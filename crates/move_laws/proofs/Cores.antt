@@ -78,16 +78,7 @@ module _ (D : ℕ → Type 0) where
     core_of_among (Arm l None) m w w' h = one_le (jump_le l (w l) (w' l) (h l m))
     core_of_among (Arm l (Some e)) m w w' h = one_le (le_if (Source e) (one_le (jump_le l (w l) (w' l) (h l m))) le_nil)
     core_of_among (Leap l) m w w' h = le_nil
-    core_of_among (Land l) m w w' h = all_refl _
-    core_of_among (Evaluate e) m w w' h = all_refl _
-    core_of_among (Return e) m w w' h = all_refl _
-    core_of_among (Local x es) m w w' h = all_refl _
-    core_of_among Break m w w' h = all_refl _
-    core_of_among Continue m w w' h = all_refl _
-    core_of_among (Goto l) m w w' h = all_refl _
-    core_of_among (Mark l) m w w' h = all_refl _
-    core_of_among (Arrival e) m w w' h = all_refl _
-    core_of_among (Note bs) m w w' h = all_refl _
+    core_of_among _ m w w' h = all_refl _
 
     sections_among : (c : Sections) → EverywhereIn (ArmsAmong D) c → (w w' : Follow) → LeAmong w w' → LeSections (core_sections c w) (core_sections c w')
     sections_among NoSection m w w' h = le_no_section

@@ -91,10 +91,7 @@ drop_seen d f o (Turns x ∷ k) i n h = refl
 drop_seen d f o (Loops x ∷ k) i n h = refl
 drop_seen d f o (Heads t u a ∷ k) i n h = refl
 drop_seen d f o (Arms l ∷ k) i n h = undropped_arms (d l) l (task_drop d k) (not_true (d l) (λ e. n (i e)))
-drop_seen d f o (AsksSelector s ∷ k) i n h = refl
-drop_seen d f o (Enters kind c ∷ k) i n h = refl
-drop_seen d f o (EndsSection ∷ k) i n h = refl
-drop_seen d f o (Out ∷ k) i n h = refl
+drop_seen d f o _ i n h = refl
 
 -- ---- the two programs
 

@@ -186,16 +186,7 @@ module _ (d : ℕ → Bool) where
       drop_less_of (Arm l None) = let h = arm_total l (d l) in omega (arith, h)
       drop_less_of (Arm l (Some e)) = let h = arm_if_total l e (d l) in omega (arith, h)
       drop_less_of (Land l) = land_less l (d l)
-      drop_less_of (Evaluate e) = omega arith
-      drop_less_of (Return e) = omega arith
-      drop_less_of (Local x es) = omega arith
-      drop_less_of Break = omega arith
-      drop_less_of Continue = omega arith
-      drop_less_of (Goto l) = omega arith
-      drop_less_of (Mark l) = omega arith
-      drop_less_of (Leap l) = omega arith
-      drop_less_of (Arrival e) = omega arith
-      drop_less_of (Note bs) = omega arith
+      drop_less_of _ = omega arith
 
       pub drop_less_in : (c : Sections) → total_in f (dropped_sections d c) ≤ total_in f c
       drop_less_in NoSection = omega arith
@@ -222,16 +213,7 @@ module _ (d : ℕ → Bool) where
         drop_more_of (Arm l None) = let h = k.arms l None in omega (arith, h)
         drop_more_of (Arm l (Some e)) = let h = k.arms l (Some e) in omega (arith, h)
         drop_more_of (Land l) = land_same l (d l) refl
-        drop_more_of (Evaluate e) = omega arith
-        drop_more_of (Return e) = omega arith
-        drop_more_of (Local x es) = omega arith
-        drop_more_of Break = omega arith
-        drop_more_of Continue = omega arith
-        drop_more_of (Goto l) = omega arith
-        drop_more_of (Mark l) = omega arith
-        drop_more_of (Leap l) = omega arith
-        drop_more_of (Arrival e) = omega arith
-        drop_more_of (Note bs) = omega arith
+        drop_more_of _ = omega arith
 
         drop_more_in : (c : Sections) → total_in f c ≤ total_in f (dropped_sections d c)
         drop_more_in NoSection = omega arith

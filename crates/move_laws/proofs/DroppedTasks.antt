@@ -101,8 +101,7 @@ module _ (d : ℕ → Bool) where
   -- a goal that stays
   abbrev pub IsLiveGoal : Goal → Type 0
   IsLiveGoal (ToLabel l) = Stays d l
-  IsLiveGoal (ToCase kind n) = Unit {0}
-  IsLiveGoal ToDefault = Unit {0}
+  IsLiveGoal _ = Unit {0}
 
   inner_drop : (l : Goal) (x y : Tree) (k : List Task) → is_goal l x ≡ false → is_goal l y ≡ false →
       seek_in l y (task_drop d k) ≡ through (seek_in l x k) → seek l (one y) (task_drop d k) ≡ through (seek_of l x k)
@@ -134,8 +133,7 @@ module _ (d : ℕ → Bool) where
 
   other_land : (l : Goal) (m : ℕ) → IsLiveGoal l → d m ≡ true → is_goal l (Land m) ≡ false
   other_land (ToLabel l) m e h = not_sought l m (eqb l m) e h refl
-  other_land (ToCase kind n) m e h = refl
-  other_land ToDefault m e h = refl
+  other_land _ m e h = refl
 
   land_drop : (l : Goal) (m : ℕ) (b : Bool) (k : List Task) → IsLiveGoal l → d m ≡ b →
       seek l (cond b Nil (one (Land m))) (task_drop d k) ≡ through (seek_of l (Land m) k)

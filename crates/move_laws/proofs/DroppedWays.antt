@@ -85,8 +85,7 @@ module _ (d : ℕ → Bool) (l : ℕ) (live : Stays d l) where
 
   lands_le : (y : Way) → LeWay Lands y → y ≡ Lands
   lands_le Lands h = refl
-  lands_le Past h = absurd h
-  lands_le Lost h = absurd h
+  lands_le _ h = absurd h
 
   -- a way that lands still lands
   pub drop_lands : (k : List Task) → task_way k l ≡ Lands → task_way (task_drop d k) l ≡ Lands

@@ -138,8 +138,7 @@ module _ (d : ℕ → Bool) where
   IsLiveTask (Arms l) k = Unit {0}
   IsLiveTask (AsksSelector s) k = SelectorLabels (Stays d) s
   IsLiveTask (Enters kind c) k = EverywhereIn (IsUnread d) c
-  IsLiveTask EndsSection k = Unit {0}
-  IsLiveTask Out k = Unit {0}
+  IsLiveTask _ k = Unit {0}
 
   abbrev pub AreLive : List Task → Type 0
   AreLive [] = Unit {0}

@@ -16,11 +16,9 @@ way_trans Lost y z p q = tt
 way_trans Past Lost z p q = absurd p
 way_trans Past Past z p q = q
 way_trans Past Lands Lands p q = tt
-way_trans Past Lands Past p q = absurd q
-way_trans Past Lands Lost p q = absurd q
+way_trans Past Lands _ p q = absurd q
 way_trans Lands Lands z p q = q
-way_trans Lands Past z p q = absurd p
-way_trans Lands Lost z p q = absurd p
+way_trans Lands _ z p q = absurd p
 
 -- to be there is best
 pub way_lands : (y : Way) → LeWay y Lands
@@ -42,8 +40,7 @@ way_then Past Lost b b' p q = absurd p
 way_then Past Past b b' p q = q
 way_then Past Lands b b' p q = way_lands b
 way_then Lands Lands b b' p q = tt
-way_then Lands Past b b' p q = absurd p
-way_then Lands Lost b b' p q = absurd p
+way_then Lands _ b b' p q = absurd p
 
 -- the same way, and then a better one
 pub way_on : (a b b' : Way) → LeWay b b' → LeWay (a ▷ b) (a ▷ b')

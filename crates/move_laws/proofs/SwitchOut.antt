@@ -52,11 +52,9 @@ with_selector z (KnownSelector n) f g h = h n
 there_sooner : (x y z : Way) → LeWay x (y ▷ Lands) → LeWay (x ▷ z) (y ▷ Lands)
 there_sooner Lost y z h = tt
 there_sooner Past Lost z h = absurd h
-there_sooner Past Past z h = way_lands z
-there_sooner Past Lands z h = way_lands z
+there_sooner Past _ z h = way_lands z
 there_sooner Lands Lost z h = absurd h
-there_sooner Lands Past z h = tt
-there_sooner Lands Lands z h = tt
+there_sooner Lands _ z h = tt
 
 module _ (m : ℕ) where
   -- then what follows: of the second that is behind the Leap

@@ -3,7 +3,7 @@ use Rattle.std.proofs.Common.{◌≡◌, ℕ, Option, Some, None, refl, sym, ap,
 use Rattle.std.specs.Option.{option_map_or}
 use Rattle.c_tree.specs.ExpressionTrees.{ExpressionTree}
 use Rattle.c_tree.specs.TestTrees.{TestTree, Source}
-use Rattle.c_tree.specs.Trees.{Tree, Forest, Nil, Then, Sections, NoSection, Section, Evaluate, Return, If, While, Do, For, Switch, Block, Local, Break, Continue, Goto, Mark, Arm, Leap, Land, Arrival, Note, join}
+use Rattle.c_tree.specs.Trees.{Tree, Forest, Nil, Then, Sections, NoSection, Section, Evaluate, Return, If, While, Do, For, Switch, Block, Local, Break, Continue, Goto, Mark, Arm, join}
 use Rattle.c_tree.specs.Changed.{one}
 use Rattle.c_tree.proofs.TreeLaws.{join-nil}
 use Rattle.c_tree.specs.Conversions.{jump_tree, source_tree, lone_goto, conditional_goto, convert, convert_item, convert_sections}
@@ -96,10 +96,7 @@ mutual
   converted_item_kept Break = refl
   converted_item_kept Continue = refl
   converted_item_kept (Arm l e) = join-nil (arm_skeleton e)
-  converted_item_kept (Leap l) = refl
-  converted_item_kept (Land l) = refl
-  converted_item_kept (Arrival e) = refl
-  converted_item_kept (Note bs) = refl
+  converted_item_kept _ = refl
 
   converted_sections_kept : (c : Sections) → skeleton_in (convert_sections c) ≡ skeleton_in c
   converted_sections_kept NoSection = refl

@@ -30,18 +30,7 @@ mutual
   levels_none_of l (For f t u a) e = let p = levels_none l f (omega arith) in let q = levels_none l a (omega arith) in omega arith
   levels_none_of l (Switch s c) e = let p = levels_none_in l c (omega arith) in omega arith
   levels_none_of l (Block a) e = let p = levels_none l a (omega arith) in omega arith
-  levels_none_of l (T.Land m) e = refl
-  levels_none_of l (T.Evaluate x) e = refl
-  levels_none_of l (T.Return x) e = refl
-  levels_none_of l (T.Local x es) e = refl
-  levels_none_of l T.Break e = refl
-  levels_none_of l T.Continue e = refl
-  levels_none_of l (T.Goto m) e = refl
-  levels_none_of l (T.Mark m) e = refl
-  levels_none_of l (T.Arm m x) e = refl
-  levels_none_of l (T.Leap m) e = refl
-  levels_none_of l (T.Arrival x) e = refl
-  levels_none_of l (T.Note x) e = refl
+  levels_none_of l _ e = refl
 
   levels_none_in : (l : ℕ) (c : Sections) → total_in (land_of l) c ≡ 0 → total_in (lands_inside l) c ≡ 0
   levels_none_in l NoSection e = refl

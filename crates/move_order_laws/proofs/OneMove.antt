@@ -194,15 +194,11 @@ one_section l (x ∷ cs) (suc j) (suc k) a c e f p q one = let m = section_lands
 
 while_body : (b : Branch) (t : Test) (x : List Item) → HasBranch_F b (O.While t x) → b ≡ B.Body
 while_body B.Body t x h = refl
-while_body B.Then t x h = absurd h
-while_body B.Else t x h = absurd h
-while_body (B.Section k) t x h = absurd h
+while_body _ t x h = absurd h
 
 do_body : (b : Branch) (t : Test) (x : List Item) → HasBranch_F b (O.Do x t) → b ≡ B.Body
 do_body B.Body t x h = refl
-do_body B.Then t x h = absurd h
-do_body B.Else t x h = absurd h
-do_body (B.Section k) t x h = absurd h
+do_body _ t x h = absurd h
 
 if_branch : (l : ℕ) (b d : Branch) (t : Test) (x z a c : List Item) → child_F b (O.If t x z) ≡ Some a → child_F d (O.If t x z) ≡ Some c →
     0 < lands l (trees_of a) → 0 < lands l (trees_of c)
@@ -217,21 +213,15 @@ if_branch l B.Else B.Then t x z a c e f p q one =
     absurd (omega (arith, m, n, p, q, one))
 if_branch l B.Body d t x z a c e f p q one = cc
 if_branch l (B.Section k) d t x z a c e f p q one = cc
-if_branch l B.Then B.Body t x z a c e f p q one = cc
-if_branch l B.Then (B.Section k) t x z a c e f p q one = cc
-if_branch l B.Else B.Body t x z a c e f p q one = cc
-if_branch l B.Else (B.Section k) t x z a c e f p q one = cc
+if_branch l B.Then _ t x z a c e f p q one = cc
+if_branch l B.Else _ t x z a c e f p q one = cc
 
 switch_branch : (l : ℕ) (b d : Branch) (s : Selector) (cs : List Section) (a c : List Item) → child_F b (O.Switch s cs) ≡ Some a →
     child_F d (O.Switch s cs) ≡ Some c → 0 < lands l (trees_of a) → 0 < lands l (trees_of c)
     → total_in (land_of l) (sections_of cs) ≤ 1 → b ≡ d
 switch_branch l (B.Section j) (B.Section k) s cs a c e f p q one = ap B.Section (one_section l cs j k a c e f p q one)
-switch_branch l (B.Section j) B.Body s cs a c e f p q one = cc
-switch_branch l (B.Section j) B.Then s cs a c e f p q one = cc
-switch_branch l (B.Section j) B.Else s cs a c e f p q one = cc
-switch_branch l B.Body d s cs a c e f p q one = cc
-switch_branch l B.Then d s cs a c e f p q one = cc
-switch_branch l B.Else d s cs a c e f p q one = cc
+switch_branch l (B.Section j) _ s cs a c e f p q one = cc
+switch_branch l _ d s cs a c e f p q one = cc
 
 layer_branch : (l : ℕ) (y : Item-F Item Section) (b d : Branch) (a c : List Item) → child_F b y ≡ Some a → child_F d y ≡ Some c →
     0 < lands l (trees_of a) → 0 < lands l (trees_of c) → lands_inside l (layer_tree y) ≤ 1

@@ -1,7 +1,7 @@
 -- Each simplification keeps the skeleton.
 use Rattle.std.proofs.Common.{◌≡◌, ℕ, Bool, true, false, cond, Some, None, refl, sym, ap, ap₂, ◌∙◌}
 use Rattle.c_tree.specs.TestTrees.{TestTree, Source, On, Off, AndOff, OrOn, SelectorTree}
-use Rattle.c_tree.specs.Trees.{Tree, Forest, Nil, Then, Sections, NoSection, Section, Evaluate, Return, If, While, Do, For, Switch, Block, Local, Break, Continue, Goto, Mark, Arm, Leap, Land, Arrival, Note, join}
+use Rattle.c_tree.specs.Trees.{Tree, Forest, Nil, Then, Sections, NoSection, Section, Evaluate, If, While, Do, For, Switch, Block, Arm, Land, join}
 use Rattle.c_tree.specs.Changed.{one, Changed}
 use Rattle.c_tree.specs.Everywhere.{Everywhere, EverywhereOf, EverywhereIn}
 use Rattle.c_tree.specs.WellMade.{IsConverted, IsMade}
@@ -117,16 +117,7 @@ mutual
   dropped_item_converted d (Arm l None) h = cond_all (d l) Nil (one (Arm l None)) tt (tt, tt)
   dropped_item_converted d (Arm l (Some e)) h = cond_all (d l) (one (Evaluate e)) (one (Arm l (Some e))) (tt, tt) (tt, tt)
   dropped_item_converted d (Land l) h = cond_all (d l) Nil (one (Land l)) tt (tt, tt)
-  dropped_item_converted d (Evaluate e) h = (h, tt)
-  dropped_item_converted d (Return e) h = (h, tt)
-  dropped_item_converted d (Local x es) h = (h, tt)
-  dropped_item_converted d Break h = (h, tt)
-  dropped_item_converted d Continue h = (h, tt)
-  dropped_item_converted d (Goto l) h = (h, tt)
-  dropped_item_converted d (Mark l) h = (h, tt)
-  dropped_item_converted d (Leap l) h = (h, tt)
-  dropped_item_converted d (Arrival e) h = (h, tt)
-  dropped_item_converted d (Note bs) h = (h, tt)
+  dropped_item_converted d _ h = (h, tt)
 
   dropped_sections_converted : (d : ℕ → Bool) (c : Sections) → EverywhereIn IsConverted c → EverywhereIn IsConverted (dropped_sections d c)
   dropped_sections_converted d NoSection h = tt
@@ -151,16 +142,7 @@ mutual
   dropped_item_kept d (Arm l None) h = cond_skeleton (d l) Nil (one (Arm l None)) Nil refl refl
   dropped_item_kept d (Arm l (Some e)) h = cond_skeleton (d l) (one (Evaluate e)) (one (Arm l (Some e))) (one (Evaluate e)) refl refl
   dropped_item_kept d (Land l) h = cond_skeleton (d l) Nil (one (Land l)) Nil refl refl
-  dropped_item_kept d (Evaluate e) h = refl
-  dropped_item_kept d (Return e) h = refl
-  dropped_item_kept d (Local x es) h = refl
-  dropped_item_kept d Break h = refl
-  dropped_item_kept d Continue h = refl
-  dropped_item_kept d (Goto l) h = refl
-  dropped_item_kept d (Mark l) h = refl
-  dropped_item_kept d (Leap l) h = refl
-  dropped_item_kept d (Arrival e) h = refl
-  dropped_item_kept d (Note bs) h = refl
+  dropped_item_kept d _ h = refl
 
   dropped_sections_kept : (d : ℕ → Bool) (c : Sections) → EverywhereIn IsConverted c → skeleton_in (dropped_sections d c) ≡ skeleton_in c
   dropped_sections_kept d NoSection h = refl

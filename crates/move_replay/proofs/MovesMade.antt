@@ -52,10 +52,7 @@ replaced_at f xs now i x y e g h =
 
 top_made : (m : Move) (t u : Top) (ts : List Top) → IsTopMoved m t u → OneMoved m (t ∷ ts) (u ∷ ts)
 top_made m (T.Function f) (T.Function g) ts h = L.this_function ts h
-top_made m (T.Function f) (T.Include x) ts h = absurd h
-top_made m (T.Function f) (T.Enum x) ts h = absurd h
-top_made m (T.Function f) (T.Global x) ts h = absurd h
-top_made m (T.Function f) (T.Note x) ts h = absurd h
+top_made m (T.Function f) _ ts h = absurd h
 top_made m (T.Include x) u ts h = absurd h
 top_made m _ u ts h = absurd h
 

@@ -141,8 +141,7 @@ top : (t : Top) → TopIsSpelled t → TopIsWithin t
 top (T.Function f) h = function f f.body refl h.body
 top (T.Enum xs) h = All-from_recursion EnumItemIsWithin xs (enum xs h)
 top (T.Global g) h = values [] g.slot.cells (option_map expression_trees g.init) h.values
-top (T.Include b) h = tt
-top (T.Note b) h = tt
+top _ h = tt
 
 tops : (ts : List Top) → Each TopIsSpelled ts → AllByRecursion TopIsWithin ts
 tops [] h = tt

@@ -28,10 +28,7 @@ module _ (names : Function → List (List ℕ)) (named : (f : Function) → leng
 
   by_top : (t : Top) → AreFewInTop t (plain_top names t)
   by_top (T.Function f) = by_body f f.body
-  by_top (T.Include b) = tt
-  by_top (T.Enum es) = tt
-  by_top (T.Global g) = tt
-  by_top (T.Note b) = tt
+  by_top _ = tt
 
   -- in the plain form of a program
   pub few_guards : (ts : List Top) → AreFewInTops ts (map (plain_top names) ts)

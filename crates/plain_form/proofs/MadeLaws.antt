@@ -57,18 +57,7 @@ module _ (g : Guards) (to : Item → Item) (to_section : Section → Section) wh
   layer_same (For f t u a) = ap₂ (λ p q. made_step g (For p t u q)) (list_same f) (list_same a)
   layer_same (Switch s cs) = ap (λ p. made_step g (Switch s p)) (sections_same cs)
   layer_same (Block a) = ap (λ p. made_step g (Block p)) (list_same a)
-  layer_same (Arm l e) = refl
-  layer_same (Land l) = refl
-  layer_same (Evaluate e) = refl
-  layer_same (Return e) = refl
-  layer_same (Local k e) = refl
-  layer_same Break = refl
-  layer_same Continue = refl
-  layer_same (Goto l) = refl
-  layer_same (Mark l) = refl
-  layer_same (Leap l) = refl
-  layer_same (Arrival e) = refl
-  layer_same (Note b) = refl
+  layer_same _ = refl
 
   -- where the definition takes the same step on each item and section, both are the same
   items_by : ((y : Item-F Item Section) → made_step g (map-Item Item Section Item Section to to_section y) ≡ to (roll-Item y))
@@ -91,18 +80,7 @@ kept_step (Do a t) = sym (rolls-Do a t)
 kept_step (Switch s cs) = refl
 kept_step (Arm l e) = sym (rolls-Arm l e)
 kept_step (Land l) = sym (rolls-Land l)
-kept_step (For f t u a) = refl
-kept_step (Block a) = refl
-kept_step (Evaluate e) = refl
-kept_step (Return e) = refl
-kept_step (Local k e) = refl
-kept_step Break = refl
-kept_step Continue = refl
-kept_step (Goto l) = refl
-kept_step (Mark l) = refl
-kept_step (Leap l) = refl
-kept_step (Arrival e) = refl
-kept_step (Note b) = refl
+kept_step _ = refl
 
 kept_item : (x : Item) → made_item Kept x ≡ tidied_item x
 kept_item = items_by Kept tidied_item tidied_section

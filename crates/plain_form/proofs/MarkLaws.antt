@@ -2,7 +2,7 @@
 use Rattle.std.proofs.Common.{◌≡◌, ℕ, zero, suc, ◌+◌, ◌≤◌, ◌==◌, Bool, true, false, ◌||◌, cond, eqb, Option, List, [], ◌∷◌, ◌++◌, map, length, get_or, slice_set, refl, sym, ap, subst, ◌∙◌, eqb-true, eq-eqb, arith}
 use Rattle.std.proofs.Math.Bool.{or_assoc}
 use Rattle.c_tree.specs.declared.tree.Item.{Item, Item-F, roll-Item, fold-roll-Item, ind-Item, map-Item}
-use Rattle.c_tree.specs.declared.tree.Item.TheOpen.{Section-F, Evaluate, Return, If, While, Do, For, Switch, Block, Local, Break, Continue, Goto, Mark, Arm, Leap, Land, Arrival, Note}
+use Rattle.c_tree.specs.declared.tree.Item.TheOpen.{Section-F, If, While, Do, For, Switch, Block, Arm, Land}
 use Rattle.c_tree.specs.declared.tree.Item as V
 use Rattle.c_tree.specs.declared.tree.Item.TheVariants.{rolls-If, rolls-For}
 use Rattle.c_tree.specs.declared.tree.Expression.{Expression}
@@ -167,16 +167,7 @@ form (Switch s cs) ms = both ms (selector_marked s ms) _ (λ l. selector_names l
 form (Block a) ms = list_form a ms
 form (Arm l e) ms = one l ms
 form (Land l) ms = one l ms
-form (Evaluate e) ms = none ms
-form (Return e) ms = none ms
-form (Local k e) ms = none ms
-form Break ms = none ms
-form Continue ms = none ms
-form (Goto l) ms = none ms
-form (Mark l) ms = none ms
-form (Leap l) ms = none ms
-form (Arrival e) ms = none ms
-form (Note b) ms = none ms
+form _ ms = none ms
 
 item_law : (x : Item) → Marked x
 item_law = ind-Item Marked SectionMarked

@@ -5,7 +5,7 @@ use Rattle.c_types.specs.declared.kinds.IntKind.TheVariants.{Int}
 use Rattle.c_types.specs.Numbers.{converted}
 use Rattle.c_types.proofs.Residues.{converted-in_kind}
 use Rattle.c_tree.specs.Operators.{truth}
-use Rattle.jump_meaning.specs.Values.{Owner, OfFile, OfCall, Variable, Holds, Lent, Value, Integer, Designates, Lends, Format, Missing}
+use Rattle.jump_meaning.specs.Values.{Owner, OfFile, OfCall, Variable, Holds, Lent, Value, Designates, Lends}
 use Rattle.jump_meaning.specs.Code.{Code, entry_or}
 use Rattle.jump_meaning.specs.World.{same_owner, put, with_number, no_slot}
 use Rattle.jump_meaning.specs.Step.{Guards, with_guard, Frame}
@@ -85,15 +85,9 @@ module _ (p : Code) where
     sort_grows c Bit x h g = g
     sort_grows c (Num kind) x h g = g
     sort_grows c (Spot k) (Designates o i) h g = (target_grows c o h g.0, kind_grows c o h g.0 ∙ g.1)
-    sort_grows c (Spot k) (Integer z) h g = absurd g
-    sort_grows c (Spot k) (Lends o) h g = absurd g
-    sort_grows c (Spot k) (Format bs) h g = absurd g
-    sort_grows c (Spot k) Missing h g = absurd g
+    sort_grows c (Spot k) _ h g = absurd g
     sort_grows c (ForSlot k) (Lends o) h g = (target_grows c o h g.0, kind_grows c o h g.0 ∙ g.1)
-    sort_grows c (ForSlot k) (Designates o i) h g = tt
-    sort_grows c (ForSlot k) (Integer z) h g = tt
-    sort_grows c (ForSlot k) (Format bs) h g = tt
-    sort_grows c (ForSlot k) Missing h g = tt
+    sort_grows c (ForSlot k) _ h g = tt
 
     pub sorts_grow : (c : ℕ) (ss : List Sort) (u : List Value) → c ≤ n → HaveSorts p sh c ss u → HaveSorts p sh' c ss u
     sorts_grow c [] [] h g = tt

@@ -159,5 +159,4 @@ module _ (q : Code) (f : List ℕ) (g : Guards) (cs : List Frame) (w : World) (k
   constant_comes UInt (negsuc n) uint h = absurd (unsigned_in n h)
   constant_comes Long (negsuc n) long h = long_comes n h _ refl
   constant_comes ULong (negsuc n) ulong h = absurd (unsigned_long_in n h)
-  constant_comes Char (negsuc n) i h = elim i [ ]
-  constant_comes UChar (negsuc n) i h = elim i [ ]
+  constant_comes _ (negsuc n) i h = elim i [ ]

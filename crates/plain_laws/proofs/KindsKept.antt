@@ -6,7 +6,7 @@ use Rattle.c_tree.specs.declared.tree.Home.{Home}
 use Rattle.c_tree.specs.declared.tree.Home.TheVariants as H
 use Rattle.c_tree.specs.ExpressionTrees.{ExpressionTree, PlaceTree, Arguments, Typed, Read, Assign, Update, Count, Call}
 use Rattle.c_tree.specs.TestTrees.{TestTree, Source, On, Off, AndOff, OrOn, SelectorTree, Selects, Pick}
-use Rattle.c_tree.specs.Trees.{Tree, Evaluate, Return, If, While, Do, For, Switch, Block, Local, Break, Continue, Goto, Mark, Arm, Leap, Land, Arrival, Note}
+use Rattle.c_tree.specs.Trees.{Tree, Evaluate, Return, If, While, Do, For, Switch, Local, Arm}
 use Rattle.jump_meaning.specs.Code.{Code, entry_or}
 use Rattle.jump_meaning.specs.World.{no_slot}
 use Rattle.plain_laws.specs.Kinded.{Kinded, k_number, k_character, k_enum, k_text, k_read, k_unary, k_cast, k_binary, k_conditional, k_assign, k_update, k_count, k_comma, k_call, KindedPlace, k_var, k_cell, KindedArguments, k_none, k_argument, k_array, IsHome, home_kind, place_kind, first_slot, later_slots, KindedTest, KindedSelector, AreKinded, KindedItem, Grown, SameKinds}
@@ -112,12 +112,4 @@ module _ (p q : Code) (ss ss' : List Slot) (same : SameKinds p q) (grown : Grown
   item_kept (Local x (Some es)) h = (grown_length ss ss' x grown h.0, list_kept es h.1)
   item_kept (Arm l None) h = h
   item_kept (Arm l (Some e)) h = (kept e h.0, h.1)
-  item_kept (Land l) h = tt
-  item_kept (Block a) h = tt
-  item_kept Break h = tt
-  item_kept Continue h = tt
-  item_kept (Goto l) h = tt
-  item_kept (Mark l) h = tt
-  item_kept (Leap l) h = tt
-  item_kept (Arrival e) h = tt
-  item_kept (Note bs) h = tt
+  item_kept _ h = tt

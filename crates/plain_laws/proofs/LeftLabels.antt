@@ -1,7 +1,7 @@
 -- Each label whose guard is named in a body is left, and the slots of those that are left are new and apart.
 use Rattle.std.proofs.Common.{◌≡◌, ℕ, suc, ◌+◌, ◌≤◌, ◌<◌, ◌==◌, Bool, true, false, ◌||◌, cond, eqb, List, [], ◌∷◌, map, length, refl, sym, ap, subst, ◌∙◌, true≢false, eqb-true, eq-eqb, arith}
 use Rattle.c_tree.specs.declared.tree.Item.{Item, Item-F, roll-Item, fold-roll-Item, ind-Item, map-Item}
-use Rattle.c_tree.specs.declared.tree.Item.TheOpen.{Section-F, Evaluate, Return, If, While, Do, For, Switch, Block, Local, Break, Continue, Goto, Mark, Arm, Leap, Land, Arrival, Note}
+use Rattle.c_tree.specs.declared.tree.Item.TheOpen.{Section-F, If, While, Do, For, Switch, Block, Arm, Land}
 use Rattle.c_tree.specs.declared.tree.Section.{Section, roll-Section, fold-roll-Section}
 use Rattle.c_tree.specs.declared.tree.Test.{Test, Test-F, roll-Test, ind-Test, map-Test, fold-roll-Test}
 use Rattle.c_tree.specs.declared.tree.Test.TheOpen as OpenTest
@@ -120,16 +120,7 @@ module _ (R : ℕ → Type 0) where
   layer_named (Block a) h = (tt, list_named a h)
   layer_named (Arm l e) h = h l (eq-eqb l l refl)
   layer_named (Land l) h = h l (eq-eqb l l refl)
-  layer_named (Evaluate e) h = tt
-  layer_named (Return e) h = tt
-  layer_named (Local k e) h = tt
-  layer_named Break h = tt
-  layer_named Continue h = tt
-  layer_named (Goto l) h = tt
-  layer_named (Mark l) h = tt
-  layer_named (Leap l) h = tt
-  layer_named (Arrival e) h = tt
-  layer_named (Note b) h = tt
+  layer_named _ h = tt
 
   item_named : (x : Item) → ItemNamed x
   unfolding tree_of section_tree

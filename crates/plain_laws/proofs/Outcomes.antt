@@ -8,7 +8,7 @@ use Rattle.c_types.specs.Numbers.{promoted, converted, residue, IsInRange, arith
 use Rattle.c_types.proofs.Residues.{converted-in_range, residue_below}
 use Rattle.c_tree.specs.declared.tree.Home.{Home}
 use Rattle.c_tree.specs.declared.tree.Home.TheVariants as H
-use Rattle.jump_meaning.specs.Values.{Owner, OfFile, OfCall, Value, Integer, Designates, Lends, Format, Missing, Event, integer}
+use Rattle.jump_meaning.specs.Values.{Owner, OfFile, OfCall, Value, Integer, Designates, Missing, Event, integer}
 use Rattle.jump_meaning.specs.Code.{FunctionTree, Code}
 use Rattle.jump_meaning.specs.World.{World, Outcome, Gives, Traps, Exits, owner, holder, kind_held, cells_held, number_held, put, with_number, cell, cell_of}
 use Rattle.jump_meaning.specs.Operations.{outcome, loaded, assign, counted, count, count_mark, converted_value}
@@ -71,17 +71,11 @@ module _ (p : Code) (sh : Shapes) (n : ℕ) (s vs : Variables) (cells : ℕ) (m 
     -- a cell that is read
     pub load_same : (k : IntKind) (x : Value) → HasSort p sh n (Spot k) x → loaded x r ≡ loaded x l
     load_same k (Designates o i) h = ap (λ u. Integer (number_held u i)) (target_same p sh m o h.0)
-    load_same k (Integer z) h = absurd h
-    load_same k (Lends o) h = absurd h
-    load_same k (Format bs) h = absurd h
-    load_same k Missing h = absurd h
+    load_same k _ h = absurd h
 
     pub load_sort : (k : IntKind) (x : Value) → HasSort p sh n (Spot k) x → HasSort p sh n (Num (Some k)) (loaded x l)
     load_sort k (Designates o i) h = (tt, subst (λ j. IsInRange j (number_held (s o) i)) h.1 (own_number (owner_kind p sh o) (s o) i (target_own p sh m o h.0)))
-    load_sort k (Integer z) h = absurd h
-    load_sort k (Lends o) h = absurd h
-    load_sort k (Format bs) h = absurd h
-    load_sort k Missing h = absurd h
+    load_sort k _ h = absurd h
 
     -- a cell that is stored
     store_at : (t : Sort) (o : Owner) (i : ℕ) (z : ℤ) (x : Value) → Target p sh n o → HasSort p sh n t x
@@ -105,10 +99,7 @@ module _ (p : Code) (sh : Shapes) (n : ℕ) (s vs : Variables) (cells : ℕ) (m 
         subst (λ j. SameOutcome t (assign (Designates o i) y l)
         (Gives (converted_value j y) (world (put o (with_number i (integer y) (vs o)) vs) n cells input answers events))) (sym (kind_same o h.0))
         (store_at t o i (integer y) (converted_value (kind_held (s o)) y) h.0 (under p sh n (Num (Some k)) t _ u (stored_sort o k y h.0 h.1)))
-    assign_outcome k t (Integer z) y u h = absurd h
-    assign_outcome k t (Lends o) y u h = absurd h
-    assign_outcome k t (Format bs) y u h = absurd h
-    assign_outcome k t Missing y u h = absurd h
+    assign_outcome k t _ y u h = absurd h
 
     -- `++` and `--`
     counted_value : (after : Bool) (o : Owner) (i : ℕ) (z : ℤ) (k : IntKind) → Target p sh n o → owner_kind p sh o ≡ k
@@ -133,10 +124,7 @@ module _ (p : Code) (sh : Shapes) (n : ℕ) (s vs : Variables) (cells : ℕ) (m 
         (counted after (Designates o i) (arith_result (count_mark up) (promoted (kind_held w)) (number_held w i) (pos 1)) r))
         (sym (target_same p sh m o h.0))
         (counted_same after o i k t _ u h.0 h.1)
-    count_outcome up after k t (Integer z) u h = absurd h
-    count_outcome up after k t (Lends o) u h = absurd h
-    count_outcome up after k t (Format bs) u h = absurd h
-    count_outcome up after k t Missing u h = absurd h
+    count_outcome up after k t _ u h = absurd h
 
     -- ---- calls that enter no body
 

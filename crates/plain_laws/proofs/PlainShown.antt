@@ -291,10 +291,7 @@ function_shown ns f (Some xs) s p = some_shown ns f xs f.flat refl p
 
 top_shown : (names : Function → List (List ℕ)) (t : Top) → top_holds is_jump_free_function t ≡ true → top_holds is_plain_function (plain_top names t) ≡ true
 top_shown names (Y.Function f) p = function_shown (names f) f f.body refl p
-top_shown names (Y.Include b) p = refl
-top_shown names (Y.Enum es) p = refl
-top_shown names (Y.Global g) p = refl
-top_shown names (Y.Note b) p = refl
+top_shown names _ p = refl
 
 tops_shown : (names : Function → List (List ℕ)) (ts : List Top) → all_true (map (top_holds is_jump_free_function) ts) ≡ true →
     all_true (map (top_holds is_plain_function) (map (plain_top names) ts)) ≡ true

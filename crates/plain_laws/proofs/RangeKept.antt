@@ -154,10 +154,7 @@ module _ (names : Function → List (List ℕ)) where
   top_ranged : (p : Program) (t : Top) → IsTopReady (code_of p) names t → IsTopInRange (plain_top names t)
   top_ranged p (T.Function f) h = function_by f.body (names f) f refl h.ranged h.finished.named (λ q. let m = h.finished.made q in m.converted)
       h.finished.leapless
-  top_ranged p (T.Include b) h = tt
-  top_ranged p (T.Enum es) h = tt
-  top_ranged p (T.Global g) h = tt
-  top_ranged p (T.Note b) h = tt
+  top_ranged p _ h = tt
 
   tops_ranged : (p : Program) (ts : List Top) → AllByRecursion (IsTopReady (code_of p) names) ts → AllByRecursion IsTopInRange (map (plain_top names) ts)
   tops_ranged p [] h = tt

@@ -34,10 +34,7 @@ found_alike r h m (x ∷ ts) [] s = absurd s
 found_alike r h m (T.Function f ∷ ts) (T.Function g ∷ us) s =
     choice_alike (bytes_eq f.name m && r f) (bytes_eq g.name m && r g) f g (found r m ts) (found r m us)
     (ap₂ (λ n b. bytes_eq n m && b) s.0.name (h f g s.0)) s.0 (found_alike r h m ts us s.1)
-found_alike r h m (T.Function f ∷ ts) (T.Include b ∷ us) s = absurd s.0
-found_alike r h m (T.Function f ∷ ts) (T.Enum es ∷ us) s = absurd s.0
-found_alike r h m (T.Function f ∷ ts) (T.Global g ∷ us) s = absurd s.0
-found_alike r h m (T.Function f ∷ ts) (T.Note b ∷ us) s = absurd s.0
+found_alike r h m (T.Function f ∷ ts) _ s = absurd s.0
 found_alike r h m (T.Include b ∷ ts) (y ∷ us) s = subst (λ z. Alike (found r m ts) (found r m (z ∷ us))) s.0 (found_alike r h m ts us s.1)
 found_alike r h m (T.Enum es ∷ ts) (y ∷ us) s = subst (λ z. Alike (found r m ts) (found r m (z ∷ us))) s.0 (found_alike r h m ts us s.1)
 found_alike r h m (T.Global g ∷ ts) (y ∷ us) s = subst (λ z. Alike (found r m ts) (found r m (z ∷ us))) s.0 (found_alike r h m ts us s.1)
@@ -92,10 +89,7 @@ global_same m [] [] s = refl
 global_same m [] (y ∷ us) s = absurd s
 global_same m (x ∷ ts) [] s = absurd s
 global_same m (T.Function f ∷ ts) (T.Function g ∷ us) s = global_same m ts us s.1
-global_same m (T.Function f ∷ ts) (T.Include b ∷ us) s = absurd s.0
-global_same m (T.Function f ∷ ts) (T.Enum es ∷ us) s = absurd s.0
-global_same m (T.Function f ∷ ts) (T.Global g ∷ us) s = absurd s.0
-global_same m (T.Function f ∷ ts) (T.Note b ∷ us) s = absurd s.0
+global_same m (T.Function f ∷ ts) _ s = absurd s.0
 global_same m (T.Include b ∷ ts) (y ∷ us) s = subst (λ z. global_named m (z ∷ us) ≡ global_named m ts) s.0 (global_same m ts us s.1)
 global_same m (T.Enum es ∷ ts) (y ∷ us) s = subst (λ z. global_named m (z ∷ us) ≡ global_named m ts) s.0 (global_same m ts us s.1)
 global_same m (T.Global g ∷ ts) (y ∷ us) s =

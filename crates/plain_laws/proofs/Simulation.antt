@@ -17,7 +17,7 @@ use Rattle.c_tree.specs.Labels.{TestLabels, SelectorLabels}
 use Rattle.c_tree.specs.Operators.{truth, is_zero}
 use Rattle.c_tree.specs.Trees.{Forest, Nil, Sections, join}
 use Rattle.c_tree.specs.Everywhere.{Everywhere, EverywhereIn}
-use Rattle.jump_meaning.specs.Values.{OfCall, Value, Integer, Designates, Lends, Format, Missing, Event, integer}
+use Rattle.jump_meaning.specs.Values.{OfCall, Value, Integer, Designates, Event, integer}
 use Rattle.jump_meaning.specs.Code.{FunctionTree, Code}
 use Rattle.jump_meaning.specs.World.{Outcome, put, with_number}
 use Rattle.jump_meaning.specs.Operations.{operand_kind, holds}
@@ -52,10 +52,7 @@ use Rattle.plain_laws.proofs.Statements.{rest_next, truthy_next}
 wider : (k : IntKind) (z : ℤ) → IsInRange k z → IsInRange (usual_kind k Int) z
 wider Char z h = let a = h.from_least in let b = h.to_greatest in record { from_least = grind (arith, ints); to_greatest = grind (arith, ints) }
 wider UChar z h = let a = h.from_least in let b = h.to_greatest in record { from_least = grind (arith, ints); to_greatest = grind (arith, ints) }
-wider Int z h = h
-wider UInt z h = h
-wider Long z h = h
-wider ULong z h = h
+wider _ z h = h
 
 usual_zero : (k : IntKind) → converted (usual_kind k Int) (pos 0) ≡ pos 0
 unfolding converted
@@ -267,10 +264,7 @@ module _ (p : Code) (gs : List ℕ → Guarding) (is : (m : List ℕ) → IsSlot
         events f g (stored p sh me o a (integer y) t.0)
         (sits_kept p gs is sh vs (put o (with_number a (integer y) (vs o)) vs) (suc n) f g k2 st)
         (frames_kept p gs is sh vs (put o (with_number a (integer y) (vs o)) vs) n f k2 fr) x (suc i) es v h ks rk
-    sets_next x i es j y (Integer z) v t h ks rk = absurd t
-    sets_next x i es j y (Lends o) v t h ks rk = absurd t
-    sets_next x i es j y (Format bs) v t h ks rk = absurd t
-    sets_next x i es j y Missing v t h ks rk = absurd t
+    sets_next x i es j y _ v t h ks rk = absurd t
 
     sets_joins : (x i : ℕ) (es : List ExpressionTree) (t : Sort) (j : IntKind) (u v : List Value) {k k' : List Task} →
         HaveSorts p sh (suc n) (t ∷ Spot j ∷ []) u → x < length (slots p gs is f) → AreKinded p (slots p gs is f) es → Rest p gs is f k k'

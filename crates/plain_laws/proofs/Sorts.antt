@@ -9,10 +9,10 @@ use Rattle.c_types.proofs.Residues.{converted-in_range}
 use Rattle.c_tree.specs.declared.tree.UnaryOp.{UnaryOp}
 use Rattle.c_tree.specs.declared.tree.UnaryOp.TheVariants.{Plus, Minus, Not, Flip}
 use Rattle.c_tree.specs.declared.tree.BinaryOp.{BinaryOp}
-use Rattle.c_tree.specs.declared.tree.BinaryOp.TheVariants.{Arith, Less, Greater, AtMost, AtLeast, Equal, Unequal, AndThen, OrElse}
+use Rattle.c_tree.specs.declared.tree.BinaryOp.TheVariants.{Arith}
 use Rattle.c_tree.specs.Operators.{truth, is_zero, unary_result, binary_result, arith_kind, right_operand}
 use Rattle.c_tree.specs.ExpressionTrees.{ExpressionTree, NodeTree, Typed, Unary, Binary}
-use Rattle.jump_meaning.specs.Values.{Value, Integer, Designates, Lends, Format, Missing, integer}
+use Rattle.jump_meaning.specs.Values.{Value, Integer, Designates, Lends, integer}
 use Rattle.jump_meaning.specs.Code.{Code}
 use Rattle.plain_laws.specs.Kinded.{unary_kind, binary_kind}
 use Rattle.plain_laws.proofs.Memories.{Shapes, Target, owner_kind, zero_in_range}
@@ -84,9 +84,7 @@ Under _ _ = ⊥
 pub under_self : (s : Sort) → Under s s
 under_self Bit = tt
 under_self (Num None) = tt
-under_self (Num (Some k)) = refl
-under_self (Spot k) = refl
-under_self (ForSlot k) = refl
+under_self _ = refl
 
 -- the value of an expression is one for its kind, and for a parameter
 pub under_kind : (e : ExpressionTree) (kind : Option IntKind) (node : NodeTree) → e ≡ Typed kind node → Under (node_sort kind node) (Num kind)
@@ -125,8 +123,7 @@ module _ (p : Code) (sh : Shapes) (c : ℕ) where
   number_for_slot k (Integer n) h = tt
   number_for_slot k (Designates o i) h = tt
   number_for_slot k (Lends o) h = absurd h
-  number_for_slot k (Format bs) h = tt
-  number_for_slot k Missing h = tt
+  number_for_slot k _ h = tt
 
   spot_under : (j k : IntKind) (v : Value) → j ≡ k → HasSort (Spot j) v → HasSort (Spot k) v
   spot_under j k v e h = subst (λ i. HasSort (Spot i) v) e h
@@ -145,13 +142,9 @@ module _ (p : Code) (sh : Shapes) (c : ℕ) where
   under (Num j) (ForSlot k) v u h = number_for_slot k v h.0
   under (Num j) (Spot k) v u h = absurd u
   under (Spot j) (Spot k) v u h = spot_under j k v u h
-  under (Spot j) Bit v u h = absurd u
-  under (Spot j) (Num k) v u h = absurd u
-  under (Spot j) (ForSlot k) v u h = absurd u
+  under (Spot j) _ v u h = absurd u
   under (ForSlot j) (ForSlot k) v u h = slot_under j k v u h
-  under (ForSlot j) Bit v u h = absurd u
-  under (ForSlot j) (Num k) v u h = absurd u
-  under (ForSlot j) (Spot k) v u h = absurd u
+  under (ForSlot j) _ v u h = absurd u
 
   -- ---- results of marks
 
@@ -172,11 +165,4 @@ module _ (p : Code) (sh : Shapes) (c : ℕ) where
   pub binary_has : (op : BinaryOp) (i j : IntKind) (a b : ℤ) → ResultHas (mark_sort op (Some (binary_kind op i j))) (binary_result op i j a b)
   binary_has (Arith op) i j a b = in_sort (arith_kind op i j)
       _ (arith_in op (arith_kind op i j) (converted (arith_kind op i j) a) (right_operand op i j b) (converted-in_range (arith_kind op i j) a))
-  binary_has Less i j a b = (_, refl)
-  binary_has Greater i j a b = (_, refl)
-  binary_has AtMost i j a b = (_, refl)
-  binary_has AtLeast i j a b = (_, refl)
-  binary_has Equal i j a b = (_, refl)
-  binary_has Unequal i j a b = (_, refl)
-  binary_has AndThen i j a b = (_, refl)
-  binary_has OrElse i j a b = (_, refl)
+  binary_has _ i j a b = (_, refl)

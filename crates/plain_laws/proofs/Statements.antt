@@ -11,7 +11,7 @@ use Rattle.c_tree.specs.TestTrees.{SelectorTree, Selects, Pick}
 use Rattle.c_tree.specs.Cases.{selector_source}
 use Rattle.c_tree.specs.Constants.{kind_of, HasKind}
 use Rattle.c_tree.specs.Operators.{truth}
-use Rattle.c_tree.specs.Trees.{Tree, Forest, Nil, Then, Sections, Evaluate, Return, If, While, Do, For, Switch, Block, Local, Break, Continue, Goto, Mark, Arm, Leap, Land, Arrival, Note, join}
+use Rattle.c_tree.specs.Trees.{Tree, Forest, Nil, Then, Sections, Evaluate, Return, If, While, Do, For, Switch, Block, Local, Break, Continue, Goto, Mark, Arm, Leap, Land, join}
 use Rattle.c_tree.specs.Everywhere.{EverywhereOf}
 use Rattle.jump_meaning.specs.Values.{OfCall, Value, Integer, Designates, Event}
 use Rattle.jump_meaning.specs.Code.{Code, items_of}
@@ -181,8 +181,7 @@ module _ (p : Code) (gs : List ℕ → Guarding) (is : (m : List ℕ) → IsSlot
   item_next (Arm l (Some e)) v i h = arm_next l e v i.labels i.kinded.0 i.kinded.1 h
   item_next (Leap l) v i h = absurd i.form
   item_next (Land l) v i h = set_here l false v i.labels h
-  item_next (Arrival e) v i h = rest_here v h
-  item_next (Note bs) v i h = rest_here v h
+  item_next _ v i h = rest_here v h
 
   -- ---- the other tasks of statements
 

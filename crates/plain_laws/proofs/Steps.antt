@@ -34,8 +34,7 @@ use Rattle.plain_laws.proofs.Beginning.{Q}
 pub under_node : (kind : Option IntKind) (node : NodeTree) (t : Sort) → Under (Num kind) t → Under (node_sort kind node) t
 under_node kind (Unary Not a) (Num j) u = tt
 under_node kind (Unary Not a) (ForSlot k) u = tt
-under_node kind (Unary Not a) Bit u = absurd u
-under_node kind (Unary Not a) (Spot k) u = absurd u
+under_node kind (Unary Not a) _ u = absurd u
 under_node kind (Unary op a) t u = u
 under_node kind (Binary (Arith op) a b) t u = u
 under_node kind (Binary op a b) (Num j) u = tt
@@ -51,8 +50,7 @@ none_under : (kind : Option IntKind) (t : Sort) → Under (Num None) t → Under
 none_under kind (Num None) u = tt
 none_under kind (Num (Some k)) u = cc
 none_under kind (ForSlot k) u = tt
-none_under kind Bit u = absurd u
-none_under kind (Spot k) u = absurd u
+none_under kind _ u = absurd u
 
 number_in : (kind : Option IntKind) (n : ℤ) → IsNumberOf kind n → InKind kind (Integer n)
 number_in None n h = tt

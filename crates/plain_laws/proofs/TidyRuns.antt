@@ -3,7 +3,7 @@ use Rattle.std.proofs.Common.{ℕ, zero, suc, ℤ, pos, Bool, true, false, cond,
 use Rattle.std.specs.Option.{option_map_or}
 use Rattle.c_types.specs.declared.trap.Trap.{Trap}
 use Rattle.c_tree.specs.TestTrees.{TestTree, Source, On, Off, AndOff, OrOn, SelectorTree, Selects, Pick}
-use Rattle.c_tree.specs.Trees.{Tree, Forest, Nil, Evaluate, Return, If, While, Do, For, Switch, Block, Local, Break, Continue, Goto, Mark, Arm, Leap, Land, Arrival, Note}
+use Rattle.c_tree.specs.Trees.{Tree, Forest, Nil, Evaluate, Return, If, While, Do, For, Switch, Block, Local, Break, Continue, Goto, Mark, Arm, Leap, Land}
 use Rattle.jump_meaning.specs.Values.{Value, Integer, Event, integer}
 use Rattle.jump_meaning.specs.Code.{FunctionTree, Code, items_of}
 use Rattle.jump_meaning.specs.World.{World, Outcome, Gives, Traps, Exits, push, world_at_start}
@@ -55,8 +55,7 @@ module _ (b : Forest) (g : Guards) where
   item_view (Arm l (Some e)) q = tv_goes (ti_works _ (ti_arms l q))
   item_view (Leap l) q = view_choice (g l) (tv_goes (find_tidy l b)) (tv_goes q)
   item_view (Land l) q = tv_guarding l false q
-  item_view (Arrival e) q = tv_goes q
-  item_view (Note bs) q = tv_goes q
+  item_view _ q = tv_goes q
 
   test_view : (t : TestTree) {k k' : List Task} → Tidies k k' → TidyView (view b g (Asks t ∷ k)) (view (tidy b) g (Asks t ∷ k'))
   test_view (Source e) q = tv_goes (ti_works _ q)

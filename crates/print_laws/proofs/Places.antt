@@ -49,12 +49,7 @@ all_here p at place us h e = by_piece p
     by_piece (l.Space b) = e
     by_piece (l.Line w) = e
     by_piece (l.Block w) = e
-    by_piece (l.Word w) = kept _ refl
-    by_piece (l.Number w) = kept _ refl
-    by_piece (l.Char ch) = kept _ refl
-    by_piece (l.Text cs) = kept _ refl
-    by_piece (l.Sign m) = kept _ refl
-    by_piece (l.Directive w) = kept _ refl
+    by_piece _ = kept _ refl
 
 all_behind : (ps : List Piece) (at place : ℕ) → place ≤ at → tokens_behind place (all_of token_of ps at) ≡ all_of token_of ps at
 all_behind [] at place h = refl

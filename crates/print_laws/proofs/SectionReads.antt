@@ -5,19 +5,19 @@ use Rattle.std.specs.Option.{option_map_or}
 use Rattle.c_tree.specs.declared.tree.Slot.{Slot}
 use Rattle.c_tree.specs.declared.tree.Expression.{Expression}
 use Rattle.c_tree.specs.ExpressionTrees.{ExpressionTree, expression_tree}
-use Rattle.c_tree.specs.Trees.{Tree, Forest, Nil, Then, Sections, NoSection, Section, SectionTree, sections}
+use Rattle.c_tree.specs.Trees.{Tree, Forest, Nil, Then, Sections, NoSection, Section}
 use Rattle.c_tree.specs.Trees as t
 use Rattle.c_types.specs.Words.{is_word, is_word_byte}
 use Rattle.c_tree.specs.TextPieces.{Piece, Text, spelled, ◌⨾◌, space, newline, word, punctuator, only_if, joined}
 use Rattle.c_tree.specs.TextExpressions.{expression_text}
-use Rattle.c_tree.specs.TextItems.{Shape, is_note, is_local, Printed, PrintedSection, deeper, line, list_text, is_empty, case_line, default_line, null_line, begins_with_local, ends_in_note, sections_text}
+use Rattle.c_tree.specs.TextItems.{is_note, is_local, Printed, deeper, list_text, is_empty, case_line, default_line, null_line, begins_with_local, ends_in_note}
 use Rattle.c_tree.specs.TextItems as x
 use Rattle.c_lexer.specs.Bytes.{NotFirst}
 use Rattle.c_lexer.specs.Pieces.{word_kind}
 use Rattle.c_grammar.specs.declared.class.Class.{Class}
 use Rattle.c_grammar.specs.declared.class.Class.TheVariants as c
 use Rattle.c_grammar.specs.Expressions.{conditional_tokens}
-use Rattle.c_grammar.specs.Statements.{Label, Items, NoItems, LocalItem, StatementItem, Statement, label_tokens, items_tokens, statement_tokens}
+use Rattle.c_grammar.specs.Statements.{Label, Items, NoItems, StatementItem, Statement, label_tokens, items_tokens, statement_tokens}
 use Rattle.print_laws.specs.Reread.{spelling, class_of_spelling, Comments}
 use Rattle.print_laws.specs.Notes.{items_notes}
 use Rattle.print_laws.specs.StatementDerivations.{conditional_of, default_label, labels_of, behind_labels, labelled, null_statement, starts_with_local, is_nil, ends_with_note, is_last, optional_item, section_end, items_of, sections_of}
@@ -178,13 +178,11 @@ behind_tokens (l ∷ ls) s r = ap (label_tokens l) (behind_tokens ls s r)
 labelled_tokens : (ls : List Label) (xs : Items) (r : List Class) → BeginsWithStatement xs →
     items_tokens (labelled ls xs) r ≡ labels_tokens ls (items_tokens xs r)
 labelled_tokens ls (StatementItem s xs) r h = behind_tokens ls s (items_tokens xs r)
-labelled_tokens ls NoItems r h = absurd h
-labelled_tokens ls (LocalItem x xs) r h = absurd h
+labelled_tokens ls _ r h = absurd h
 
 labelled_begins : (ls : List Label) (xs : Items) → BeginsWithStatement xs → BeginsWithStatement (labelled ls xs)
 labelled_begins ls (StatementItem s xs) h = tt
-labelled_begins ls NoItems h = absurd h
-labelled_begins ls (LocalItem x xs) h = absurd h
+labelled_begins ls _ h = absurd h
 
 optional_tokens : (b : Bool) (s : Statement) (xs : Items) (r : List Class) →
     items_tokens (optional_item b s xs) r ≡ items_tokens (optional_item b s NoItems) (items_tokens xs r)

@@ -7,7 +7,7 @@ use Rattle.c_types.specs.declared.kinds.IntKind.TheVariants as K
 use Rattle.c_tree.specs.declared.tree.Slot.{Slot}
 use Rattle.c_tree.specs.declared.tree.Function.{Function}
 use Rattle.c_tree.specs.ExpressionTrees.{ExpressionTree}
-use Rattle.c_tree.specs.TestTrees.{TestTree, Source, On, Off, AndOff, OrOn, SelectorTree, Selects, Pick}
+use Rattle.c_tree.specs.TestTrees.{TestTree, Source, SelectorTree, Selects, Pick}
 use Rattle.c_tree.specs.Trees.{Tree, Forest, Nil, Then, Sections, NoSection, Section}
 use Rattle.c_tree.specs.Trees as t
 use Rattle.c_grammar.specs.Events.{Event, Outside, Opened}
@@ -134,10 +134,7 @@ further_any slots (Then _ xs) h q w = absurd h
 
 test_any : (slots : List Slot) (c : TestTree) → TestPrints slots c → (q : List Event) → Clear q → Any (expression_events (test_of c) q)
 test_any slots (Source x) h q w = opened_any slots x h q w
-test_any slots (On l) h q w = absurd h
-test_any slots (Off l) h q w = absurd h
-test_any slots (AndOff l c) h q w = absurd h
-test_any slots (OrOn l c) h q w = absurd h
+test_any slots _ h q w = absurd h
 
 selector_any : (slots : List Slot) (s : SelectorTree) → SelectorPrints slots s → (q : List Event) → Clear q → Any (expression_events (selector_of s) q)
 selector_any slots (Selects x) h q w = opened_any slots x h q w

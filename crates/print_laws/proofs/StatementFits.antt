@@ -4,7 +4,7 @@ use Rattle.std.specs.Prelude.{◌||◌, ◌&&◌, slice_get, option_map}
 use Rattle.std.specs.Option.{option_map_or}
 use Rattle.c_tree.specs.declared.tree.Slot.{Slot}
 use Rattle.c_tree.specs.ExpressionTrees.{ExpressionTree}
-use Rattle.c_tree.specs.TestTrees.{TestTree, Source, On, Off, AndOff, OrOn, SelectorTree, Selects, Pick}
+use Rattle.c_tree.specs.TestTrees.{TestTree, Source, SelectorTree, Selects, Pick}
 use Rattle.c_tree.specs.Trees.{Tree, Forest, Nil, Then, Sections, NoSection, Section}
 use Rattle.c_tree.specs.Trees as t
 use Rattle.c_grammar.specs.Expressions.{FitsExpression, FitsAssignment, FitsConditional}
@@ -64,10 +64,7 @@ slot_declaration_fits slots k given others h = by_slot (slice_get slots k)
 
 test_fits : (c : TestTree) → FitsExpression (test_of c)
 test_fits (Source e) = fits e
-test_fits (On l) = tt
-test_fits (Off l) = tt
-test_fits (AndOff l c) = tt
-test_fits (OrOn l c) = tt
+test_fits _ = tt
 
 selector_fits : (s : SelectorTree) → FitsExpression (selector_of s)
 selector_fits (Selects e) = fits e

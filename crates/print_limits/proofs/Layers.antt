@@ -38,8 +38,7 @@ same_layer (O.Conditional a b c) = refl
 same_layer (O.Assign p a) = ap (λ z. Assign z (expression_tree a)) (place-is p)
 same_layer (O.Update op p a) = ap (λ z. Update op z (expression_tree a)) (place-is p)
 same_layer (O.Count p up after) = ap (λ z. Count z up after) (place-is p)
-same_layer (O.Comma a b) = refl
-same_layer (O.Call f xs) = refl
+same_layer _ = refl
 
 rolls : (y : Node-F Node Place Expression) → node_tree (roll-Node y) ≡ node_layer
     (map-Node Node Place Expression NodeTree PlaceTree ExpressionTree node_tree place_tree expression_tree y)

@@ -58,13 +58,7 @@ module _ (n : ℕ) (p : Program) (reads : IsProgramOf (demo_text n) p) (can : Is
   shown s out out' err err' faults faults' told told' status.Done h k still =
       inl (concludes h.demo status.Done (both_end _ _ s.value s.value h.events h.events h.source h.result))
   shown s out out' err err' faults faults' told told' status.WriteFault h k still = absurd (still k.rose)
-  shown s out out' err err' faults faults' told told' (status.Refused refusal) h k still = absurd k
-  shown s out out' err err' faults faults' told told' status.Usage h k still = absurd k
-  shown s out out' err err' faults faults' told told' status.Memory h k still = absurd k
-  shown s out out' err err' faults faults' told told' status.ReadFault h k still = absurd k
-  shown s out out' err err' faults faults' told told' (status.Trapped trap) h k still = absurd k
-  shown s out out' err err' faults faults' told told' status.Spent h k still = absurd k
-  shown s out out' err err' faults faults' told told' status.Absent h k still = absurd k
+  shown s out out' err err' faults faults' told told' _ h k still = absurd k
 
   -- where nothing was
   unshown : (said : List ℕ → Type 0) (result : Status) → Unshown said n result → Concludes n p result ⊎ (result ≡ status.Memory)
@@ -72,11 +66,7 @@ module _ (n : ℕ) (p : Program) (reads : IsProgramOf (demo_text n) p) (can : Is
   unshown said (status.Trapped trap) h = inl (concludes h.0.demo (status.Trapped trap) (trapped _ _ trap h.0.source))
   unshown said status.Spent h = inl (concludes h.0.demo status.Spent (spent _ _ h.0.goes))
   unshown said status.Memory h = inr refl
-  unshown said status.Done h = absurd h
-  unshown said status.Usage h = absurd h
-  unshown said status.ReadFault h = absurd h
-  unshown said status.WriteFault h = absurd h
-  unshown said status.Absent h = absurd h
+  unshown said _ h = absurd h
 
 pub completes : (n : ℕ) (untouched : Type 0) (out out' err err' : Written) (faults faults' told told' : ℕ) (result : Status)
     → ShowsDemo n untouched out out' faults faults' err err' told told' result → CompletesDemo n faults faults' result

@@ -35,10 +35,4 @@ pub unfit_unshown : (said : List ℕ → Type 0) (n : ℕ) (t : List ℕ) (s : S
     → Unfit said (λ refusal. IsUnfit IsProgramOf IsRefusedFor refusal t) (codes "demo") s → Unshown said n s
 unfit_unshown said n t (status.Refused refusal) e h = (subst (λ x. IsUnfit IsProgramOf IsRefusedFor refusal x) e h.0, h.1)
 unfit_unshown said n t status.Memory e h = h
-unfit_unshown said n t status.Done e h = absurd h
-unfit_unshown said n t status.Usage e h = absurd h
-unfit_unshown said n t status.ReadFault e h = absurd h
-unfit_unshown said n t status.WriteFault e h = absurd h
-unfit_unshown said n t (status.Trapped trap) e h = absurd h
-unfit_unshown said n t status.Spent e h = absurd h
-unfit_unshown said n t status.Absent e h = absurd h
+unfit_unshown said n t _ e h = absurd h

@@ -30,11 +30,7 @@ untaken_report said rejects report before reads reads' (status.Refused refusal) 
 untaken_report said rejects report before reads reads' status.Absent u = u
 untaken_report said rejects report before reads reads' status.ReadFault u = u
 untaken_report said rejects report before reads reads' status.Memory u = u
-untaken_report said rejects report before reads reads' status.Done u = absurd u
-untaken_report said rejects report before reads reads' status.Usage u = absurd u
-untaken_report said rejects report before reads reads' status.WriteFault u = absurd u
-untaken_report said rejects report before reads reads' (status.Trapped trap) u = absurd u
-untaken_report said rejects report before reads reads' status.Spent u = absurd u
+untaken_report said rejects report before reads reads' _ u = absurd u
 
 -- ---- where another read went before
 
@@ -45,11 +41,7 @@ module _ (said : List ℕ → Type 0) (report : List ℕ) (before : Option Files
   unreplayed_since rejects status.Absent u = record { lacks = u.lacks; rose = rose_since f.absences g.absences h.absences grows.absences u.rose; line = u.line }
   unreplayed_since rejects status.ReadFault u = record { rose = rose_since f.faults g.faults h.faults grows.faults u.rose; line = u.line }
   unreplayed_since rejects status.Memory u = u
-  unreplayed_since rejects status.Done u = absurd u
-  unreplayed_since rejects status.Usage u = absurd u
-  unreplayed_since rejects status.WriteFault u = absurd u
-  unreplayed_since rejects (status.Trapped trap) u = absurd u
-  unreplayed_since rejects status.Spent u = absurd u
+  unreplayed_since rejects _ u = absurd u
 
   pub replays_since : (gives : List ℕ → Translation → Type 0) (rejects : List ℕ → Refusal → Type 0) (to : List ℕ) (after : Option Files)
       (writes writes' : ℕ) (result : Status)

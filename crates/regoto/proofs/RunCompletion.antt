@@ -31,13 +31,7 @@ pub unfit_for : (said : List ℕ → Type 0) (P Q : Refusal → Type 0) (from : 
     Unfit said P from result → Unfit said Q from result
 unfit_for said P Q from (status.Refused refusal) f h = (f refusal h.0, h.1)
 unfit_for said P Q from status.Memory f h = h
-unfit_for said P Q from status.Done f h = absurd h
-unfit_for said P Q from status.Usage f h = absurd h
-unfit_for said P Q from status.ReadFault f h = absurd h
-unfit_for said P Q from status.WriteFault f h = absurd h
-unfit_for said P Q from (status.Trapped trap) f h = absurd h
-unfit_for said P Q from status.Spent f h = absurd h
-unfit_for said P Q from status.Absent f h = absurd h
+unfit_for said P Q from _ f h = absurd h
 
 -- the text that the shelf hands over is the one that it holds
 handed : (before : Option Files) (files : Files) (from text : List ℕ) (P : List ℕ → Type 0) → before ≡ Some files → get files from ≡ Some text

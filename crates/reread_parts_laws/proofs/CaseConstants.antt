@@ -48,14 +48,7 @@ mutual
       has_kind (Some k) h = refl
   node_same kind (t.Binary op a b) h = λ i. constant_same a (h.0) i && constant_same b (h.1) i
   node_same kind (t.Conditional a b c) h = λ i. constant_same a (h.0) i && constant_same b (h.1) i && constant_same c (h.2) i
-  node_same kind (t.Text bytes) h = absurd h
-  node_same kind (t.Array a) h = absurd h
-  node_same kind (t.Read p) h = absurd h
-  node_same kind (t.Assign p a) h = absurd h
-  node_same kind (t.Update op p a) h = absurd h
-  node_same kind (t.Count p up after) h = absurd h
-  node_same kind (t.Comma a b) h = absurd h
-  node_same kind (t.Call m xs) h = absurd h
+  node_same kind _ h = absurd h
 
 -- the value of a constant
 abbrev pub worth : ExpressionTree → ℤ

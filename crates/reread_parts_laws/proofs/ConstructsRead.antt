@@ -8,15 +8,15 @@ use Rattle.c_tree.specs.declared.tree.Expression.{Expression}
 use Rattle.c_tree.specs.declared.tree.Item.{Item}
 use Rattle.c_tree.specs.declared.tree.Item as item
 use Rattle.c_tree.specs.declared.tree.Test as test
-use Rattle.c_tree.specs.declared.tree.Test.{Test, out-Test, out-roll-Test}
+use Rattle.c_tree.specs.declared.tree.Test.{out-Test, out-roll-Test}
 use Rattle.c_tree.specs.declared.tree.Test.TheOpen as OT
 use Rattle.c_tree.specs.declared.tree.Test.TheVariants as TV
-use Rattle.c_tree.specs.TestTrees.{TestTree, Source, On, Off, AndOff, OrOn}
+use Rattle.c_tree.specs.TestTrees.{TestTree, Source}
 use Rattle.c_tree.specs.Trees.{Tree, Forest, Nil, Then}
 use Rattle.c_tree.specs.Trees as t
 use Rattle.c_tree.specs.TextPieces.{Piece, Text, ◌⨾◌, space, newline, indentation, word, punctuator}
 use Rattle.c_tree.specs.TextExpressions.{expression_text}
-use Rattle.c_tree.specs.TextItems.{test_step, test_text, part_text, label_name, local_text, declaration_text, list_text, braced, deeper}
+use Rattle.c_tree.specs.TextItems.{test_step, test_text, list_text, braced, deeper}
 use Rattle.c_grammar.specs.ExpressionSyntax.{expression_end}
 use Rattle.c_grammar.specs.Statements.{NoItems}
 use Rattle.c_grammar.specs.Statements as g
@@ -74,10 +74,7 @@ module _ (ts : List Top) (f : Function) (ctx : Context) (tokens : List Spelling)
         clear = λ vs. values_clear ts f ctx tokens words ss w (at + 1) x _ u (g.kind) vs;
         behind_it = a_mark ts f ctx tokens words (expression_end (at + 1) (derivation_of x)) (codes ")") ps (u.behind_it);
       }
-  test_read (On l) ss k w at ps h g s = absurd g
-  test_read (Off l) ss k w at ps h g s = absurd g
-  test_read (AndOff l x) ss k w at ps h g s = absurd g
-  test_read (OrOn l x) ss k w at ps h g s = absurd g
+  test_read _ ss k w at ps h g s = absurd g
 
   -- ---- lists of constructs
 

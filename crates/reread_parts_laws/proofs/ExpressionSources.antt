@@ -5,10 +5,10 @@ use Rattle.c_grammar.specs.declared.syntax.Syntax.{Syntax, fold-roll-Syntax}
 use Rattle.c_grammar.specs.declared.syntax.Production.{Production}
 use Rattle.c_grammar.specs.declared.syntax.Production.TheVariants as p
 use Rattle.c_grammar.specs.Nodes.{node, leaf}
-use Rattle.c_grammar.specs.Expressions.{Base, CharBase, IntBase, LongBase, LongIntBase, NumberType, OfBase, Signed, SignedOf, Unsigned, UnsignedOf, Expression, One, More, Assignment, To, Value, Conditional, Choose, Only, Binary, Single, Both, Unary, Prefixed, StepTo, CastTo, CastVoid, Place, StepAfter, CallNone, CallWith, Number, Character, Within, Target, Variable, Cell, Round, Arguments, Last, Then, Argument, Given, Written, Texts, OneText, MoreTexts}
+use Rattle.c_grammar.specs.Expressions.{Base, LongIntBase, NumberType, OfBase, SignedOf, UnsignedOf, Expression, One, More, Assignment, To, Value, Conditional, Choose, Only, Binary, Single, Both, Unary, Prefixed, StepTo, CastTo, CastVoid, Place, StepAfter, CallNone, CallWith, Number, Character, Within, Target, Variable, Cell, Round, Arguments, Last, Then, Argument, Given, Written, Texts, OneText, MoreTexts}
 use Rattle.c_grammar.specs.ExpressionSyntax.{base_parts, type_end, type_parts, type_node, expression_end, assignment_end, conditional_end, binary_end, unary_end, target_end, arguments_end, argument_end, texts_end, expression_parts, assignment_node, conditional_node, binary_node, unary_parts, target_node, arguments_parts, argument_node, texts_parts, expression_node, unary_node}
 use Rattle.c_grammar.specs.Parts.{Part, part_of, part_layer, content, form_in, form_by, term_in, terms_in, expression_form as of_expression, bracket_form, postfix_form}
-use Rattle.c_grammar.specs.Terms.{Form, Terms, At, NoTerm}
+use Rattle.c_grammar.specs.Terms.{Form, At, NoTerm}
 use Rattle.c_grammar.specs.Terms as s
 use Rattle.reread_parts_laws.specs.WrittenExpressions.{base_words, type_words, text_tokens, expression_form, expression_terms, assignment_form, conditional_form, binary_form, unary_form, target_form, arguments_terms, argument_form}
 
@@ -78,16 +78,13 @@ module _ (word : ℕ → List ℕ) where
 
   base_firsts : (at : ℕ) (b : Base) → map (λ (r : Part). r.first) (map q (base_parts at b)) ≡ base_words at b
   base_firsts at LongIntBase = λ i. token_first word at i ∷ token_first word (at + 1) i ∷ []
-  base_firsts at CharBase = λ i. token_first word at i ∷ []
-  base_firsts at IntBase = λ i. token_first word at i ∷ []
-  base_firsts at LongBase = λ i. token_first word at i ∷ []
+  base_firsts at _ = λ i. token_first word at i ∷ []
 
   type_firsts : (at : ℕ) (n : NumberType) → map (λ (r : Part). r.first) (map q (type_parts at n)) ≡ type_words at n
   type_firsts at (OfBase b) = base_firsts at b
   type_firsts at (SignedOf b) = λ i. token_first word at i ∷ base_firsts (at + 1) b i
   type_firsts at (UnsignedOf b) = λ i. token_first word at i ∷ base_firsts (at + 1) b i
-  type_firsts at Signed = λ i. token_first word at i ∷ []
-  type_firsts at Unsigned = λ i. token_first word at i ∷ []
+  type_firsts at _ = λ i. token_first word at i ∷ []
 
   -- the words of a type
   pub type_writes : (at : ℕ) (n : NumberType) → (q (type_node at n)).firsts ≡ type_words at n

@@ -8,7 +8,7 @@ use Rattle.c_lexer.specs.Marks.{mark_text}
 use Rattle.c_lexer.specs.Pieces as l
 use Rattle.c_tree.specs.declared.tree.Slot.{Slot}
 use Rattle.c_tree.specs.declared.tree.UnaryOp.{UnaryOp}
-use Rattle.c_tree.specs.declared.tree.UnaryOp.TheVariants.{Plus, Minus, Not, Flip}
+use Rattle.c_tree.specs.declared.tree.UnaryOp.TheVariants.{Plus, Minus}
 use Rattle.c_tree.specs.ExpressionTrees.{ExpressionTree, PlaceTree, NodeTree, Typed, Arguments, NoArgument, Argument}
 use Rattle.c_tree.specs.ExpressionTrees as t
 use Rattle.c_tree.specs.TextPieces.{Piece, Text, ◌⨾◌, space, word, punctuator, only_if, spaced, comma, more, listed, begins_with}
@@ -178,8 +178,7 @@ module _ (slots : List Slot) (tokens : List Spelling) (the_word : ℕ → List �
   past_unary : (op : UnaryOp) (s : Text) (at : ℕ) (ps : List Piece) → Stands tokens at ((gap op s ⨾ s) ps) → Stands tokens at (s ps)
   past_unary Plus s at ps h = past_gap tokens at (s ps) (begins_with 43 s) h
   past_unary Minus s at ps h = past_gap tokens at (s ps) (begins_with 45 s) h
-  past_unary Not s at ps h = h
-  past_unary Flip s at ps h = h
+  past_unary _ s at ps h = h
 
   abbrev The : ℕ → ExpressionTree → Type 0
   The at x = Spelled slots the_word at x

@@ -48,11 +48,7 @@ module _ (P Q R : ExpressionTree → Type 0) where
     node_all (t.Count a up after) p q r = place_all a p q r
     node_all (t.Comma a b) p q r = (within_all a (p.0) (q.0) (r.0), within_all b (p.1) (q.1) (r.1))
     node_all (t.Call m xs) p q r = arguments_all xs p q r
-    node_all (t.Number z) p q r = tt
-    node_all (t.Character b) p q r = tt
-    node_all (t.EnumName m z) p q r = tt
-    node_all (t.Text bytes) p q r = tt
-    node_all (t.Array h) p q r = tt
+    node_all _ p q r = tt
 
     place_all : (a : PlaceTree) → PlaceWithin P a → PlaceWithin Q a → PlaceWithin R a → PlaceWithin All a
     place_all (t.Var h) p q r = tt

@@ -1,5 +1,5 @@
 -- The printed text of a variable of the file reads back as the variable (ISO/IEC 9899:2011, 6.9.2).
-use Rattle.std.proofs.Common.{◌≡◌, ◌+◌, ℕ, false, List, [], ◌∷◌, map, Option, Some, None, is_some, refl, ap, sym, subst, ◌∙◌, bytes_eq}
+use Rattle.std.proofs.Common.{◌≡◌, ◌+◌, ℕ, false, List, [], ◌∷◌, map, Option, Some, None, refl, ap, sym, subst, ◌∙◌, bytes_eq}
 use Rattle.std.specs.Prelude.{codes, option_map, IfSome}
 use Rattle.c_types.specs.Words.{is_known}
 use Rattle.c_tree.specs.declared.tree.Slot.{Slot}
@@ -8,7 +8,7 @@ use Rattle.c_tree.specs.declared.tree.Top.TheVariants as T
 use Rattle.c_tree.specs.declared.tree.Top.{Top}
 use Rattle.c_tree.specs.declared.tree.GlobalVariable.{GlobalVariable}
 use Rattle.c_tree.specs.declared.tree.Expression.{Expression}
-use Rattle.c_tree.specs.ExpressionTrees.{ExpressionTree, PlaceTree, NodeTree}
+use Rattle.c_tree.specs.ExpressionTrees.{ExpressionTree, NodeTree}
 use Rattle.c_tree.specs.ExpressionTrees as t
 use Rattle.c_tree.specs.Trees.{expression_trees}
 use Rattle.c_tree.specs.Constants.{IsConstant, IsConstantNode}
@@ -70,14 +70,7 @@ module _ (n : Names) where
     node_writes kind (t.Cast a) h = (tt, constant_writes a (h.1))
     node_writes kind (t.Binary op a b) h = (tt, (constant_writes a (h.0), constant_writes b (h.1)))
     node_writes kind (t.Conditional a b c) h = (tt, (constant_writes a (h.0), constant_writes b (h.1), constant_writes c (h.2)))
-    node_writes kind (t.Text bytes) h = absurd h
-    node_writes kind (t.Array a) h = absurd h
-    node_writes kind (t.Read p) h = absurd h
-    node_writes kind (t.Assign p a) h = absurd h
-    node_writes kind (t.Update op p a) h = absurd h
-    node_writes kind (t.Count p up after) h = absurd h
-    node_writes kind (t.Comma a b) h = absurd h
-    node_writes kind (t.Call m xs) h = absurd h
+    node_writes kind _ h = absurd h
 
 -- ---- constant expressions of the file
 

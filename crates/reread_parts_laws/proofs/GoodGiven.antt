@@ -9,7 +9,7 @@ use Rattle.c_tree.specs.declared.tree.Top.{Top}
 use Rattle.c_tree.specs.declared.tree.Home.TheVariants as H
 use Rattle.c_tree.specs.ExpressionTrees.{ExpressionTree}
 use Rattle.c_tree.specs.ExpressionTrees as e
-use Rattle.c_tree.specs.TestTrees.{TestTree, Source, On, Off, AndOff, OrOn, SelectorTree, Selects, Pick}
+use Rattle.c_tree.specs.TestTrees.{TestTree, Source, SelectorTree, Selects, Pick}
 use Rattle.c_tree.specs.Trees.{Tree, Forest, Nil, Then, Sections, NoSection, Section}
 use Rattle.c_tree.specs.Trees as t
 use Rattle.c_tree.specs.Everywhere.{Everywhere, EverywhereOf, EverywhereIn}
@@ -51,18 +51,7 @@ module _ (P Q : Tree → Type 0) where
     both_of (t.For first c u a) p q = ((p.0, q.0), both_everywhere first (p.1) (q.1), both_everywhere a (p.2) (q.2))
     both_of (t.Switch s c) p q = ((p.0, q.0), both_in c (p.1) (q.1))
     both_of (t.Block a) p q = ((p.0, q.0), both_everywhere a (p.1) (q.1))
-    both_of (t.Evaluate x) p q = (p, q)
-    both_of (t.Return x) p q = (p, q)
-    both_of (t.Local k given) p q = (p, q)
-    both_of t.Break p q = (p, q)
-    both_of t.Continue p q = (p, q)
-    both_of (t.Goto l) p q = (p, q)
-    both_of (t.Mark l) p q = (p, q)
-    both_of (t.Arm l x) p q = (p, q)
-    both_of (t.Leap l) p q = (p, q)
-    both_of (t.Land l) p q = (p, q)
-    both_of (t.Arrival x) p q = (p, q)
-    both_of (t.Note bytes) p q = (p, q)
+    both_of _ p q = (p, q)
 
     both_in : (c : Sections) → EverywhereIn P c → EverywhereIn Q c → EverywhereIn Both c
     both_in NoSection p q = tt
@@ -334,10 +323,7 @@ module _ (ts : List Top) (f : Function) (ctx : Context) (result : ctx.result ≡
   test_good : (ss : List Scope) (c : TestTree) → TestExpression (KindsAgree nm) c → TestExpression (IsBound f.slots ss) c →
       TestExpression (Within (WritesNoConst nm)) c → TestExpression HasValue c → TestPrints f.slots c → IsTest nm f ctx ss c
   test_good ss (Source x) k b c v p = value_good ss 1 x k b c v p
-  test_good ss (On l) k b c v p = absurd p
-  test_good ss (Off l) k b c v p = absurd p
-  test_good ss (AndOff l x) k b c v p = absurd p
-  test_good ss (OrOn l x) k b c v p = absurd p
+  test_good ss _ k b c v p = absurd p
 
   optional_value : (ss : List Scope) (o : Option ExpressionTree) → IfSome o (KindsAgree nm) → IfSome o (IsBound f.slots ss) →
       IfSome o (Within (WritesNoConst nm)) → IfSome o HasValue → OptionPrints f.slots o → IfSome o (IsValueOf nm ss)
@@ -457,10 +443,7 @@ module _ (ts : List Top) (f : Function) (ctx : Context) (result : ctx.result ≡
     good_of (t.Goto l) ss k around h p b o m low z = record { name = p; number = labels l (form_in (t.Goto l) h) }
     good_of (t.Mark l) ss k around h p b o m low z = record { name = p; number = labels l (m.0) }
     good_of (t.Note bytes) ss k around h p b o m low z = p
-    good_of (t.Arm l x) ss k around h p b o m low z = absurd p
-    good_of (t.Leap l) ss k around h p b o m low z = absurd p
-    good_of (t.Land l) ss k around h p b o m low z = absurd p
-    good_of (t.Arrival x) ss k around h p b o m low z = absurd p
+    good_of _ ss k around h p b o m low z = absurd p
 
     pub good_in : (xs : Forest) (ss : List Scope) (k : ℕ) (around : Around) → Everywhere Fact xs → ItemsPrint f xs → AreBound f.slots ss xs →
         Ordered k (gathered declared_slot xs) (slots_in xs) → Marks (gathered marked_label xs) → f.params ≤ k

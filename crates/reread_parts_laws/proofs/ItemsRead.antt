@@ -45,10 +45,7 @@ module _ (ts : List Top) (f : Function) (ctx : Context) (tokens : List Spelling)
     item_reads (t.Mark l) = mark_reads ts f ctx tokens words l
     item_reads (t.Note bytes) = tt
     item_reads (t.Switch s c) = switch_reads ts f ctx tokens words s c (sections_read c)
-    item_reads (t.Arm l e) = λ ss k around w at depth ps h g p b. absurd g
-    item_reads (t.Leap l) = λ ss k around w at depth ps h g p b. absurd g
-    item_reads (t.Land l) = λ ss k around w at depth ps h g p b. absurd g
-    item_reads (t.Arrival e) = λ ss k around w at depth ps h g p b. absurd g
+    item_reads _ = λ ss k around w at depth ps h g p b. absurd g
 
     lone_reads : (b : Forest) → ReadsLone ts f ctx tokens words b
     lone_reads (Then (t.If c a b) Nil) = if_reads ts f ctx tokens words c a b (list_reads a) (else_reads ts f ctx tokens words b (list_reads b) (lone_reads b))

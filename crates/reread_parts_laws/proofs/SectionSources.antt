@@ -9,7 +9,7 @@ use Rattle.c_tree.specs.ExpressionTrees.{ExpressionTree}
 use Rattle.c_grammar.specs.declared.class.Class.TheVariants as c
 use Rattle.c_grammar.specs.TokenClasses.{keyword_class}
 use Rattle.c_grammar.specs.ExpressionSyntax.{conditional_end}
-use Rattle.c_grammar.specs.Statements.{NoItems, StatementItem, LocalItem, Unlabelled, Simple, Break}
+use Rattle.c_grammar.specs.Statements.{StatementItem}
 use Rattle.c_grammar.specs.Statements as g
 use Rattle.c_grammar.specs.StatementSyntax.{items_end, statement_end}
 use Rattle.c_grammar.specs.Terms.{At}
@@ -100,22 +100,19 @@ pub labelled_written : (cases : List ExpressionTree) (at : ℕ) (default : Bool)
     (written_items (section_labels_end at cases default) xs)
 labelled_written cases at default (StatementItem x xs) h =
     λ i. s.Then (s.States (put_written cases at default x i) (put_plain cases at default x i)) (written_items (put_end cases at default x i) xs)
-labelled_written cases at default NoItems h = absurd h
-labelled_written cases at default (LocalItem x xs) h = absurd h
+labelled_written cases at default _ h = absurd h
 
 pub labelled_end : (cases : List ExpressionTree) (at : ℕ) (default : Bool) (xs : g.Items) → BeginsStated xs →
     items_end at (labelled (labels_of cases default) xs) ≡ items_end (section_labels_end at cases default) xs
 labelled_end cases at default (StatementItem x xs) h = ap (λ k. items_end k xs) (put_end cases at default x)
-labelled_end cases at default NoItems h = absurd h
-labelled_end cases at default (LocalItem x xs) h = absurd h
+labelled_end cases at default _ h = absurd h
 
 pub labelled_keywords : (word : ℕ → List ℕ) (cases : List ExpressionTree) (at : ℕ) (default : Bool) (xs : g.Items) → BeginsStated xs →
     DefaultStands word (cases_end at cases) default → ItemsHaveKeywords word (section_labels_end at cases default) xs
     → ItemsHaveKeywords word at (labelled (labels_of cases default) xs)
 labelled_keywords word cases at default (StatementItem x xs) h d k =
     (put_keywords word cases at default x d (k.0), subst (λ i. ItemsHaveKeywords word i xs) (sym (put_end cases at default x)) (k.1))
-labelled_keywords word cases at default NoItems h d k = absurd h
-labelled_keywords word cases at default (LocalItem x xs) h d k = absurd h
+labelled_keywords word cases at default _ h d k = absurd h
 
 -- ---- what reading makes of them
 

@@ -66,18 +66,10 @@ module _ (last : ℕ) where
   same_key (AtEnd n) (AtEnd m) e = ap (λ k. 2 * k + 1) (eqb-true n m e)
   same_key (AtSection n) (AtSection m) e = ap (λ k. 2 * k + 1) (eqb-true n m e)
   same_key Last Last e = refl
-  same_key (Before n) (AtEnd m) e = cc
-  same_key (Before n) (AtSection m) e = cc
-  same_key (Before n) Last e = cc
-  same_key (AtEnd n) (Before m) e = cc
-  same_key (AtEnd n) (AtSection m) e = cc
-  same_key (AtEnd n) Last e = cc
-  same_key (AtSection n) (Before m) e = cc
-  same_key (AtSection n) (AtEnd m) e = cc
-  same_key (AtSection n) Last e = cc
-  same_key Last (Before m) e = cc
-  same_key Last (AtEnd m) e = cc
-  same_key Last (AtSection m) e = cc
+  same_key (Before n) _ e = cc
+  same_key (AtEnd n) _ e = cc
+  same_key (AtSection n) _ e = cc
+  same_key Last _ e = cc
 
   abbrev pub In : ℕ → ℕ → Anchor → Type 0
   In lo hi a = (lo ≤ key last a) × (key last a < hi)

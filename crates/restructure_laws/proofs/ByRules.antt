@@ -67,14 +67,10 @@ to_rule (Some to) k l p new h = move_rule k l p (record { body = new; at = to })
 alike : (r s : Rule) → AreAlike r s → kind_of r ≡ kind_of s
 alike SiblingBefore SiblingBefore h = refl
 alike SiblingBefore SiblingAfter h = refl
-alike SiblingBefore LiftOf h = absurd h
-alike SiblingBefore InwardOf h = absurd h
-alike SiblingBefore Outward h = absurd h
+alike SiblingBefore _ h = absurd h
 alike SiblingAfter SiblingBefore h = refl
 alike SiblingAfter SiblingAfter h = refl
-alike SiblingAfter LiftOf h = absurd h
-alike SiblingAfter InwardOf h = absurd h
-alike SiblingAfter Outward h = absurd h
+alike SiblingAfter _ h = absurd h
 alike LiftOf LiftOf h = refl
 alike LiftOf _ h = absurd h
 alike InwardOf InwardOf h = refl

@@ -1,6 +1,6 @@
 -- Guards that are kept as a list of the labels whose guard is set.
 use mathlib.Core.Path.{fun_ext}
-use Rattle.std.proofs.Common.{ℕ, zero, suc, ◌+◌, ◌⊎◌, inl, inr, ◌<◌, ◌≤◌, Bool, true, false, ◌||◌, cond, eqb, List, [], ◌∷◌, ◌++◌, length, get_or, take, drop, remove, ◌≡◌, ◌≢◌, refl, sym, ap, ◌∙◌, true≢false, add-one, drop-cons, arith}
+use Rattle.std.proofs.Common.{ℕ, zero, suc, ◌+◌, ◌⊎◌, inl, inr, ◌<◌, ◌≤◌, Bool, true, false, ◌||◌, cond, eqb, List, [], ◌∷◌, ◌++◌, length, get_or, take, drop, remove, ◌≡◌, ◌≢◌, refl, sym, ap, ◌∙◌, true≢false, arith}
 use Rattle.std.specs.List.{list_any}
 use Rattle.std.proofs.lemmas.Bool.Decides.{Decides-eqb}
 use Rattle.jump_meaning.specs.Step.{with_guard}
@@ -30,8 +30,7 @@ without l (x ∷ xs) = cond (eqb l x) (without l xs) (x ∷ without l xs)
 or_chosen : (a b q : Bool) → a || cond b true q ≡ cond b true (a || q)
 or_chosen true true q = refl
 or_chosen true false q = refl
-or_chosen false true q = refl
-or_chosen false false q = refl
+or_chosen false _ q = refl
 
 last_one : (l m : ℕ) → list_any (eqb m) (l ∷ []) ≡ cond (eqb l m) true false
 last_one l m = elim (either (eqb l m)) as (λ _. list_any (eqb m) (l ∷ []) ≡ cond (eqb l m) true false) [

@@ -32,23 +32,17 @@ below_pushed (x ∷ vs) v m n e = let p : n ≡ length vs + suc m = omega (arith
 -- what is known of all that an evaluation yields
 abbrev pub AllYield : {A : Type 0} → (A → Type 0) → Evaluation A → Type 0
 AllYield Q (Yields a w) = Q a
-AllYield Q (Faults t w) = Unit {0}
-AllYield Q (Quits n w) = Unit {0}
-AllYield Q (Spent w) = Unit {0}
+AllYield Q _ = Unit {0}
 
 pub yields_bind : {A B : Type 0} (Q : B → Type 0) (x : Evaluation A) (m : A → World → Evaluation B) → ((a : A) (w : World) → AllYield Q (m a w)) →
     AllYield Q (and_then x m)
 yields_bind Q (Yields a w) m h = h a w
-yields_bind Q (Faults t w) m h = tt
-yields_bind Q (Quits n w) m h = tt
-yields_bind Q (Spent w) m h = tt
+yields_bind Q _ m h = tt
 
 map_bind : {A B : Type 0} (R : A → Type 0) (Q : B → Type 0) (x : Evaluation A) (m : A → World → Evaluation B) → AllYield R x →
     ((a : A) (w : World) → R a → AllYield Q (m a w)) → AllYield Q (and_then x m)
 map_bind R Q (Yields a w) m r h = h a w r
-map_bind R Q (Faults t w) m r h = tt
-map_bind R Q (Quits n w) m r h = tt
-map_bind R Q (Spent w) m r h = tt
+map_bind R Q _ m r h = tt
 
 -- the arguments of a call are as many as the tree has
 arguments_counted : (L : LessFuel) (xs : Arguments) (w : World) → AllYield (λ vs. argument_count xs ≡ length vs + 0) (eval_arguments L xs w)

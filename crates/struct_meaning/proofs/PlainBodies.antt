@@ -5,7 +5,7 @@ use Rattle.std.specs.Option.{option_map_or}
 use Rattle.std.proofs.lemmas.Bool.{and_parts}
 use Rattle.std.proofs.lemmas.List.Elements.{All-from_recursion}
 use Rattle.c_tree.specs.declared.tree.Item.{Item, Item-F, roll-Item, fold-roll-Item, ind-Item, map-Item}
-use Rattle.c_tree.specs.declared.tree.Item.TheOpen.{Section-F, Evaluate, Return, If, While, Do, For, Switch, Block, Local, Break, Continue, Goto, Mark, Arm, Leap, Land, Arrival, Note}
+use Rattle.c_tree.specs.declared.tree.Item.TheOpen.{Section-F, If, While, Do, For, Switch, Block, Goto, Mark, Arm, Leap, Land, Arrival, Note}
 use Rattle.c_tree.specs.declared.tree.Section.{Section, fold-roll-Section, roll-Section}
 use Rattle.c_tree.specs.declared.tree.Top.{Top}
 use Rattle.c_tree.specs.declared.tree.Top.TheVariants as T
@@ -66,12 +66,7 @@ layered (Leap l) p = cc
 layered (Arrival c) p = cc
 layered (Arm l e) p = cc
 layered (Land l) p = cc
-layered (Evaluate e) p = tt
-layered (Return e) p = tt
-layered (Local k es) p = tt
-layered Break p = tt
-layered Continue p = tt
-layered (Note bs) p = tt
+layered _ p = tt
 
 item_structured : (x : Item) → P x
 unfolding tree_of section_tree

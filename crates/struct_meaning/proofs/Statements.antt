@@ -5,7 +5,7 @@ use Rattle.c_types.specs.declared.kinds.IntKind.{IntKind}
 use Rattle.c_types.specs.Numbers.{promoted}
 use Rattle.c_tree.specs.ExpressionTrees.{ExpressionTree}
 use Rattle.c_tree.specs.TestTrees.{TestTree, Source, On, Off, AndOff, OrOn, SelectorTree, Selects, Pick}
-use Rattle.c_tree.specs.Trees.{Tree, Forest, Nil, Then, Sections, NoSection, Section, Evaluate, Return, If, While, Do, For, Switch, Block, Local, Break, Continue, Goto, Mark, Arm, Leap, Land, Arrival, Note}
+use Rattle.c_tree.specs.Trees.{Tree, Forest, Nil, Then, Sections, NoSection, Section, Evaluate, Return, If, While, Do, For, Switch, Block, Local, Break, Continue, Note}
 use Rattle.c_tree.specs.Constants.{kind_of}
 use Rattle.c_tree.specs.Everywhere.{Everywhere, EverywhereOf, EverywhereIn}
 use Rattle.jump_meaning.specs.Values.{Value, integer}
@@ -14,14 +14,14 @@ use Rattle.jump_meaning.specs.World.{World, store, clear}
 use Rattle.jump_meaning.specs.Code.{Code}
 use Rattle.jump_meaning.specs.Operations.{operand_kind, holds}
 use Rattle.jump_meaning.specs.Calls.{slot_cell, is_array_slot}
-use Rattle.jump_meaning.specs.Effects.{Computes, Drops, Converts, Ends, Sets, Clears, Does}
+use Rattle.jump_meaning.specs.Effects.{Drops, Converts, Ends, Sets, Clears, Does}
 use Rattle.jump_meaning.specs.Effects as E
 use Rattle.jump_meaning.specs.Tasks.{Task, Runs, Works, Asks, Branches, Turns, Loops, Heads, AsksSelector, Enters, WhileLoop, DoLoop, ForLoop, items, end_of, tail_tasks, cut, cut_to}
 use Rattle.jump_meaning.specs.Search.{ToCase, ToDefault, is_case, or_else, seek, seek_sections, first_of_three}
 use Rattle.jump_meaning.specs.Step.{no_guards, Frame, At, is_dropped, perform, switch_kind}
 use Rattle.jump_meaning.proofs.TaskFacts.{cut_items, cut_to_items, cut_end, cut_to_end, cut_tail, cut_to_tail}
 use Rattle.struct_meaning.specs.Structured.{IsStructured}
-use Rattle.struct_meaning.specs.Structural.{Yields, Completion, Normal, Broken, Continued, Returned, Meaning, LessFuel, and_then, chosen, followed, turned, switched, nothing, eval_test, eval_selector, initialise, exec_return, declare, third_part, for_turn, unless_end, fall, here_or, entered, exec, execs, from_section, from_case, from_default}
+use Rattle.struct_meaning.specs.Structural.{Yields, Completion, Normal, Broken, Continued, Meaning, LessFuel, and_then, chosen, followed, turned, switched, nothing, eval_test, eval_selector, initialise, exec_return, declare, third_part, for_turn, unless_end, fall, here_or, entered, exec, execs, from_section, from_case, from_default}
 use Rattle.struct_meaning.proofs.Ran.{Ran, target, valued, landed, Reaches, sooner, next, there, once, bind, bind_twice}
 use Rattle.struct_meaning.proofs.Unfound.{unfound}
 use Rattle.struct_meaning.proofs.Expressions.{CallsRun, eval_ran}
@@ -43,8 +43,7 @@ module _ (P : Code) {b : ℕ} (f : List ℕ) (v : List Value) (cs : List Frame) 
   followed_ran m p q h Normal w = h w
   followed_ran m p q h Broken w = there P 0 _ (ap (λ z. At f no_guards z v cs w) p)
   followed_ran m p q h Continued w = there P 0 _ (ap (λ z. At f no_guards z v cs w) q)
-  followed_ran m p q h (Returned None) w = there P 0 _ refl
-  followed_ran m p q h (Returned (Some x)) w = there P 0 _ refl
+  followed_ran m p q h _ w = there P 0 _ refl
 
   -- of the body of a loop
   turned_ran : (m : Meaning) → cut k ≡ j → cut_to k ≡ k → ((w : World) → Ran P b (target (landed P f j v cs) (m w)) (At f no_guards k v cs w))
@@ -52,8 +51,7 @@ module _ (P : Code) {b : ℕ} (f : List ℕ) (v : List Value) (cs : List Frame) 
   turned_ran m p q h Normal w = h w
   turned_ran m p q h Broken w = there P 0 _ (ap (λ z. At f no_guards z v cs w) p)
   turned_ran m p q h Continued w = sooner P 0 _ (ap (λ z. At f no_guards z v cs w) q) (h w)
-  turned_ran m p q h (Returned None) w = there P 0 _ refl
-  turned_ran m p q h (Returned (Some x)) w = there P 0 _ refl
+  turned_ran m p q h _ w = there P 0 _ refl
 
   -- of the list of a section
   section_followed_ran : (m : Meaning) → cut k ≡ j → cut_to k ≡ cut_to j →
@@ -62,8 +60,7 @@ module _ (P : Code) {b : ℕ} (f : List ℕ) (v : List Value) (cs : List Frame) 
   section_followed_ran m p q h Normal w = h w
   section_followed_ran m p q h Broken w = there P 0 _ (ap (λ z. At f no_guards z v cs w) p)
   section_followed_ran m p q h Continued w = there P 0 _ (ap (λ z. At f no_guards z v cs w) q)
-  section_followed_ran m p q h (Returned None) w = there P 0 _ refl
-  section_followed_ran m p q h (Returned (Some x)) w = there P 0 _ refl
+  section_followed_ran m p q h _ w = there P 0 _ refl
 
 module _ (P : Code) (L : LessFuel) (b : ℕ) (sound : Sound P L b) where
   -- a statement or a list, from tasks j
@@ -212,12 +209,7 @@ module _ (P : Code) (L : LessFuel) (b : ℕ) (sound : Sound P L b) where
     exec_ran Break s f k v cs w = there P 1 _ refl
     exec_ran Continue s f k v cs w = there P 1 _ refl
     exec_ran (Note bs) s f k v cs w = there P 1 _ refl
-    exec_ran (Goto l) s f k v cs w = absurd s
-    exec_ran (Mark l) s f k v cs w = absurd s
-    exec_ran (Arm l e) s f k v cs w = absurd s
-    exec_ran (Leap l) s f k v cs w = absurd s
-    exec_ran (Land l) s f k v cs w = absurd s
-    exec_ran (Arrival e) s f k v cs w = absurd s
+    exec_ran _ s f k v cs w = absurd s
 
     pub execs_ran : (xs : Forest) → Everywhere IsStructured xs → (f : List ℕ) (k : List Task) (v : List Value) (cs : List Frame) →
         Goal (execs L xs) (items xs k) f k v cs

@@ -48,10 +48,7 @@ value_in m f e p sh c = at e
 
     at : (e : Completion) → HasSort p sh c (Num f.result) (value_left m f e)
     at (Returned (Some v)) = given_in f.result v
-    at (Returned None) = fallen_in
-    at Normal = fallen_in
-    at Broken = fallen_in
-    at Continued = fallen_in
+    at _ = fallen_in
 
 -- the body in the Worlds of its call, then what its end leaves
 module _ (p : Code) (sh : Shapes) (holes : ℕ → ℕ) (n : ℕ) where

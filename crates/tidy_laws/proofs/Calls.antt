@@ -112,10 +112,7 @@ module _ (p : Code) (sh : Shapes) (holes : ℕ → ℕ) (n : ℕ) (g : ℕ) (f :
 
     parameter_image : (s : Slot) (v : Value) → HasSort p sh n (ForSlot s.kind) v → parameter s (new_lending holes v) ≡ new_variable bored (parameter s v)
     parameter_image s (Lends o) h = ap Lent (sym (owner_before n sh o (omega arith) h.0))
-    parameter_image s (Integer z) h = refl
-    parameter_image s (Designates o i) h = refl
-    parameter_image s (Format bs) h = refl
-    parameter_image s Missing h = refl
+    parameter_image s _ h = refl
 
     start_image : (x : ℕ) → eqb x g ≡ false → slot_at_start (narrowed g f) (map (new_lending holes) vs) (new_number g x) ≡ new_variable bored
         (slot_at_start f vs x)

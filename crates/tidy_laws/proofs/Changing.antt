@@ -5,7 +5,7 @@ use Rattle.c_tree.specs.declared.tree.Slot.{Slot}
 use Rattle.c_tree.specs.declared.tree.BinaryOp.TheVariants.{AndThen}
 use Rattle.c_tree.specs.ExpressionTrees.{ExpressionTree, Typed, Binary}
 use Rattle.c_tree.specs.TestTrees.{TestTree, Source}
-use Rattle.c_tree.specs.Trees.{Tree, Forest, Nil, Then, Sections, NoSection, Section, Evaluate, Return, If, While, Do, For, Switch, Block, Local, Break, Continue, Goto, Mark, Arm, Leap, Land, Arrival, Note, join}
+use Rattle.c_tree.specs.Trees.{Tree, Forest, Nil, Then, Sections, NoSection, Section, If, While, Do, For, Switch, Block, Break, Continue, join}
 use Rattle.c_tree.specs.Changed.{one}
 use Rattle.c_tree.specs.Everywhere.{Everywhere, EverywhereOf, EverywhereIn}
 use Rattle.jump_meaning.specs.Code.{Code}
@@ -359,18 +359,7 @@ module _ (p : Code) (ss : List Slot) (start count : ℕ) where
         each_around (Makes p ss start count false a) (MakesItem p ss start count (Block a)) Block (changed_lists start count level a)
         (λ c h. (h.0, refl, (λ l. let m = h.1 l in record { middle = Block m.middle; before = like_block m.before; behind = x_block m.behind })))
         (lists_made a k.1 false level)
-    items_made (Evaluate e) k level = tt
-    items_made (Return e) k level = tt
-    items_made (Local x es) k level = tt
-    items_made Break k level = tt
-    items_made Continue k level = tt
-    items_made (Goto m) k level = tt
-    items_made (Mark m) k level = tt
-    items_made (Arm m e) k level = tt
-    items_made (Leap m) k level = tt
-    items_made (Land m) k level = tt
-    items_made (Arrival e) k level = tt
-    items_made (Note bs) k level = tt
+    items_made _ k level = tt
 
     sections_made : (s : Sections) → EverywhereIn K s → (level : ℕ) → Each (MakesSections p ss start count s) (changed_sections start count level s)
     sections_made NoSection k level = tt

@@ -49,17 +49,14 @@ module _ (p : Code) (sh : Shapes) (holes : ℕ → ℕ) (c : ℕ) where
   weaker_apart : (b : Bool) (e : Completion) (w u : World) → Apart p sh holes (breaking false e) c w u → Apart p sh holes (breaking b e) c w u
   weaker_apart b Normal w u a = a
   weaker_apart b Broken w u a = loosen p sh holes b c w u a
-  weaker_apart b Continued w u a = a
-  weaker_apart b (Returned v) w u a = a
+  weaker_apart b _ w u a = a
 
   pub weaken : (b : Bool) (m n : Meaning) → Ends (breaking false) m n → Ends (breaking b) m n
   weaken b m n h w u a = looser (Done (breaking false)) (Done (breaking b)) (m w) (n u) (λ e w d u i. (i.0, weaker_apart b e w u i.1)) (h w u a)
 
   normal_apart : (e : Completion) (w u : World) → Apart p sh holes (breaking false e) c w u → Apart p sh holes (normally e) c w u
   normal_apart Normal w u a = loosen p sh holes true c w u a
-  normal_apart Broken w u a = a
-  normal_apart Continued w u a = a
-  normal_apart (Returned v) w u a = a
+  normal_apart _ w u a = a
 
   pub weaken_normal : (m n : Meaning) → Ends (breaking false) m n → Ends normally m n
   weaken_normal m n h w u a = looser (Done (breaking false)) (Done normally) (m w) (n u) (λ e w d u i. (i.0, normal_apart e w u i.1)) (h w u a)
@@ -76,9 +73,7 @@ module _ (p : Code) (sh : Shapes) (holes : ℕ → ℕ) (c : ℕ) where
   pub followed_ends : (b : Bool) (e : Completion) (m n : Meaning) → Ends (breaking b) m n → (w u : World) → Apart p sh holes (breaking b e) c w u →
       Alike (Done (breaking b)) (followed m e w) (followed n e u)
   followed_ends b Normal m n h w u a = h w u a
-  followed_ends b Broken m n h w u a = (refl, a)
-  followed_ends b Continued m n h w u a = (refl, a)
-  followed_ends b (Returned v) m n h w u a = (refl, a)
+  followed_ends b _ m n h w u a = (refl, a)
 
   pub seq_ends : (b : Bool) (x y m n : Meaning) → Ends (breaking b) x y → Ends (breaking b) m n → Ends (breaking b) (λ w. seq (x w) m) (λ w. seq (y w) n)
   seq_ends b x y m n h k w u a = then_done (breaking b) (Done (breaking b)) (x w) (y u) (followed m) (followed n) (h w u a)

@@ -56,11 +56,7 @@ module _ (holes : ℕ → ℕ) where
 
   bytes_stay : (vs : List Value) → printed_bytes (images vs) ≡ printed_bytes vs
   bytes_stay (Format bs ∷ vs) = printed_stays InText bs vs
-  bytes_stay (Integer n ∷ vs) = refl
-  bytes_stay (Designates o i ∷ vs) = refl
-  bytes_stay (Lends o ∷ vs) = refl
-  bytes_stay (Missing ∷ vs) = refl
-  bytes_stay [] = refl
+  bytes_stay _ = refl
 
   arguments_stay : (ss : List Slot) (vs : List Value) → converted_arguments ss (images vs) ≡ converted_arguments ss vs
   arguments_stay [] vs = refl

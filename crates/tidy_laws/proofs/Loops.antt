@@ -6,7 +6,7 @@ use Rattle.c_tree.specs.Trees.{Tree, Forest, Nil, Then, While, Do, join}
 use Rattle.c_tree.specs.Changed.{one}
 use Rattle.jump_meaning.specs.World.{World}
 use Rattle.jump_meaning.specs.Operations.{holds}
-use Rattle.struct_meaning.specs.Structural.{Evaluation, Yields, Faults, Quits, Spent, Completion, Normal, Broken, Continued, Returned, Meaning, LessFuel, and_then, chosen, eval_test, nothing, followed, seq, turned, body_then, third_part, exec, execs, for_turn}
+use Rattle.struct_meaning.specs.Structural.{Evaluation, Yields, Completion, Normal, Meaning, LessFuel, and_then, chosen, eval_test, nothing, followed, seq, turned, body_then, third_part, exec, execs, for_turn}
 use Rattle.tidy_laws.specs.Likeness.{exchanged}
 use Rattle.tidy_laws.specs.Tails.{stops, reset, leaves, by_break, by_continue}
 use Rattle.tidy_laws.specs.Steps.{Leaves, breaks_while, breaks_do, continues_while, continues_do, continues_for}
@@ -17,12 +17,7 @@ use Rattle.tidy_laws.proofs.Tails.{is_on, stop_is, Left, list_left, break_escape
 
 seq_seq : (e : Evaluation Completion) (m n k : Meaning) → ((u : World) → m u ≡ seq (n u) k) → seq e m ≡ seq (seq e n) k
 seq_seq (Yields Normal w) m n k h = h w
-seq_seq (Yields Broken w) m n k h = refl
-seq_seq (Yields Continued w) m n k h = refl
-seq_seq (Yields (Returned v) w) m n k h = refl
-seq_seq (Faults t w) m n k h = refl
-seq_seq (Quits i w) m n k h = refl
-seq_seq (Spent w) m n k h = refl
+seq_seq _ m n k h = refl
 
 -- a list behind another runs after it
 pub join_is : (L : LessFuel) (a b : Forest) (w : World) → execs L (join a b) w ≡ seq (execs L a w) (execs L b)

@@ -11,7 +11,7 @@ use Rattle.c_tree.specs.declared.tree.BinaryOp.{BinaryOp}
 use Rattle.c_tree.specs.declared.tree.Home.{Home}
 use Rattle.c_tree.specs.ExpressionTrees.{ExpressionTree, Typed, Unary, Binary, Number}
 use Rattle.c_tree.specs.Operators.{unary_result, binary_result}
-use Rattle.jump_meaning.specs.Values.{Owner, Value, Integer, Designates, Lends, Format, Missing, Event, Byte, Called, integer}
+use Rattle.jump_meaning.specs.Values.{Owner, Value, Integer, Designates, Event, Byte, Called, integer}
 use Rattle.jump_meaning.specs.Code.{FunctionTree, Code}
 use Rattle.jump_meaning.specs.World.{World, Outcome, Gives, Traps, owner, kind_held, cells_held, number_held, with_number, kind_at, load, store, cell_of, cell, emit}
 use Rattle.jump_meaning.specs.Operations.{outcome, loaded, assign, counted, count_mark, count, converted_value}
@@ -112,40 +112,25 @@ module _ (p : Code) (sh : Shapes) (holes : ℕ → ℕ) (c : ℕ) where
     subst (λ j. IsInRange j (number_held (w.variables o) i)) h.1
         (own_number (owner_kind p sh o) (w.variables o) i (target_own p sh holes false c w u a o h.0)),
   )
-  load_in k (Integer z) h w u a = absurd h
-  load_in k (Lends o) h w u a = absurd h
-  load_in k (Format bs) h w u a = absurd h
-  load_in k Missing h w u a = absurd h
+  load_in k _ h w u a = absurd h
 
   pub load_same : (k : IntKind) (x : Value) → HasSort p sh c (Spot k) x → (w u : World) → Same w u → loaded (new_value holes x) u ≡ loaded x w
   load_same k (Designates o i) h w u a = ap (λ v. Integer (number_held v i)) (target_same p sh holes false c w u a o h.0)
-  load_same k (Integer z) h w u a = absurd h
-  load_same k (Lends o) h w u a = absurd h
-  load_same k (Format bs) h w u a = absurd h
-  load_same k Missing h w u a = absurd h
+  load_same k _ h w u a = absurd h
 
   -- the World after a store
   pub store_apart : (k : IntKind) (x : Value) (z : ℤ) → HasSort p sh c (Spot k) x → (w u : World) → Same w u →
       Same (store x z w) (store (new_value holes x) z u)
   store_apart k (Designates o i) z h w u a = put_apart p sh holes false c w u a (with_number i z) (number_keeps p sh holes i z) o h.0
-  store_apart k (Integer n) z h w u a = absurd h
-  store_apart k (Lends o) z h w u a = absurd h
-  store_apart k (Format bs) z h w u a = absurd h
-  store_apart k Missing z h w u a = absurd h
+  store_apart k _ z h w u a = absurd h
 
   kind_is : (k : IntKind) (x : Value) → HasSort p sh c (Spot k) x → (w u : World) → Same w u → kind_at x w ≡ k
   kind_is k (Designates o i) h w u a = own_kind (owner_kind p sh o) (w.variables o) (target_own p sh holes false c w u a o h.0) ∙ h.1
-  kind_is k (Integer n) h w u a = absurd h
-  kind_is k (Lends o) h w u a = absurd h
-  kind_is k (Format bs) h w u a = absurd h
-  kind_is k Missing h w u a = absurd h
+  kind_is k _ h w u a = absurd h
 
   kind_same : (k : IntKind) (x : Value) → HasSort p sh c (Spot k) x → (w u : World) → Same w u → kind_at (new_value holes x) u ≡ kind_at x w
   kind_same k (Designates o i) h w u a = ap kind_held (target_same p sh holes false c w u a o h.0)
-  kind_same k (Integer n) h w u a = absurd h
-  kind_same k (Lends o) h w u a = absurd h
-  kind_same k (Format bs) h w u a = absurd h
-  kind_same k Missing h w u a = absurd h
+  kind_same k _ h w u a = absurd h
 
   stored_in : (k : IntKind) (x y : Value) → HasSort p sh c (Spot k) x → (w u : World) → Same w u →
       HasSort p sh c (Num (Some k)) (converted_value (kind_at x w) y)

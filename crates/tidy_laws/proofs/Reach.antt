@@ -4,7 +4,7 @@ use Rattle.std.specs.Prelude.{All, Contains}
 use Rattle.std.specs.Option.{option_map_or}
 use Rattle.std.proofs.lemmas.List.Elements.{All-nil, All-cons, All-filter, All-contains, filter_passes}
 use Rattle.c_tree.specs.declared.tree.Slot.{Slot}
-use Rattle.c_tree.specs.Trees.{Tree, Forest, Nil, Then, Sections, NoSection, Section, Evaluate, Return, If, While, Do, For, Switch, Block, Local, Break, Continue, Goto, Mark, Arm, Leap, Land, Arrival, Note}
+use Rattle.c_tree.specs.Trees.{Tree, Forest, Nil, Then, Sections, NoSection, Section, If, While, Do, For, Switch, Block}
 use Rattle.jump_meaning.specs.Code.{FunctionTree}
 use Rattle.tidy_laws.specs.Renumbered.{without}
 use Rattle.tidy_laws.specs.Changes.{broken_loop, after_reset, both_there, continued_loop, around, changed_here, changed_lists, changed_items, changed_sections, is_allowed, changes, changes_of, changed, changed_first, changed_once, changed_times, one_more, times_changed, changed_fully}
@@ -43,18 +43,7 @@ module _ (start count : ℕ) where
         (around_reach (For f t u) (changed_lists start count level a) (lists_reach a level))
     items_reach (Switch s b) level = around_reach (Switch s) (changed_sections start count level b) (sections_reach b level)
     items_reach (Block a) level = around_reach Block (changed_lists start count level a) (lists_reach a level)
-    items_reach (Evaluate e) level = tt
-    items_reach (Return e) level = tt
-    items_reach (Local x es) level = tt
-    items_reach Break level = tt
-    items_reach Continue level = tt
-    items_reach (Goto m) level = tt
-    items_reach (Mark m) level = tt
-    items_reach (Arm m e) level = tt
-    items_reach (Leap m) level = tt
-    items_reach (Land m) level = tt
-    items_reach (Arrival e) level = tt
-    items_reach (Note bs) level = tt
+    items_reach _ level = tt
 
     sections_reach : (s : Sections) (level : ℕ) → Each Reach (changed_sections start count level s)
     sections_reach NoSection level = tt

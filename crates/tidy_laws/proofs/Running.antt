@@ -12,7 +12,7 @@ use Rattle.jump_meaning.specs.World.{World}
 use Rattle.jump_meaning.specs.Operations.{holds}
 use Rattle.jump_meaning.specs.Search.{is_case}
 use Rattle.jump_meaning.specs.Step.{switch_kind}
-use Rattle.struct_meaning.specs.Structural.{Completion, Normal, Broken, Continued, Returned, LessFuel, chosen, eval_test, eval_selector, nothing, followed, seq, body_then, fall, entered, for_turn, exec, execs, from_section, from_case, from_default}
+use Rattle.struct_meaning.specs.Structural.{Completion, Normal, Broken, LessFuel, chosen, eval_test, eval_selector, nothing, followed, seq, body_then, fall, entered, for_turn, exec, execs, from_section, from_case, from_default}
 use Rattle.tidy_laws.specs.Tails.{reset}
 use Rattle.tidy_laws.proofs.Loops.{join_is}
 use Rattle.plain_laws.proofs.Memories.{Shapes}
@@ -34,8 +34,7 @@ module _ (p : Code) (sh : Shapes) (holes : ℕ → ℕ) (c : ℕ) (L M : LessFue
       → Alike (Done p sh holes c (breaking b)) (followed (execs L (Then (reset g) xs)) e w) (followed (execs M ys) e u)
   behind b Normal xs ys h w u a = reset_ends p sh holes c L M (less.calls sh holes c) (breaking b) true xs ys h w u a
   behind b Broken xs ys h w u a = (refl, loosen p sh holes b c w u a)
-  behind b Continued xs ys h w u a = (refl, a)
-  behind b (Returned v) xs ys h w u a = (refl, a)
+  behind b _ xs ys h w u a = (refl, a)
 
   mutual
     pub items_end : {b : Bool} {a d : Forest} → Items p (sh c).slots g b a d → Ends p sh holes c (breaking b) (execs L a) (execs M d)

@@ -38,36 +38,20 @@ covers (Yields v w) (Yields b u) h = ap (λ n. Ended n u.events) h.0 ∙ ap (λ 
 covers (Faults t w) (Faults s u) h = ap (λ r. Trapped r u.events) h.0 ∙ ap (λ es. Trapped t es) h.1
 covers (Quits n w) (Quits m u) h = ap (λ n. Ended n u.events) h.0 ∙ ap (λ es. Ended n es) h.1
 covers (Spent w) (Spent u) h = ([], h ∙ sym (append-nil w.events))
-covers (Yields v w) (Faults s u) h = absurd h
-covers (Yields v w) (Quits m u) h = absurd h
-covers (Yields v w) (Spent u) h = absurd h
-covers (Faults t w) (Yields b u) h = absurd h
-covers (Faults t w) (Quits m u) h = absurd h
-covers (Faults t w) (Spent u) h = absurd h
-covers (Quits n w) (Yields b u) h = absurd h
-covers (Quits n w) (Faults s u) h = absurd h
-covers (Quits n w) (Spent u) h = absurd h
-covers (Spent w) (Yields b u) h = absurd h
-covers (Spent w) (Faults s u) h = absurd h
-covers (Spent w) (Quits m u) h = absurd h
+covers (Yields v w) _ h = absurd h
+covers (Faults t w) _ h = absurd h
+covers (Quits n w) _ h = absurd h
+covers (Spent w) _ h = absurd h
 
 turned_round : (x y : Evaluation Value) → Alike Ending x y → Alike Ending y x
 turned_round (Yields v w) (Yields b u) h = (sym h.0, sym h.1)
 turned_round (Faults t w) (Faults s u) h = (sym h.0, sym h.1)
 turned_round (Quits n w) (Quits m u) h = (sym h.0, sym h.1)
 turned_round (Spent w) (Spent u) h = sym h
-turned_round (Yields v w) (Faults s u) h = absurd h
-turned_round (Yields v w) (Quits m u) h = absurd h
-turned_round (Yields v w) (Spent u) h = absurd h
-turned_round (Faults t w) (Yields b u) h = absurd h
-turned_round (Faults t w) (Quits m u) h = absurd h
-turned_round (Faults t w) (Spent u) h = absurd h
-turned_round (Quits n w) (Yields b u) h = absurd h
-turned_round (Quits n w) (Faults s u) h = absurd h
-turned_round (Quits n w) (Spent u) h = absurd h
-turned_round (Spent w) (Yields b u) h = absurd h
-turned_round (Spent w) (Faults s u) h = absurd h
-turned_round (Spent w) (Quits m u) h = absurd h
+turned_round (Yields v w) _ h = absurd h
+turned_round (Faults t w) _ h = absurd h
+turned_round (Quits n w) _ h = absurd h
+turned_round (Spent w) _ h = absurd h
 
 numbers_stay : (holes : ℕ → ℕ) (ns : List ℤ) → map (new_lending holes) (map Integer ns) ≡ map Integer ns
 numbers_stay holes [] = refl

@@ -11,7 +11,7 @@ use Rattle.c_tree.specs.Trees.{Tree, Forest, Nil, Then, Evaluate, If}
 use Rattle.jump_meaning.specs.Values.{Integer, integer}
 use Rattle.jump_meaning.specs.World.{World, place, load}
 use Rattle.jump_meaning.specs.Operations.{holds, loaded}
-use Rattle.struct_meaning.specs.Structural.{Evaluation, Yields, Faults, Quits, Spent, Completion, Normal, Broken, Continued, Returned, Meaning, LessFuel, and_then, and_second, chosen, eval, eval_test, seq, exec, execs}
+use Rattle.struct_meaning.specs.Structural.{Evaluation, Yields, Completion, Normal, Meaning, LessFuel, and_then, and_second, chosen, eval, eval_test, seq, exec, execs}
 use Rattle.tidy_laws.specs.Tails.{reads, is_off, is_check, is_set, stops, is_end, leave_if, leaves, placed, by_break, by_continue}
 
 -- whether the slot holds another number than 0
@@ -62,19 +62,12 @@ module _ (L : LessFuel) (g : ℕ) (l : Forest) where
 
   left_seq : (e : Evaluation Completion) (m n : Meaning) → ((w : World) → Left (m w) (n w)) → Left (seq e m) (seq e n)
   left_seq (Yields Normal w) m n h = h w
-  left_seq (Yields Broken w) m n h = inl refl
-  left_seq (Yields Continued w) m n h = inl refl
-  left_seq (Yields (Returned v) w) m n h = inl refl
-  left_seq (Faults t w) m n h = inl refl
-  left_seq (Quits k w) m n h = inl refl
-  left_seq (Spent w) m n h = inl refl
+  left_seq _ m n h = inl refl
 
   left_bind : {A : Type 0} (e : Evaluation A) (m n : A → World → Evaluation Completion) → ((a : A) (w : World) → Left (m a w) (n a w)) →
       Left (and_then e m) (and_then e n)
   left_bind (Yields a w) m n h = h a w
-  left_bind (Faults t w) m n h = inl refl
-  left_bind (Quits k w) m n h = inl refl
-  left_bind (Spent w) m n h = inl refl
+  left_bind _ m n h = inl refl
 
   left_chosen : (y : Bool) (a b c d : Meaning) → ((w : World) → Left (a w) (c w)) → ((w : World) → Left (b w) (d w)) → (w : World) →
       Left (chosen y a b w) (chosen y c d w)

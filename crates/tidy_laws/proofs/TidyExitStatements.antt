@@ -90,9 +90,7 @@ module _ (R : Tree → Tree → Type 0) (s : Bool) (L M : LessFuel) where
 
   pub near_followed : (c : Completion) (m n : Meaning) → Nearly s L M m n → Nearly s L M (followed m c) (followed n c)
   near_followed Normal m n h w = h w
-  near_followed Broken m n h w = near_yields s w _
-  near_followed Continued m n h w = near_yields s w _
-  near_followed (Returned v) m n h w = near_yields s w _
+  near_followed _ m n h w = near_yields s w _
 
   pub near_turned : (c : Completion) (m n : Meaning) → Nearly s L M m n → Nearly s L M (turned m c) (turned n c)
   near_turned Normal m n h w = h w
@@ -172,12 +170,7 @@ module _ (R : Tree → Tree → Type 0) (s : Bool) (L M : LessFuel) where
     leaf_near (Leap l) h w = near_refl s w _ (grows_refl w.events)
     leaf_near (Land l) h w = near_refl s w _ (grows_refl w.events)
     leaf_near (Arrival e) h w = near_refl s w _ (grows_refl w.events)
-    leaf_near (If t a b) h w = absurd h
-    leaf_near (While t a) h w = absurd h
-    leaf_near (Do a t) h w = absurd h
-    leaf_near (For f t u a) h w = absurd h
-    leaf_near (Switch t c) h w = absurd h
-    leaf_near (Block a) h w = absurd h
+    leaf_near _ h w = absurd h
 
     -- what comes after the body of a `do`
     pub do_near : (a c : Forest) (t : TestTree) → Like R (Do a t) (Do c t)

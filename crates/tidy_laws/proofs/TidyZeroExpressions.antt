@@ -155,15 +155,13 @@ module _ (p : Code) (sh : Shapes) (holes : ℕ → ℕ) (c : ℕ) (L M : LessFue
   number_fits k (Integer n) h = tt
   number_fits k (Designates o i) h = tt
   number_fits k (Lends o) h = absurd h
-  number_fits k (Format bs) h = tt
-  number_fits k Missing h = tt
+  number_fits k _ h = tt
 
   number_stays : (v : Value) → IsNumber v → v ≡ new_lending holes v
   number_stays (Integer n) h = refl
   number_stays (Designates o i) h = refl
   number_stays (Lends o) h = absurd h
-  number_stays (Format bs) h = refl
-  number_stays Missing h = refl
+  number_stays _ h = refl
 
   module _ (calls : CallsAlike) where
     mutual

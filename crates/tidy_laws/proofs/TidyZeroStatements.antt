@@ -5,7 +5,7 @@ use Rattle.c_tree.specs.Constants.{kind_of}
 use Rattle.c_tree.specs.declared.tree.Slot.{Slot}
 use Rattle.c_tree.specs.declared.tree.Home.TheVariants as H
 use Rattle.c_tree.specs.ExpressionTrees.{ExpressionTree}
-use Rattle.c_tree.specs.Trees.{Tree, Forest, Nil, Evaluate, Return, If, While, Do, For, Switch, Block, Local, Break, Continue, Goto, Mark, Arm, Leap, Land, Arrival, Note}
+use Rattle.c_tree.specs.Trees.{Tree, Forest, Nil, Evaluate, Return, For, Local, Break, Continue, Goto, Mark, Arm, Leap, Land, Arrival, Note}
 use Rattle.jump_meaning.specs.Values.{Owner, OfCall, Variable, Holds, Lent, Designates, integer}
 use Rattle.jump_meaning.specs.Code.{Code, entry_or}
 use Rattle.jump_meaning.specs.World.{World, put, owner, store, clear, no_slot, with_zeros}
@@ -129,12 +129,7 @@ module _ (p : Code) (sh : Shapes) (holes : ℕ → ℕ) (c : ℕ) (L M : LessFue
   leaf_ends (Leap m) i k l w u a = a.events
   leaf_ends (Land m) i k l w u a = a.events
   leaf_ends (Arrival e) i k l w u a = a.events
-  leaf_ends (If t d e) i k l w u a = absurd i
-  leaf_ends (While t d) i k l w u a = absurd i
-  leaf_ends (Do d t) i k l w u a = absurd i
-  leaf_ends (For f t v d) i k l w u a = absurd i
-  leaf_ends (Switch t d) i k l w u a = absurd i
-  leaf_ends (Block d) i k l w u a = absurd i
+  leaf_ends _ i k l w u a = absurd i
 
   -- ---- loops
 

@@ -8,7 +8,7 @@ use Rattle.c_tree.specs.declared.tree.Home.{Home}
 use Rattle.c_tree.specs.declared.tree.Home.TheVariants as H
 use Rattle.c_tree.specs.ExpressionTrees.{ExpressionTree, PlaceTree, Arguments, Typed, Var, Cell, Array, Read, Unary, Cast, Binary, Conditional, Assign, Update, Count, Comma, Call, Argument}
 use Rattle.c_tree.specs.TestTrees.{TestTree, Source, On, Off, AndOff, OrOn, SelectorTree, Selects, Pick}
-use Rattle.c_tree.specs.Trees.{Tree, Forest, Nil, Then, Sections, NoSection, Section, Evaluate, Return, If, While, Do, For, Switch, Block, Local, Break, Continue, Goto, Mark, Arm, Leap, Land, Arrival, Note}
+use Rattle.c_tree.specs.Trees.{Tree, Forest, Nil, Then, Sections, NoSection, Section, Evaluate, Return, If, While, Do, For, Switch, Block, Local, Arm}
 use Rattle.c_tree.specs.Everywhere.{Everywhere, EverywhereOf, EverywhereIn}
 use Rattle.c_tree.specs.Constants.{kind_of}
 use Rattle.jump_meaning.specs.Code.{Code}
@@ -121,14 +121,7 @@ module _ (p : Code) (ss : List Slot) where
     item_free (Local x es) h = let k = values_free es h.1 in let i = home_free (H.Slot x) h.0 in (both_true _ _ i.0 k.0, ap₂ Local (ap number_of i.1) k.1)
     item_free (Arm l None) h = (refl, refl)
     item_free (Arm l (Some e)) h = let k = free e h.0 in (k.0, ap (λ x. Arm l (Some x)) k.1)
-    item_free Break h = (refl, refl)
-    item_free Continue h = (refl, refl)
-    item_free (Goto l) h = (refl, refl)
-    item_free (Mark l) h = (refl, refl)
-    item_free (Leap l) h = (refl, refl)
-    item_free (Land l) h = (refl, refl)
-    item_free (Arrival e) h = (refl, refl)
-    item_free (Note bs) h = (refl, refl)
+    item_free _ h = (refl, refl)
 
     sections_free : (c : Sections) → EverywhereIn K c → (sections_lack n c ≡ true) × (renumbered_sections n c ≡ c)
     sections_free NoSection h = (refl, refl)

@@ -48,8 +48,7 @@ module _ (n : ℕ) where
   below_top (T.Enum xs) ss h = below_constants xs ss h
   below_top (T.Global g) ss h = below_bind g.slot.name (AVariable (H.Global g.slot.name)) ss tt h
   below_top (T.Function f) ss h = below_bind f.name AFunction ss tt h
-  below_top (T.Include bytes) ss h = h
-  below_top (T.Note bytes) ss h = h
+  below_top _ ss h = h
 
   library : (ms : List (List ℕ)) (m : List ℕ) (k : ℕ) → option_or (found m (map (λ w. (w, AFunction)) ms)) None ≡ Some (AVariable (H.Slot k)) → k < n
   library [] m k e = absurd (none_some e)

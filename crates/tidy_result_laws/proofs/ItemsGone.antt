@@ -200,8 +200,7 @@ module _ (g : ℕ) where
   fits_without None (Return (Some e)) l h = absurd h
   fits_without (Some k) (Return None) l h = absurd h
   fits_without (Some k) (Return (Some e)) l h = tt
-  fits_without None x l h = tt
-  fits_without (Some k) x l h = tt
+  fits_without _ x l h = tt
 
   -- ---- cases
 

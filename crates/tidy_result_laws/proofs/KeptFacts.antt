@@ -79,8 +79,7 @@ module _ (g : ℕ) where
   fits : (result : Option IntKind) (x : Tree) → IsNoReturn x → ReturnFits result x
   fits None (Return e) i = absurd i
   fits (Some k) (Return e) i = absurd i
-  fits None x i = tt
-  fits (Some k) x i = tt
+  fits _ x i = tt
 
   pub returns_kept : (result : Option IntKind) → IsKept g (ReturnFits result)
   returns_kept result = record {

@@ -104,8 +104,7 @@ module _ (n : Names) where
 fits_tidy : (result : Option IntKind) (x : Tree) → ReturnFits result x → ReturnFits result (tidy_item x)
 fits_tidy None (Return e) h = h
 fits_tidy (Some k) (Return e) h = h
-fits_tidy None x h = tt
-fits_tidy (Some k) x h = tt
+fits_tidy _ x h = tt
 
 is_ready : (h : Function) (x : Tree) → IsPlainItem x × (HasFirst h.slots x × HasEntries x) → Ready h x
 is_ready h (For first t u a) k = (k.0, k.1.0)

@@ -65,8 +65,7 @@ module _ (all : List Top) where
   top_file (T.Enum xs) ss d o = constants_file xs ss d o
   top_file (T.Global g) ss d o = bind_file g.slot.name _ ss refl d o
   top_file (T.Function f) ss d o = bind_file f.name AFunction ss refl d o
-  top_file (T.Include bytes) ss d o = o
-  top_file (T.Note bytes) ss d o = o
+  top_file _ ss d o = o
 
   -- the library alone
   library_found : (ms : List (List ℕ)) (n : List ℕ) → IsNoSlot (found n (map (λ m. (m, AFunction)) ms))

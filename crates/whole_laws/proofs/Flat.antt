@@ -29,8 +29,7 @@ marked Absent = refl
 
 exits : (b : Aim) (x : Tree) → notes_in x ≡ [] → notes (exit b x) ≡ []
 exits (Becomes l) x e = refl
-exits Stays x e = notes_one x ∙ e
-exits Absent x e = notes_one x ∙ e
+exits _ x e = notes_one x ∙ e
 
 goto_at_end : (ends : Bool) (b : Aim) → notes (end_goto ends b) ≡ []
 goto_at_end true (Becomes l) = refl
@@ -141,8 +140,7 @@ later_by _ f g h = cc
 later_first : (e f : Ending) → is_gone e ≡ false → later e f ≡ Breaks → e ≡ Breaks
 later_first Gone f g h = cc
 later_first Breaks f g h = refl
-later_first Jumps f g h = cc
-later_first Otherwise f g h = cc
+later_first _ f g h = cc
 
 if_no_break : (b : Bool) (e : Ending) → cond b (if_jumps e) Otherwise ≡ Breaks → ⊥
 if_no_break true Jumps h = cc

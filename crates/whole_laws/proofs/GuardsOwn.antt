@@ -54,8 +54,7 @@ module _ (m : List ℕ) where
   top_other (T.Enum es) e = enums_other es e
   top_other (T.Global g) e = first_not m g.slot.name (given_names g.init) e
   top_other (T.Function f) e = first_not m f.name _ e
-  top_other (T.Include bytes) e = tt
-  top_other (T.Note bytes) e = tt
+  top_other _ e = tt
 
   pub tops_other : (ts : List Top) → has_name (tops_names ts) m ≡ false → IsFreeIn ts m
   tops_other [] e = tt

@@ -109,8 +109,7 @@ IsNoReturn _ = Unit {0}
 pub other_fits : (result : Option IntKind) (x : Tree) → IsNoReturn x → ReturnFits result x
 other_fits None (Return e) i = absurd i
 other_fits (Some k) (Return e) i = absurd i
-other_fits None x i = tt
-other_fits (Some k) x i = tt
+other_fits _ x i = tt
 
 -- what is returned: a value where the function gives one
 abbrev pub Returned : Names → Option IntKind → Option ExpressionTree → Type 0

@@ -101,8 +101,7 @@ module _ (p : Plan) where
       (e ≡ Breaks → m + n ≤ Gotos y) → m + n ≤ Gotos (cond (is_gone e) x y)
   by_last Gone f m n x y e h k = h refl e
   by_last Breaks f m n x y e h k = k refl
-  by_last Jumps f m n x y e h k = cc
-  by_last Otherwise f m n x y e h k = cc
+  by_last _ f m n x y e h k = cc
 
   mutual
     pub jumps_kept : (h : Here) (b c : Aim) (r : Arrivals) (a : Forest) → total jumps_of a ≤ Gotos (flat p h b c r a)
