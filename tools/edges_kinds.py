@@ -139,6 +139,7 @@ KINDS = {
         "while (!# && a) { a--; # = !q; }\n# = 0;\n", "int q = 0;\nwhile (a) {\nif (a == 7) { q = 1; }\n", "q = 0;\n}\n"),
     "guards of loops one inside the other": kind("", parts.deep_guards),
     "guards of 380 loops one inside the other round all of it": parts.guards_round("a++;\n"),
+    "guards of 380 loops round all of it, each set at the end of its loop": parts.guards_round("a++;\n", "# = a == 3;\n"),
     "one guard with many sets": kind("", parts.many_sets),
     "one violation at the end": kind("", parts.ordinary, "int z(void) { return q; }\n"),
 }

@@ -80,21 +80,23 @@ def all_guards(part, before="", behind=""):
     return text
 
 
-def loops_with_guards(depth):
-    """Loops one inside the other, with a guard each, which the innermost sets: the text in front of theirs, and behind."""
+def loops_with_guards(depth, end=""):
+    """Loops one inside the other, with a guard each, of which the innermost sets its own: the text in front of theirs, and
+    behind. Each loop but the innermost ends with this text."""
     declared = each(depth, lambda i: f"int g{i} = 0;\n")
     opened = each(depth, lambda i: f"while (!g{i} && a) {{\n")
-    closed = each(depth, lambda i: f"}}\ng{depth - 1 - i} = 0;\n")
-    return declared + opened, f"a--;\ng{depth - 1} = a == 3;\n" + closed
+    innermost = depth - 1
+    closed = each(innermost, lambda i: "}\ng%d = 0;\n" % (innermost - i) + end.replace("#", f"g{innermost - 1 - i}"))
+    return declared + opened, f"a--;\ng{innermost} = a == 3;\n" + closed + "}\ng0 = 0;\n"
 
 
 def deep_guards(number):
     return function(number, "".join(loops_with_guards(90)))
 
 
-def guards_round(part, depth=380):
-    """As many parts as fit, inside so many loops with a guard each."""
-    front, behind = loops_with_guards(depth)
+def guards_round(part, end="", depth=380):
+    """As many parts as fit, inside so many loops with a guard each, of which each ends with this text."""
+    front, behind = loops_with_guards(depth, end)
     return kind("int f(int a) {\n" + front, part, behind + "return a; }\n")
 
 
