@@ -10,7 +10,8 @@ use Rattle.c_tree.specs.declared.tree.Path.{Path}
 use Rattle.c_tree.specs.Paths.{list_of, child_F, child, list_at}
 use Rattle.c_tree.proofs.PathLemmas.{list_step}
 use Rattle.label_offsets.specs.Standing.{outermost}
-use Rattle.label_offsets.specs.Leaps.{under, sections_from, leaps_step, section_step, leaps_of, leaps_from, section_leaps, first}
+use Rattle.label_offsets.specs.declared.first.Sought.TheVariants as S
+use Rattle.label_offsets.specs.Leaps.{under, sections_from, paths_step, section_step, leaps_of, leaps_from, section_leaps, first}
 use Rattle.label_offsets.proofs.Firsts.{first_some, first_none}
 use Rattle.label_offsets.proofs.LeapCounts.{leaps_in, leaps_in_list, leaps_counted}
 
@@ -166,7 +167,7 @@ found_section (e ∷ cs) i k at h = elim (either (under i (B.Section k) (section
     ]
 
 layer : (y : Item-F I C) (i : ℕ) (at : Path)
-    → first (leaps_step (map-Item Item Section (ℕ → List Path) (List Path) leaps_of section_leaps (map-Item I C Item Section item_of section_of y)) i) ≡ Some at
+    → first (paths_step S.Leap (map-Item Item Section (ℕ → List Path) (List Path) leaps_of section_leaps (map-Item I C Item Section item_of section_of y)) i) ≡ Some at
     → FoundIn (roll-Item (map-Item I C Item Section item_of section_of y)) i at
 layer (Leap l) i at h = let same : record { steps = []; item = i } ≡ at = cc in here l (out-roll-Item (Leap l)) (sym same)
 layer (If t a b) i at h = elim (either (under i B.Then (leaps_from 0 (map item_of a))) (under i B.Else (leaps_from 0 (map item_of b))) at h) [
@@ -191,10 +192,10 @@ list_rolled s = ap (λ (o : Section-F Item Section). o.list) (out-roll-Section s
 item_found : (x : Item) → P x
 item_found = ind-Item P Q
     (λ x y e. subst (λ (z : Item-F Item Section). P (roll-Item z)) e (λ i at h. layer y i at
-    (sym (ap (λ (f : ℕ → List Path). first (f i)) (fold-roll-Item (ℕ → List Path) (List Path) leaps_step section_step _)) ∙ h)))
+    (sym (ap (λ (f : ℕ → List Path). first (f i)) (fold-roll-Item (ℕ → List Path) (List Path) (paths_step S.Leap) section_step _)) ∙ h)))
     (λ x y e. subst (λ (z : Section-F Item Section). Q (roll-Section z)) e (λ at h.
     subst (λ (l : List Item). Found l at) (sym (list_rolled (map-Section I C Item Section item_of section_of y)))
-    (found_list y.list at (sym (ap first (fold-roll-Section (ℕ → List Path) (List Path) leaps_step section_step _)) ∙ h))))
+    (found_list y.list at (sym (ap first (fold-roll-Section (ℕ → List Path) (List Path) (paths_step S.Leap) section_step _)) ∙ h))))
 
 abbrev each : Item → I
 each x = (x, item_found x)

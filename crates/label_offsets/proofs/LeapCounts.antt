@@ -10,7 +10,8 @@ use Rattle.c_tree.specs.declared.tree.Path.{Path}
 use Rattle.c_tree.specs.declared.tree.Step.{Step}
 use Rattle.c_tree.specs.Paths.{list_of, with_list, with_section_list, child_F, child, with_child_F, with_child, list_at, put_at}
 use Rattle.c_tree.proofs.PathLemmas.{map_some, with_there, stepped, put_step}
-use Rattle.label_offsets.specs.Leaps.{under, from, sections_from, leaps_step, section_step, leaps_of, leaps_from, section_leaps}
+use Rattle.label_offsets.specs.declared.first.Sought.TheVariants as S
+use Rattle.label_offsets.specs.Leaps.{under, from, sections_from, paths_step, section_step, leaps_of, leaps_from, section_leaps}
 
 abbrev pub total : List ℕ → ℕ
 total [] = 0
@@ -75,7 +76,7 @@ sections_length i k (e ∷ cs) =
     ∙ (λ j. (under_length i (B.Section k) (section_leaps e.0) ∙ e.1) j + sections_length i (k + 1) cs j)
 
 layer : (y : Item-F I C) (i : ℕ)
-    → length (leaps_step (map-Item Item Section (ℕ → List Path) (List Path) leaps_of section_leaps (map-Item I C Item Section (λ e. e.0) (λ e. e.0) y)) i)
+    → length (paths_step S.Leap (map-Item Item Section (ℕ → List Path) (List Path) leaps_of section_leaps (map-Item I C Item Section (λ e. e.0) (λ e. e.0) y)) i)
     ≡ leap_layer (map-Item Item Section ℕ ℕ leaps_in leaps_in_section (map-Item I C Item Section (λ e. e.0) (λ e. e.0) y))
 layer (Leap l) i = refl
 layer (If t a b) i = length-append (under i B.Then _) (under i B.Else _) ∙ (λ j. held_length i B.Then a j + held_length i B.Else b j)
@@ -89,10 +90,10 @@ layer _ i = refl
 pub leaps_counted : (x : Item) (i : ℕ) → length (leaps_of x i) ≡ leaps_in x
 leaps_counted = ind-Item P Q
     (λ x y e. subst (λ (z : Item-F Item Section). P (roll-Item z)) e (λ i.
-    ap (λ (f : ℕ → List Path). length (f i)) (fold-roll-Item (ℕ → List Path) (List Path) leaps_step section_step _) ∙ layer y i ∙
+    ap (λ (f : ℕ → List Path). length (f i)) (fold-roll-Item (ℕ → List Path) (List Path) (paths_step S.Leap) section_step _) ∙ layer y i ∙
     sym (fold-roll-Item ℕ ℕ leap_layer leap_section_layer _)))
     (λ x y e. subst (λ (z : Section-F Item Section). Q (roll-Section z)) e (
-    ap length (fold-roll-Section (ℕ → List Path) (List Path) leaps_step section_step _) ∙ from_length y.list 0 ∙
+    ap length (fold-roll-Section (ℕ → List Path) (List Path) (paths_step S.Leap) section_step _) ∙ from_length y.list 0 ∙
     sym (fold-roll-Section ℕ ℕ leap_layer leap_section_layer _)))
 
 pub length-leaps_from : (xs : List Item) (n : ℕ) → length (leaps_from n xs) ≡ leaps_in_list xs

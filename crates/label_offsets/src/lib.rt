@@ -8,7 +8,7 @@ mod places;
 mod search;
 
 pub use choice::rule_at;
-pub use first::{first_leap, first_leap_from};
+pub use first::{first_leap, first_leap_from, first_place};
 pub use marks::{first_land, has_land, holds, is_land, label_at, land_after};
 pub use places::{Rule, level, offset, outermost, path_into, path_under, relation};
 pub use search::place_of;

@@ -6,7 +6,7 @@ use Rattle.c_tree.specs.declared.tree.Function.{Function}
 use Rattle.c_tree.specs.declared.tree.Path.{Path}
 use Rattle.c_tree.specs.Trees.{trees_of}
 use Rattle.move_laws.specs.Bodies.{with_body}
-use Rattle.label_offsets.specs.Leaps.{first}
+use Rattle.label_offsets.specs.Leaps.{first, places_from}
 use Rattle.report_moves.specs.declared.moves.Move.{Move}
 use Rattle.report_moves.specs.declared.moves.MoveKind.{MoveKind}
 use Rattle.report_moves.specs.declared.moves.MoveKind.TheVariants.{Z5}
@@ -14,7 +14,6 @@ use Rattle.guard_simplify.specs.declared.choice.Choice.{Choice}
 use Rattle.guard_simplify.specs.Choice.{Among, choices, has, barred}
 use Rattle.guard_simplify.specs.Own.{own_of}
 use Rattle.guard_simplify.specs.Application.{IsApplied}
-use Rattle.move_bodies.specs.Places.{places_from}
 
 -- the labels tell which simplifications of the kind apply, as those whose guards can't go do
 abbrev pub AreBarredFor : MoveKind → List ℕ → List Item → Type 0

@@ -4,11 +4,10 @@ ghost use Rattle.std.specs.Prelude.{◌≡◌, ◌↔◌, IfOk, IfSome, IfNone, 
 ghost use Rattle.guard_simplify.specs.declared.choice.Choice.{Choice as TheChoice};
 ghost use Rattle.move_bodies.specs.Lawful.{AreBarredFor, IsAt, IsNowhere, MayCome, IsNamed};
 
-use crate::guard_places::first_place;
 use c_tree::{Item, Path, find_list};
 use c_types::{List, Memory, Name};
 use guard_simplify::{Choice, barred_labels, item_at, own_of_kind};
-use label_offsets::{Rule, relation};
+use label_offsets::{Rule, first_place, relation};
 use report_moves::{Move, MoveKind, has_name};
 use std::alloc::Global;
 

@@ -13,7 +13,8 @@ use Rattle.c_tree.specs.Trees.{Tree, Forest, Nil, Then, Sections, NoSection, Sec
 use Rattle.c_tree.specs.Trees as t
 use Rattle.c_tree.proofs.MoveLemmas.{some_same}
 use Rattle.label_offsets.specs.Leaps as P
-use Rattle.label_offsets.specs.Leaps.{section_step}
+use Rattle.label_offsets.specs.Leaps.{here_if, paths_step, section_step, paths_of, section_paths, sections_paths, places_from}
+use Rattle.label_offsets.specs.declared.first.Sought.TheVariants.{Guard}
 use Rattle.label_offsets.proofs.Firsts.{first_some, first_none}
 use Rattle.report_moves.specs.declared.moves.MoveKind.TheVariants.{Z1, Z2, Z3, Z4, Z5}
 use Rattle.guard_simplify.specs.declared.choice.Choice.{Choice}
@@ -21,7 +22,6 @@ use Rattle.guard_simplify.specs.Choice as C
 use Rattle.guard_simplify.specs.Choice.{own, choices_from, choices_in, choices_of_sections, choices, barred, unread_guard, under_one, if_some}
 use Rattle.guard_simplify.proofs.Members.{in_first, own_is, located}
 use Rattle.move_bodies.specs.Lawful.{MayCome}
-use Rattle.move_bodies.specs.Places.{here_if, places_step, places_of, places_from, section_places, sections_places}
 use Rattle.reread_parts_laws.proofs.Mirrors.{expression_in}
 use Rattle.reread_parts_laws.proofs.ItemMirrors.{test_in, selector_in, tree_in, forest_in, sections_in, items_whole}
 
@@ -33,8 +33,8 @@ abbrev mutual
   places l n (Then x xs) = places_at l x n ++ places l (n + 1) xs
 
   places_at : ℕ → Tree → ℕ → List Path
-  places_at l (t.Arm m e) i = here_if l m i
-  places_at l (t.Land m) i = here_if l m i
+  places_at l (t.Arm m e) i = here_if (l == m) i
+  places_at l (t.Land m) i = here_if (l == m) i
   places_at l (t.If x a b) i = P.under i B.Then (places l 0 a) ++ P.under i B.Else (places l 0 b)
   places_at l (t.While x a) i = P.under i B.Body (places l 0 a)
   places_at l (t.Do a x) i = P.under i B.Body (places l 0 a)
@@ -49,11 +49,11 @@ abbrev mutual
 
 -- an item by its layer
 rolled : (l : ℕ) (y : Item-F Item RealSection) (x : Item) → roll-Item y ≡ x → (i : ℕ) →
-    places_of l x i ≡ places_step l (map-Item Item RealSection (ℕ → List Path) (List Path) (places_of l) (section_places l) y) i
-rolled l y x e i = ap (λ (f : ℕ → List Path). f i) (ap (places_of l) (sym e) ∙ fold-roll-Item (ℕ → List Path) (List Path) (places_step l) section_step y)
+    paths_of (Guard l) x i ≡ paths_step (Guard l) (map-Item Item RealSection (ℕ → List Path) (List Path) (paths_of (Guard l)) (section_paths (Guard l)) y) i
+rolled l y x e i = ap (λ (f : ℕ → List Path). f i) (ap (paths_of (Guard l)) (sym e) ∙ fold-roll-Item (ℕ → List Path) (List Path) (paths_step (Guard l)) section_step y)
 
 mutual
-  item_places : (l : ℕ) (x : Tree) (i : ℕ) → places_of l (tree_in x) i ≡ places_at l x i
+  item_places : (l : ℕ) (x : Tree) (i : ℕ) → paths_of (Guard l) (tree_in x) i ≡ places_at l x i
   item_places l (t.Evaluate e) i = rolled l (I.Evaluate (expression_in e)) (tree_in (t.Evaluate e)) (V.rolls-Evaluate (expression_in e)) i
   item_places l (t.Return e) i = rolled l (I.Return (option_map expression_in e)) (tree_in (t.Return e)) (V.rolls-Return (option_map expression_in e)) i
   item_places l (t.Local k given) i = rolled l (I.Local k (option_map (map expression_in) given)) (tree_in (t.Local k given))
@@ -87,11 +87,11 @@ mutual
   list_places l Nil n = refl
   list_places l (Then x a) n = ap₂ (λ ps qs. ps ++ qs) (item_places l x n) (list_places l a (n + 1))
 
-  all_places : (l i : ℕ) (c : Sections) (k : ℕ) → sections_places l i k (sections_in c) ≡ places_in l i k c
+  all_places : (l i : ℕ) (c : Sections) (k : ℕ) → sections_paths (Guard l) i k (sections_in c) ≡ places_in l i k c
   all_places l i NoSection k = refl
   all_places l i (Section cases default a ends c) k =
       ap₂ (λ ps qs. P.under i (B.Section k) ps ++ qs)
-      (fold-roll-Section (ℕ → List Path) (List Path) (places_step l) section_step
+      (fold-roll-Section (ℕ → List Path) (List Path) (paths_step (Guard l)) section_step
       (record { cases = map expression_in cases; default = default; list = forest_in a; ends = ends }) ∙ list_places l a 0)
       (all_places l i c (k + 1))
 
@@ -129,11 +129,11 @@ module _ (bar : ℕ → Bool) (l : ℕ) (free : bar l ≡ false) where
   same_yes m true e h = absurd (true≢false (sym h ∙ (ap bar (sym (eqb-true l m e)) ∙ free)))
   same_yes m false e h = refl
 
-  here_none : (m n : ℕ) (b : Bool) → bar m ≡ b → if_some n Z5 (cond b None (Some m)) ≡ [] → here_if l m n ≡ []
+  here_none : (m n : ℕ) (b : Bool) → bar m ≡ b → if_some n Z5 (cond b None (Some m)) ≡ [] → here_if (l == m) n ≡ []
   here_none m n true e h = ap (λ b. cond {A = List Path} b (record { steps = []; item = n } ∷ []) []) (same_yes m (l == m) refl e)
   here_none m n false e h = cc
 
-  here_first : (m n : ℕ) (b : Bool) → cond {A = Option ℕ} b None (Some m) ≡ Some l → P.first (here_if l m n) ≡ Some (record { steps = []; item = n })
+  here_first : (m n : ℕ) (b : Bool) → cond {A = Option ℕ} b None (Some m) ≡ Some l → P.first (here_if (l == m) n) ≡ Some (record { steps = []; item = n })
   here_first m n true h = cc
   here_first m n false h = ap (λ b. P.first (cond {A = List Path} b (record { steps = []; item = n } ∷ []) [])) (eq-eqb l m (sym (some_same h)))
 
