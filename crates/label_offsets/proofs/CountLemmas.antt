@@ -4,8 +4,8 @@ use Rattle.c_tree.specs.declared.tree.Expression.{Expression}
 use Rattle.std.specs.Prelude.{Option}
 use Rattle.std.proofs.lemmas.List.{map_more}
 use Rattle.std.proofs.lemmas.List.Sums.{sum_by-append}
-use Rattle.c_tree.specs.declared.tree.Item.{Item, If, While, Do, For, Switch, Block, fold-roll-Item}
-use Rattle.c_tree.specs.declared.tree.Item.TheVariants.{rolls-If, rolls-While, rolls-Do, rolls-For, rolls-Switch, rolls-Block}
+use Rattle.c_tree.specs.declared.tree.Item.{Item, If, While, Do, For, Switch, fold-roll-Item}
+use Rattle.c_tree.specs.declared.tree.Item.TheVariants.{rolls-If, rolls-While, rolls-Do, rolls-For, rolls-Switch}
 use Rattle.c_tree.specs.declared.tree.Item.TheOpen as O
 use Rattle.c_tree.specs.declared.tree.Section.{Section, out-Section, fold_out-Section}
 use Rattle.c_tree.specs.declared.tree.Test.{Test}
@@ -26,9 +26,6 @@ count-For f t u a = ap count (sym (rolls-For f t u a)) ∙ fold-roll-Item ℕ �
 
 pub count-Switch : (s : Selector) (cs : List Section) → count (Switch s cs) ≡ 1 + section_counts cs
 count-Switch s cs = ap count (sym (rolls-Switch s cs)) ∙ fold-roll-Item ℕ ℕ count_step section_count_step (O.Switch s cs)
-
-pub count-Block : (a : List Item) → count (Block a) ≡ 1 + counts a
-count-Block a = ap count (sym (rolls-Block a)) ∙ fold-roll-Item ℕ ℕ count_step section_count_step (O.Block a)
 
 pub section_count-is : (c : Section) → section_count c ≡ counts (out-Section c).list
 section_count-is c = fold_out-Section ℕ ℕ count_step section_count_step c

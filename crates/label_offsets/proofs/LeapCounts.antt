@@ -1,15 +1,12 @@
 -- How many Leaps a list has, as a number that adds up, and how it changes where a list of a body is put in place of another.
-use Rattle.std.proofs.Common.{◌≡◌, ℕ, zero, suc, ◌+◌, List, [], ◌∷◌, ◌++◌, Some, length, map, take, drop, option_map, slice_get, slice_set, refl, sym, ap, subst, ◌∙◌, arith, zero-add, length-append}
+use Rattle.std.proofs.Common.{◌≡◌, ℕ, ◌+◌, List, [], ◌∷◌, length, map, refl, sym, ap, subst, ◌∙◌, length-append}
 use Rattle.std.proofs.lemmas.List.{length-map}
 use Rattle.c_tree.specs.declared.tree.Branch.{Branch}
 use Rattle.c_tree.specs.declared.tree.Branch.TheVariants as B
-use Rattle.c_tree.specs.declared.tree.Item.{Item, Item-F, out-Item, roll-Item, fold-Item, fold-roll-Item, fold_out-Item, ind-Item, map-Item}
+use Rattle.c_tree.specs.declared.tree.Item.{Item, Item-F, roll-Item, fold-Item, fold-roll-Item, ind-Item, map-Item}
 use Rattle.c_tree.specs.declared.tree.Item.TheOpen.{Section-F, If, While, Do, For, Switch, Block, Leap}
-use Rattle.c_tree.specs.declared.tree.Section.{Section, out-Section, fold-Section, fold-roll-Section, fold_out-Section, roll-Section}
+use Rattle.c_tree.specs.declared.tree.Section.{Section, fold-Section, fold-roll-Section, roll-Section}
 use Rattle.c_tree.specs.declared.tree.Path.{Path}
-use Rattle.c_tree.specs.declared.tree.Step.{Step}
-use Rattle.c_tree.specs.Paths.{list_of, with_list, with_section_list, child_F, child, with_child_F, with_child, list_at, put_at}
-use Rattle.c_tree.proofs.PathLemmas.{map_some, with_there, stepped, put_step}
 use Rattle.label_offsets.specs.declared.first.Sought.TheVariants as S
 use Rattle.label_offsets.specs.Leaps.{under, from, sections_from, paths_step, section_step, leaps_of, leaps_from, section_leaps}
 
@@ -103,80 +100,10 @@ length-leaps_from (x ∷ xs) n =
     ∙ ap (λ k. k + length (leaps_from (n + 1) xs)) (leaps_counted x n)
     ∙ ap (λ k. leaps_in x + k) (length-leaps_from xs (n + 1))
 
--- lists
-
-pub leaps_in_list-append : (xs ys : List Item) → leaps_in_list (xs ++ ys) ≡ leaps_in_list xs + leaps_in_list ys
-leaps_in_list-append [] ys = sym (zero-add (leaps_in_list ys))
-leaps_in_list-append (x ∷ xs) ys = omega (arith, leaps_in_list-append xs ys)
-
-total_set : {X : Type 0} (f : X → ℕ) (xs : List X) (i : ℕ) (x y : X) → slice_get xs i ≡ Some x → total (map f (slice_set xs i y)) + f x ≡ total (map f xs) + f y
-total_set f [] i x y e = cc
-total_set f (z ∷ zs) zero x y e = let h : z ≡ x = cc in let g : f z ≡ f x = ap f h in omega (arith, g)
-total_set f (z ∷ zs) (suc i) x y e = omega (arith, total_set f zs i x y e)
-
-pub leaps_in_list-parts : (xs : List Item) (i : ℕ) (x : Item) → slice_get xs i ≡ Some x →
-    leaps_in_list xs ≡ leaps_in_list (take i xs) + leaps_in x + leaps_in_list (drop (suc i) xs)
-leaps_in_list-parts [] i x e = cc
-leaps_in_list-parts (z ∷ zs) zero x e = let h : z ≡ x = cc in let g : leaps_in z ≡ leaps_in x = ap leaps_in h in omega (arith, g)
-leaps_in_list-parts (z ∷ zs) (suc i) x e = omega (arith, leaps_in_list-parts zs i x e)
-
-pub leaps_in_list-cut : (n : ℕ) (xs : List Item) → leaps_in_list (take n xs) + leaps_in_list (drop n xs) ≡ leaps_in_list xs
-leaps_in_list-cut zero xs = zero-add (leaps_in_list xs)
-leaps_in_list-cut (suc n) [] = refl
-leaps_in_list-cut (suc n) (x ∷ xs) = omega (arith, leaps_in_list-cut n xs)
-
 -- one layer
 
 abbrev pub leaps_in_layer : Item-F Item Section → ℕ
 leaps_in_layer y = leap_layer (map-Item Item Section ℕ ℕ leaps_in leaps_in_section y)
 
-pub leaps_in-out : (x : Item) → leaps_in x ≡ leaps_in_layer (out-Item x)
-leaps_in-out x = fold_out-Item ℕ ℕ leap_layer leap_section_layer x
-
 pub leaps_in-roll : (y : Item-F Item Section) → leaps_in (roll-Item y) ≡ leaps_in_layer y
 leaps_in-roll y = fold-roll-Item ℕ ℕ leap_layer leap_section_layer y
-
-section_with : (w : List Item) (c : Section) → leaps_in_section (with_list w c) ≡ leaps_in_list w
-section_with w c =
-    let o = out-Section c in
-    fold-roll-Section ℕ ℕ leap_layer leap_section_layer (record { cases = o.cases; default = o.default; list = w; ends = o.ends })
-
-section_is : (c : Section) → leaps_in_section c ≡ leaps_in_list (list_of c)
-section_is c = fold_out-Section ℕ ℕ leap_layer leap_section_layer c
-
-sections_with : (k : ℕ) (w : List Item) (cs : List Section) (a : List Item) → option_map list_of (slice_get cs k) ≡ Some a
-    → total (map leaps_in_section (with_section_list k w cs)) + leaps_in_list a ≡ total (map leaps_in_section cs) + leaps_in_list w
-sections_with k w cs a e =
-    let t = map_some list_of (slice_get cs k) a e in
-    let p = ap (λ l. total (map leaps_in_section l)) (with_there k w cs t.0 t.1) in
-    let q = total_set leaps_in_section cs k t.0 (with_list w t.0) t.1 in
-    let m = section_with w t.0 in
-    let n = section_is t.0 ∙ ap leaps_in_list t.2 in
-    omega (arith, p, q, m, n)
-
-layer_with : (b : Branch) (y : Item-F Item Section) (w a : List Item) → child_F b y ≡ Some a →
-    leaps_in_layer (with_child_F b w y) + leaps_in_list a ≡ leaps_in_layer y + leaps_in_list w
-layer_with B.Body (While t x) w a e = let h : x ≡ a = cc in let g : leaps_in_list x ≡ leaps_in_list a = ap leaps_in_list h in omega (arith, g)
-layer_with B.Body (Do x t) w a e = let h : x ≡ a = cc in let g : leaps_in_list x ≡ leaps_in_list a = ap leaps_in_list h in omega (arith, g)
-layer_with B.Body (For f t u x) w a e = let h : x ≡ a = cc in let g : leaps_in_list x ≡ leaps_in_list a = ap leaps_in_list h in omega (arith, g)
-layer_with B.Body (Block x) w a e = let h : x ≡ a = cc in let g : leaps_in_list x ≡ leaps_in_list a = ap leaps_in_list h in omega (arith, g)
-layer_with B.Then (If t x z) w a e = let h : x ≡ a = cc in let g : leaps_in_list x ≡ leaps_in_list a = ap leaps_in_list h in omega (arith, g)
-layer_with B.Else (If t x z) w a e = let h : z ≡ a = cc in let g : leaps_in_list z ≡ leaps_in_list a = ap leaps_in_list h in omega (arith, g)
-layer_with (B.Section k) (Switch s cs) w a e = sections_with k w cs a e
-layer_with _ _ w a e = cc
-
-item_with : (b : Branch) (x : Item) (w a : List Item) → child b x ≡ Some a → leaps_in (with_child b w x) + leaps_in_list a ≡ leaps_in x + leaps_in_list w
-item_with b x w a e = omega (arith, leaps_in-roll (with_child_F b w (out-Item x)), leaps_in-out x, layer_with b (out-Item x) w a e)
-
--- a body where w is put in place of the list a
-pub leaps_in_list-put : (xs : List Item) (ss : List Step) (w a : List Item) → list_at xs ss ≡ Some a →
-    leaps_in_list (put_at xs ss w) + leaps_in_list a ≡ leaps_in_list xs + leaps_in_list w
-leaps_in_list-put xs [] w a e = let h : xs ≡ a = cc in let g : leaps_in_list xs ≡ leaps_in_list a = ap leaps_in_list h in omega (arith, g)
-leaps_in_list-put xs (s ∷ ss) w a e =
-    let t = stepped xs s ss a e in
-    let made = with_child s.branch (put_at t.inner ss w) t.item in
-    let p = ap leaps_in_list (put_step xs s ss w t.item t.inner t.item_is t.inner_is) in
-    let q = total_set leaps_in xs s.item t.item made t.item_is in
-    let m = item_with s.branch t.item (put_at t.inner ss w) t.inner t.inner_is in
-    let n = leaps_in_list-put t.inner ss w a t.rest in
-    omega (arith, p, q, m, n)

@@ -105,9 +105,6 @@ no_land_at l xs k x h e none nothing = λ p.
     let m = everywhere_more IsPlainFor xs k x h e (everywhere_drop IsPlainFor xs k p) in
     omega (arith, lands-more l xs k x h e, is_land-none l x none, nothing (plain_inside x m.0))
 
-pub none_behind : (l : ℕ) (xs : List Item) (k : ℕ) → length xs ≤ k → HasNoLandAt l xs k
-none_behind l xs k h = λ p. lands-all l xs k h ∙ sym (lands-all l xs (k + 1) (omega (arith, h)))
-
 pub none_inside_at : (l : ℕ) (xs : List Item) (k : ℕ) (x : Item) (r : Option Path) → k < length xs → x ≡ get_or xs k x → is_land l x ≡ false →
     IfNone r (HasPlainFors x → held l x ≡ 0) → IfNone r (HasNoLandAt l xs k)
 none_inside_at l xs k x None h e none nothing = no_land_at l xs k x h e none nothing

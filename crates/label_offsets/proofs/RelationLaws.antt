@@ -1,6 +1,6 @@
 -- What the relation of two paths says of their steps.
-use Rattle.std.proofs.Common.{◌≡◌, ℕ, ◌<◌, ◌≤◌, List, [], ◌∷◌, Bool, true, false, cond, ◌==◌, ◌&&◌, nat_lt, refl, sym, ap, ◌∙◌}
-use Rattle.std.proofs.lemmas.Bool.{eqb-true, ltb-true, ltb-false}
+use Rattle.std.proofs.Common.{◌≡◌, ℕ, ◌<◌, ◌≤◌, List, [], ◌∷◌, Bool, true, false, cond, ◌==◌, nat_lt, refl, sym, ap, ◌∙◌}
+use Rattle.std.proofs.lemmas.Bool.{eqb-true, ltb-true, ltb-false, and_parts}
 use Rattle.c_tree.specs.declared.tree.Branch.{Branch}
 use Rattle.c_tree.specs.declared.tree.Branch.TheVariants as B
 use Rattle.c_tree.specs.declared.tree.Step.{Step}
@@ -15,14 +15,9 @@ same_branch-is B.Else B.Else e = refl
 same_branch-is (B.Section i) (B.Section j) e = ap (λ (k : ℕ). B.Section k) (eqb-true i j e)
 same_branch-is _ _ e = cc
 
-both : (a b : Bool) → (a && b) ≡ true → (a ≡ true) × (b ≡ true)
-both true true e = (refl, refl)
-both true false e = cc
-both false b e = cc
-
 pub same_step-is : (s t : Step) → same_step s t ≡ true → s ≡ t
 same_step-is s t e =
-    let h = both (s.item == t.item) (same_branch s.branch t.branch) e in
+    let h = and_parts (s.item == t.item) (same_branch s.branch t.branch) e in
     let f = eqb-true s.item t.item h.0 in
     let g = same_branch-is s.branch t.branch h.1 in
     ap (λ (i : ℕ). record { item = i; branch = s.branch }) f ∙ ap (λ (b : Branch). record { item = t.item; branch = b }) g

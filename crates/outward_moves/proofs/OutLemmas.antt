@@ -1,34 +1,22 @@
 -- A Leap that goes out of a construct.
-use Rattle.std.proofs.Common.{◌≡◌, ℕ, ◌+◌, ◌-◌, ◌<◌, List, [], ◌∷◌, ◌++◌, Some, length, take, drop, slice_range, slice_get, slice_set, refl, sym, ap, subst, ◌∙◌, arith, append_assoc}
+use Rattle.std.proofs.Common.{◌≡◌, ℕ, ◌+◌, ◌-◌, ◌<◌, List, [], ◌∷◌, ◌++◌, Some, length, take, drop, slice_get, slice_set, refl, sym, ap, subst, ◌∙◌, arith, append_assoc}
 use Rattle.std.specs.Option.{option_map_or}
 use Rattle.std.specs.List.{insert}
-use Rattle.std.proofs.Math.ListN.{length-drop}
-use Rattle.std.proofs.lemmas.List.{take_all, drop_all, take_more_set, drop-set-lt}
+use Rattle.std.proofs.lemmas.List.{take_more_set, drop-set-lt}
 use Rattle.std.proofs.lemmas.Option.{slice_get_within}
 use Rattle.c_tree.specs.declared.tree.Item.{Item, Leap}
 use Rattle.c_tree.specs.declared.tree.Branch.{Branch}
 use Rattle.c_tree.specs.declared.tree.Path.{Path}
 use Rattle.c_tree.specs.declared.tree.Step.{Step}
 use Rattle.c_tree.specs.Paths.{child, list_at, item_at}
-use Rattle.c_tree.specs.Join.{guarded, joined_after, Holds}
-use Rattle.c_tree.specs.Outward.{rest_guarded, left, moved_out, CanMoveOut}
+use Rattle.c_tree.specs.Join.{Holds}
+use Rattle.c_tree.specs.Outward.{left, moved_out, CanMoveOut}
 use Rattle.c_tree.proofs.PathLemmas.{stepped}
 use Rattle.c_tree.proofs.ExchangeLemmas.{list-append}
 use Rattle.c_tree.proofs.RuleChanges.{stands}
 use Rattle.label_offsets.specs.Marks.{label_at}
 use Rattle.label_offsets.proofs.MarkLaws.{same_label}
 use Rattle.outward_moves.specs.Leaving.{IsHeldElsewhere}
-
-append_nil : {X : Type 0} (xs : List X) → xs ++ [] ≡ xs
-append_nil [] = refl
-append_nil (x ∷ xs) = ap (λ l. x ∷ l) (append_nil xs)
-
-pub rest-is : (l i n : ℕ) (xs : List Item) → n ≡ length xs → joined_after l i n xs ≡ rest_guarded l i xs
-rest-is l i n xs e =
-    let whole : slice_range xs (i + 1) n ≡ drop (i + 1) xs = take_all (n - (i + 1)) (drop (i + 1) xs) (omega (arith, length-drop (i + 1) xs)) in
-    ap (λ a. take i xs ++ guarded l a ++ drop n xs) whole
-    ∙ ap (λ d. take i xs ++ guarded l (drop (i + 1) xs) ++ d) (drop_all n xs (omega arith))
-    ∙ append_nil (take i xs ++ guarded l (drop (i + 1) xs))
 
 -- the list of the construct, which is left and has the Leap put after it
 pub moved_out-is : (l k : ℕ) (b : Branch) (i : ℕ) (xs ys : List Item) (x : Item) → slice_get xs k ≡ Some x →
