@@ -8,13 +8,14 @@ use Rattle.std.specs.declared.cmp.Ordering.{Ordering}
 use Rattle.std.specs.declared.cmp.Ordering.TheVariants.{Less, Equal, Greater}
 use Rattle.std.proofs.lemmas.Bool.Decides.{nat_tests}
 use Rattle.std.proofs.lemmas.Slice.Eq.{bytes_eq-Decides}
+use Rattle.std.proofs.lemmas.Bool.{and_from, or_right, or_left}
 use Rattle.c_types.specs.Words.{name_cmp, is_letter, is_digit, is_word_byte, is_word, keywords, is_keyword}
 use Rattle.c_copies.specs.Names.{has_name, with_name}
 use Rattle.c_copies.proofs.Rising.{has_name-with_name}
 use Rattle.c_fresh_names.specs.Fresh.{numbered, first_free, fresh}
 use Rattle.c_fresh_names.proofs.NameSets.{found_unused}
 use Rattle.c_resolved_defs.specs.PrintableExpressions.{IsName}
-use Rattle.whole_laws.proofs.GuardWords.{IsTail, tail_append, decimal_tail, and_both, and_first, and_second}
+use Rattle.whole_laws.proofs.GuardWords.{IsTail, tail_append, decimal_tail, and_first, and_second}
 
 -- ---- words that end in a digit
 
@@ -75,7 +76,7 @@ no_keyword w h = not_any keywords w refl h
 
 word_more : (w t : List ℕ) → is_word w ≡ true → IsTail t → is_word (w ++ t) ≡ true
 word_more [] t e h = cc
-word_more (c ∷ w) t e h = and_both (is_letter c) (list_all is_word_byte (w ++ t)) (and_first (is_letter c) _ e)
+word_more (c ∷ w) t e h = and_from (is_letter c) (list_all is_word_byte (w ++ t)) (and_first (is_letter c) _ e)
     (tail_append w t (and_second (is_letter c) _ e) h)
 
 pub numbered_name : (w : List ℕ) (n : ℕ) → is_word w ≡ true → IsName (numbered w n)
@@ -114,14 +115,6 @@ grows_self us = (λ q e. e, omega arith)
 pub grows_then : (us vs ws : List (List ℕ)) → Grows us vs → Grows vs ws → Grows us ws
 grows_then us vs ws h k = (λ q e. k.0 q (h.0 q e), (let a = h.1 in let b = k.1 in omega (arith, a, b)))
 
-or_true : (a b : Bool) → b ≡ true → (a || b) ≡ true
-or_true true b e = refl
-or_true false b e = e
-
-or_first : (a b : Bool) → a ≡ true → (a || b) ≡ true
-or_first true b e = refl
-or_first false b e = cc
-
 longer_at : (o : Ordering) (n x : List ℕ) (xs more : List (List ℕ)) → length xs ≤ length more →
     length (x ∷ xs) ≤ length (match_ordering o (n ∷ x ∷ xs) (x ∷ xs) (x ∷ more))
 longer_at Less n x xs more h = omega arith
@@ -133,7 +126,7 @@ longer [] n = omega arith
 longer (x ∷ us) n = longer_at (name_cmp n x) n x us (with_name us n) (longer us n)
 
 pub grows_with : (us : List (List ℕ)) (n : List ℕ) → Grows us (with_name us n)
-grows_with us n = (λ q e. has_name-with_name us n q ∙ or_true (bytes_eq q n) (has_name us q) e, longer us n)
+grows_with us n = (λ q e. has_name-with_name us n q ∙ or_right (bytes_eq q n) (has_name us q) e, longer us n)
 
 pub own_with : (us : List (List ℕ)) (n : List ℕ) → has_name (with_name us n) n ≡ true
-own_with us n = has_name-with_name us n n ∙ or_first (bytes_eq n n) (has_name us n) ((bytes_eq-Decides n n).1 refl)
+own_with us n = has_name-with_name us n n ∙ or_left (bytes_eq n n) (has_name us n) ((bytes_eq-Decides n n).1 refl)

@@ -4,6 +4,7 @@ use Rattle.std.specs.Prelude.{◌≢◌}
 use Rattle.std.specs.List.{list_any}
 use Rattle.std.specs.Str.{bytes_eq}
 use Rattle.std.proofs.lemmas.Slice.Eq.{bytes_eq-Decides}
+use Rattle.std.proofs.lemmas.Bool.{or_parts, or_left}
 use Rattle.c_types.specs.Words.{is_known, known_functions}
 use Rattle.c_copies.specs.Names.{has_name, with_names, enum_name, enums_name, top_name, tops_name}
 use Rattle.c_tree.specs.declared.tree.EnumItem.{EnumItem}
@@ -20,7 +21,7 @@ use Rattle.flat_names.specs.FlatNames.{Given, Named, constructs, name_constructs
 use Rattle.c_resolved_defs.specs.Within.{Each, AllDiffer}
 use Rattle.c_resolved_defs.specs.PrintableExpressions.{IsName}
 use Rattle.whole_laws.specs.Names.{TopIsOther, IsFreeIn, HasOwnNames}
-use Rattle.whole_laws.proofs.GuardsOwn.{first_not, has_append, or_neither, tops_other, differ_append}
+use Rattle.whole_laws.proofs.GuardsOwn.{first_not, has_append, tops_other, differ_append}
 use Rattle.whole_laws.proofs.PlainLists.{each_map, each_append, drop_append}
 use Rattle.flat_function.specs.Laws.{named_flat}
 use Rattle.flat_function.specs.Own.{IsNamedIn, FlatNamesAreOwn}
@@ -40,7 +41,7 @@ turned m k e = at (bytes_eq k m) refl
 all_turned : (m : List ℕ) (ks : List (List ℕ)) → has_name ks m ≡ false → list_any (λ k. bytes_eq k m) ks ≡ false
 all_turned m [] e = refl
 all_turned m (k ∷ ks) e =
-    let h = or_neither (bytes_eq m k) (has_name ks m) e in ap (λ b. b || list_any (λ j. bytes_eq j m) ks) (turned m k h.0) ∙ all_turned m ks h.1
+    let h = or_parts (bytes_eq m k) (has_name ks m) e in ap (λ b. b || list_any (λ j. bytes_eq j m) ks) (turned m k h.0) ∙ all_turned m ks h.1
 
 module _ (m : List ℕ) where
   enums_scope : (es : List EnumItem) → has_name (enums_name es) m ≡ false → Each (λ (x : EnumItem). x.name ≢ m) es
@@ -60,10 +61,6 @@ module _ (m : List ℕ) where
 -- those of a list and of the library
 with_known : (ns : List (List ℕ)) (q : List ℕ) → has_name (with_names (with_names [] ns) known_functions) q ≡ (has_name ns q || has_name known_functions q)
 with_known ns q = in_either (with_names [] ns) known_functions q ∙ ap (λ b. b || has_name known_functions q) (in_either [] ns q)
-
-or_first : (a b : Bool) → a ≡ true → (a || b) ≡ true
-or_first true b e = refl
-or_first false b e = cc
 
 -- ---- lists of slots
 
@@ -97,10 +94,10 @@ module _ (p : Program) (names file : List (List ℕ)) (f : Function) (old new : 
 
   start : Giving names Clear taken used
   start = record {
-    named = λ m h. with_known names m ∙ or_first (has_name names m) (has_name known_functions m) h;
-    clear_taken = λ m h. (let k = or_neither (has_name file m) (has_name known_functions m) (sym (with_known file m) ∙ h) in
+    named = λ m h. with_known names m ∙ or_left (has_name names m) (has_name known_functions m) h;
+    clear_taken = λ m h. (let k = or_parts (has_name file m) (has_name known_functions m) (sym (with_known file m) ∙ h) in
         (all_turned m known_functions k.1, tops_scope m p.tops (sym (n.scope m) ∙ k.0)));
-    clear_used = λ m h. (let k = or_neither (has_name names m) (has_name known_functions m) (sym (with_known names m) ∙ h) in
+    clear_used = λ m h. (let k = or_parts (has_name names m) (has_name known_functions m) (sym (with_known names m) ∙ h) in
         (all_turned m known_functions k.1, tops_other m p.tops (sym (n.all m) ∙ k.0)));
   }
 

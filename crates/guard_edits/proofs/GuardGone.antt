@@ -239,9 +239,6 @@ pub record IsDroppedTo (l i : ℕ) (old new : List Item) : Type 0 where
   pub dropped : dropped_from (eqb l) i (trees_of new) ≡ dropped (eqb l) (trees_of old)
   pub left : items (trees_of (drop i new)) ≤ items (trees_of old)
 
-pub starts : (l : ℕ) (xs : List Item) → IsDroppedTo l 0 xs xs
-starts l xs = record { dropped = refl; left = omega arith }
-
 pub item_gone : (l i : ℕ) (old new other : List Item) (x : Item) → slice_get new i ≡ Some x → goes l x ≡ true → other ≡ remove new i →
     IsDroppedTo l i old new → IsDroppedTo l i old other
 item_gone l i old new other x e h f d =

@@ -1,5 +1,6 @@
 -- An `if` round one `if` becomes one.
-use Rattle.std.proofs.Common.{◌≡◌, Bool, true, false, ◌&&◌, ℕ, zero, suc, List, [], ◌∷◌, ◌++◌, Some, slice_get, slice_set, refl, sym, ap, ◌∙◌}
+use Rattle.std.proofs.Common.{◌≡◌, true, false, ℕ, zero, suc, List, [], ◌∷◌, ◌++◌, Some, slice_get, slice_set, refl, sym, ap, ◌∙◌}
+use Rattle.std.proofs.lemmas.Bool.{and_parts}
 use Rattle.c_tree.specs.declared.tree.Item.{Item, Item-F, If, out-Item, roll-Item, out-roll-Item, roll-out-Item}
 use Rattle.c_tree.specs.declared.tree.Section.{Section}
 use Rattle.c_tree.specs.declared.tree.Item.TheOpen as O
@@ -38,9 +39,6 @@ module _ (x : Item) (n : IsNest x) (t : Test) (list c : List Item) (e : x ≡ If
   parts : (n.test ≡ t) × (If n.inner n.list [] ∷ [] ≡ list) × ([] ≡ c)
   parts = if_same n.test t (If n.inner n.list [] ∷ []) [] list c (sym n.is ∙ e)
 
-  pub not_empty : list ≡ [] → ⊥
-  not_empty f = let g : If n.inner n.list [] ∷ [] ≡ [] = parts.1 ∙ f in cc
-
   pub last_is : (zs : List Item) (last : Item) → list ≡ zs ++ last ∷ [] → last ≡ If n.inner n.list []
   last_is zs last f = last_of zs last (If n.inner n.list []) (parts.1 ∙ f)
 
@@ -61,10 +59,6 @@ set_unnested (z ∷ xs) (suc i) x y e h = ap (Then (tree_of z)) (set_unnested xs
 
 -- ---- the shape that Z4 asks for has these parts
 
-both : (a b : Bool) → (a && b) ≡ true → (a ≡ true) × (b ≡ true)
-both true b h = (refl, h)
-both false b h = cc
-
 nil_list : (b : List Item) → is_nil (trees_of b) ≡ true → b ≡ []
 nil_list [] h = refl
 nil_list (y ∷ ys) h = let f : false ≡ true = sym (nil_is (y ∷ ys)) ∙ h in cc
@@ -76,7 +70,7 @@ record MadeIf (y : Item) : Type 0 where
 
 made_parts : (y : Item) (z : Item-F Item Section) → y ≡ roll-Item z → made_if_F z ≡ true → MadeIf y
 made_parts y (O.If u c d) e h =
-    let p = both (is_nil (trees_of d)) _ h in
+    let p = and_parts (is_nil (trees_of d)) _ h in
     record { inner = u; list = c; is = e ∙ rolls-If u c d ∙ ap (If u c) (nil_list d p.0) }
 made_parts y _ e h = cc
 
@@ -88,8 +82,8 @@ nest_list x t _ e h = cc
 
 nest_parts : (x : Item) (z : Item-F Item Section) → x ≡ roll-Item z → nested_F z ≡ true → IsNest x
 nest_parts x (O.If t a b) e h =
-    let p = both (is_nil (trees_of b)) _ h in
-    let q = both (is_off (test_tree t)) (one_if a) p.1 in
+    let p = and_parts (is_nil (trees_of b)) _ h in
+    let q = and_parts (is_off (test_tree t)) (one_if a) p.1 in
     nest_list x t a (e ∙ rolls-If t a b ∙ ap (If t a) (nil_list b p.0)) q.1
 nest_parts x _ e h = cc
 

@@ -1,5 +1,5 @@
 -- Two neighbours that are `if`s become one.
-use Rattle.std.proofs.Common.{◌≡◌, ℕ, zero, suc, ◌+◌, ◌≤◌, Bool, List, [], ◌∷◌, ◌++◌, drop, length, Option, Some, None, IsSome, slice_get, slice_set, refl, sym, ap, subst, ◌∙◌, arith}
+use Rattle.std.proofs.Common.{◌≡◌, ℕ, zero, suc, ◌+◌, Bool, List, [], ◌∷◌, ◌++◌, drop, Option, Some, None, IsSome, slice_get, slice_set, refl, sym, ap, subst, ◌∙◌, arith}
 use Rattle.std.specs.Prelude.{remove}
 use Rattle.c_tree.specs.declared.tree.Item.{Item, Item-F, If, out-Item, roll-Item, roll-out-Item}
 use Rattle.c_tree.specs.declared.tree.Section.{Section}
@@ -15,11 +15,7 @@ use Rattle.guard_simplify.specs.Application.{edited, joined}
 use Rattle.guard_simplify.specs.Choice.{neighbours}
 use Rattle.guard_simplify.specs.Views.{guard_F, guard, beside, next_guard, arms_item}
 use Rattle.guard_simplify.proofs.ViewLaws.{neighbours-item}
-use Rattle.guard_edits.specs.Built.{IsIf, first_length, first_length_F, IsJoined, ArePair}
-use Rattle.guard_edits.proofs.Nests.{out_if}
-
-pub length-If : (x : Item) (t : Test) (a b : List Item) → x ≡ If t a b → first_length x ≡ length a
-length-If x t a b e = ap first_length e ∙ ap first_length_F (out_if t a b)
+use Rattle.guard_edits.specs.Built.{IsIf, IsJoined, ArePair}
 
 pub join_is : (x y : Item) (t u : Test) (a b c d all : List Item) → x ≡ If t a b → y ≡ If u c d → all ≡ a ++ c → IsJoined x y (If t all b)
 join_is x y t u a b c d all e f g rest =

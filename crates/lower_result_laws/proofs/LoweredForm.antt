@@ -8,7 +8,6 @@ use Rattle.c_tree.specs.Exits.{breaks, continues}
 use Rattle.c_tree.specs.Labels.{ItemLabels}
 use Rattle.c_tree.specs.Trees.{Tree, Forest, Nil, Then, Goto, join, trees_of}
 use Rattle.c_tree.specs.Everywhere.{total, Everywhere, EverywhereOf}
-use Rattle.c_tree.specs.InRange.{body_of}
 use Rattle.c_tree.specs.Numerals.{constant}
 use Rattle.c_tree.proofs.WellMoved.{everywhere_map}
 use Rattle.jump_meaning.specs.Code.{function_tree}
@@ -154,9 +153,6 @@ module _ (counts : FlatCounts) (ts : List Top) (f : Function) (r : IsResolvedFun
   module _ (new : List Item) (trees : trees_of new ≡ lowered_body constant f.params f.slots source) where
     abbrev pub h : Function
     h = result counts ts f r used taken old there new
-
-    pub body_trees : body_of h ≡ join D L
-    body_trees = trees
 
     lowered : IsLowered (function_tree f) (function_tree h)
     lowered = is_lowered counts ts f r used taken old there new trees

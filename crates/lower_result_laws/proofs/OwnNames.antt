@@ -3,7 +3,7 @@ use Rattle.std.proofs.Common.{◌≡◌, ◌≢◌, ◌⊎◌, inl, inr, ℕ, ze
 use Rattle.std.specs.Prelude.{IfSome, nat_lt}
 use Rattle.std.specs.List.{list_any}
 use Rattle.std.specs.Str.{bytes_eq}
-use Rattle.std.proofs.lemmas.Bool.{or_left, or_right}
+use Rattle.std.proofs.lemmas.Bool.{or_left, or_right, or_parts, false_from_ne_true}
 use Rattle.std.proofs.lemmas.List.{append-nil}
 use Rattle.std.proofs.lemmas.List.Folds.{list_any-append}
 use Rattle.std.proofs.lemmas.Slice.Eq.{bytes_eq-Decides}
@@ -28,7 +28,7 @@ use Rattle.c_resolved_defs.specs.PrintableExpressions.{IsName}
 use Rattle.c_resolved_defs.specs.Resolved.{IsResolvedFunction}
 use Rattle.c_resolved_defs.specs.Spelling.{BodyIsSpelled, FunctionIsSpelled}
 use Rattle.whole_laws.specs.Names.{IsFreeIn, HasOwnNames}
-use Rattle.whole_laws.proofs.GuardsOwn.{or_neither, tops_other, differ_append}
+use Rattle.whole_laws.proofs.GuardsOwn.{tops_other, differ_append}
 use Rattle.whole_laws.proofs.PlainLists.{each_map, each_both, each_append, each_taken, each_dropped, drop_append, take_append}
 use Rattle.flat_function.specs.Own.{used_at_end, IsNamedIn}
 use Rattle.flat_function.proofs.Forms.{named_length}
@@ -46,25 +46,17 @@ use Rattle.lower_result_laws.proofs.FreshOnes.{In, Out, in_out, out_of, one_more
 
 -- ---- names that don't stand in a file
 
-refuted : (b : Bool) → (b ≡ true → ⊥) → b ≡ false
-refuted true f = absurd (f refl)
-refuted false f = refl
-
 turned : (m k : List ℕ) → bytes_eq m k ≡ false → bytes_eq k m ≡ false
-turned m k e = refuted (bytes_eq k m) (λ i. true≢false (sym ((bytes_eq-Decides m k).1 (sym ((bytes_eq-Decides k m).0 i))) ∙ e))
+turned m k e = false_from_ne_true (bytes_eq k m) (λ i. true≢false (sym ((bytes_eq-Decides m k).1 (sym ((bytes_eq-Decides k m).0 i))) ∙ e))
 
 all_turned : (m : List ℕ) (ks : List (List ℕ)) → has_name ks m ≡ false → list_any (λ k. bytes_eq k m) ks ≡ false
 all_turned m [] e = refl
 all_turned m (k ∷ ks) e =
-    let h = or_neither (bytes_eq m k) (has_name ks m) e in ap (λ b. b || list_any (λ j. bytes_eq j m) ks) (turned m k h.0) ∙ all_turned m ks h.1
+    let h = or_parts (bytes_eq m k) (has_name ks m) e in ap (λ b. b || list_any (λ j. bytes_eq j m) ks) (turned m k h.0) ∙ all_turned m ks h.1
 
 -- those of a list and of the library
 known_in : (ns : List (List ℕ)) (q : List ℕ) → has_name (with_known ns) q ≡ (has_name ns q || has_name known_functions q)
 known_in ns q = in_either (with_names [] ns) known_functions q ∙ ap (λ b. b || has_name known_functions q) (in_either [] ns q)
-
-or_first : (a b : Bool) → a ≡ true → (a || b) ≡ true
-or_first true b e = refl
-or_first false b e = cc
 
 -- ---- names of a function are names of its program
 
@@ -81,7 +73,7 @@ pub among_right : (xs ys all : List (List ℕ)) → AreAmong (xs ++ ys) all → 
 among_right xs ys all f q h = f q (in_both xs ys q ∙ or_right (has_name xs q) (has_name ys q) h)
 
 itself : (n : List ℕ) → has_name (n ∷ []) n ≡ true
-itself n = or_first (bytes_eq n n) false ((bytes_eq-Decides n n).1 refl)
+itself n = or_left (bytes_eq n n) false ((bytes_eq-Decides n n).1 refl)
 
 -- a variable has no name, or one of these
 abbrev IsNoneOrAmong : List (List ℕ) → Slot → Type 0
@@ -104,7 +96,7 @@ own_among all s (n, inr h) = (n, h)
 
 at_name : (ls : List (List ℕ)) (l : ℕ) (all : List (List ℕ)) → AreAmong ls all → l < length ls → In all (get_or ls l [])
 at_name [] l all f b = absurd (omega (arith, b))
-at_name (n ∷ ls) zero all f b = f n (or_first (bytes_eq n n) (has_name ls n) ((bytes_eq-Decides n n).1 refl))
+at_name (n ∷ ls) zero all f b = f n (or_left (bytes_eq n n) (has_name ls n) ((bytes_eq-Decides n n).1 refl))
 at_name (n ∷ ls) (suc l) all f b = at_name ls l all (among_right (n ∷ []) ls all f) (omega (arith, b))
 
 -- ---- block variables have used names
@@ -173,17 +165,17 @@ module _ (counts : FlatCounts) (p : Program) (f : Function) (resolved : IsResolv
   slots_there = slots_among f.slots (names p) (among_left (slots_names f.slots) f.labels (names p) parts_among)
 
   in_used : (m : List ℕ) → In (names p) m → In used m
-  in_used m h = known_in (names p) m ∙ or_first (has_name (names p) m) (has_name known_functions m) h
+  in_used m h = known_in (names p) m ∙ or_left (has_name (names p) m) (has_name known_functions m) h
 
   pub labels_used : (l : ℕ) → l < length f.labels → In used (get_or f.labels l [])
   labels_used l b = in_used (get_or f.labels l []) (at_name f.labels l (names p) (among_right (slots_names f.slots) f.labels (names p) parts_among) b)
 
   -- a name that is not used is none of the library, and none of the file
   new_unknown : (m : List ℕ) → Out used m → is_known m ≡ false
-  new_unknown m h = let k = or_neither (has_name (names p) m) (has_name known_functions m) (sym (known_in (names p) m) ∙ h) in all_turned m known_functions k.1
+  new_unknown m h = let k = or_parts (has_name (names p) m) (has_name known_functions m) (sym (known_in (names p) m) ∙ h) in all_turned m known_functions k.1
 
   new_free : (m : List ℕ) → Out used m → IsFreeIn p.tops m
-  new_free m h = let k = or_neither (has_name (names p) m) (has_name known_functions m) (sym (known_in (names p) m) ∙ h) in
+  new_free m h = let k = or_parts (has_name (names p) m) (has_name known_functions m) (sym (known_in (names p) m) ∙ h) in
       tops_other m p.tops (sym (rising-members (tops_names p.tops) m) ∙ k.0)
 
   module _ (old : List Item) (there : f.body ≡ Some old) where

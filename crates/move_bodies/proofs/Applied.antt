@@ -1,5 +1,5 @@
 -- What the four calls want of the Leap that a rule applies to, and what they make of it.
-use Rattle.std.proofs.Common.{◌≡◌, ℕ, List, Option, Some, None, option_and_then, refl, sym, ap, subst, ◌∙◌}
+use Rattle.std.proofs.Common.{◌≡◌, ℕ, List, Option, Some, None, option_and_then, sym, ap, subst, ◌∙◌}
 use Rattle.c_tree.specs.declared.tree.Item.{Item, Leap, Land}
 use Rattle.c_tree.specs.declared.tree.Path.{Path}
 use Rattle.c_tree.specs.declared.tree.Step.{Step}
@@ -9,26 +9,20 @@ use Rattle.c_tree.specs.Trees.{trees_of}
 use Rattle.c_tree.specs.WellMade.{IsWellMade}
 use Rattle.c_tree.proofs.MoveLemmas.{some_same}
 use Rattle.label_offsets.specs.declared.places.Rule.{Rule}
-use Rattle.label_offsets.specs.declared.places.Rule.TheVariants.{InwardOf, LiftOf}
+use Rattle.label_offsets.specs.declared.places.Rule.TheVariants.{InwardOf}
 use Rattle.label_offsets.specs.Choice.{Applies, IsRuleAt}
 use Rattle.label_offsets.specs.Marks.{leap_label, label_at}
 use Rattle.label_offsets.specs.Relation.{relation}
 use Rattle.label_offsets.proofs.ChoiceLaws.{one_land, rule_applies}
 use Rattle.label_offsets.proofs.OneRule.{one_rule}
 use Rattle.label_offsets.proofs.HeldLaws.{leap_label-Leap, leap-is}
-use Rattle.sibling_elim.specs.Sibling as S
-use Rattle.goto_lifting.specs.Lifting as L
-use Rattle.goto_lifting.specs.Lifting.{IsHeldBefore}
 use Rattle.outward_moves.specs.Leaving.{IsMovedOut}
-use Rattle.inward_moves.specs.Entering.{LeadsTo, IsHeldAfter, IsMovedIn}
-use Rattle.report_moves.specs.declared.moves.MoveKind.TheVariants.{Out, Lift, Inward, Join}
-use Rattle.move_order_laws.specs.Next.{GoesOut, IsLifted, GoesIn, IsJoined}
+use Rattle.inward_moves.specs.Entering.{LeadsTo, IsHeldAfter}
+use Rattle.report_moves.specs.declared.moves.MoveKind.TheVariants.{Out}
+use Rattle.move_order_laws.specs.Next.{GoesOut}
 use Rattle.move_bodies.specs.Moving.{IsMove}
 
 -- what they want
-
-pub held_before : (body : List Item) (at : Path) → IsRuleAt LiftOf body at → IsHeldBefore body at
-held_before body at r = let a = r.applies in record { label = r.label; place = a.place; applies = a.applies }
 
 pub held_after : (body : List Item) (at : Path) → IsWellMade (trees_of body) → IsRuleAt InwardOf body at → IsHeldAfter body at
 held_after body at w r =
@@ -76,27 +70,6 @@ label_there body at l e = ap (option_and_then leap_label) e ∙ leap_label-Leap 
 -- what they make
 
 module _ (body new : List Item) (at : Path) (l : ℕ) (e : label_at body at ≡ Some l) where
-  pub joined : S.IsJoined at body new → IsMove l at Join None body new
-  joined h =
-      let s = same_label body at l h.label e h.joins.applies.leap in
-      record { moves = (refl, subst (λ m. IsJoined m (record { body = body; at = at }) new) s (record { place = h.place; moves = h.joins })) }
-
-  pub lifted : (to : Path) → L.IsLifted at body new to → IsMove l at Lift (Some to) body new
-  lifted to h =
-      let s = same_label body at l h.label e h.lifts.applies.leap in
-      record {
-        moves = subst (λ m. IsLifted m (record { body = body; at = at }) (record { body = new; at = to })) s
-            (record { place = h.place; moves = h.lifts });
-      }
-
-  pub moved_in : (to : Path) → IsMovedIn at body new to → IsMove l at Inward (Some to) body new
-  moved_in to h =
-      let s = same_label body at l h.label e h.moves.applies.leap in
-      record {
-        moves = subst (λ m. GoesIn m (record { body = body; at = at }) (record { body = new; at = to })) s
-            (record { number = h.number; place = h.place; branch = h.branch; moves = h.moves });
-      }
-
   pub moved_out : (to : Path) → IsMovedOut at body new to → IsMove l at Out (Some to) body new
   moved_out to h =
       let leap = ap (λ (z : List Step). item_at body z at.item) h.steps ∙ h.moves.applies.leap in

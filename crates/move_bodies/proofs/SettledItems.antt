@@ -1,5 +1,6 @@
 -- An item without a wrapper that repeats another, and an `if` and the one in it as one, are as settled as before.
-use Rattle.std.proofs.Common.{◌≡◌, ℕ, ◌==◌, Bool, true, false, ◌||◌, ◌&&◌, Some, None, refl, sym, ap, subst, ◌∙◌}
+use Rattle.std.proofs.Common.{◌≡◌, ℕ, ◌==◌, Bool, true, false, ◌||◌, Some, None, refl, sym, ap, subst, ◌∙◌}
+use Rattle.std.proofs.lemmas.Bool.{and_parts}
 use Rattle.c_tree.specs.TestTrees.{TestTree, Off, AndOff, SelectorTree}
 use Rattle.c_tree.specs.Trees.{Tree, Forest, Nil, Then, Sections, If, While, Do, Switch}
 use Rattle.move_laws.specs.Simplifications.{DropsAnd, and_here, and_in_and, and_in_or, DropsOr, or_here, or_in_and, or_in_or, ShorterTest, again_and, again_or, only_off, shorter_and, shorter_or, DropsPick, pick_here, pick_in, ShorterSelector, again_pick, shorter_pick, round}
@@ -100,10 +101,6 @@ pub record IsNest (x : Tree) : Type 0 where
   pub off : is_off test ≡ true
   pub made : is_made inner ≡ true
 
-both : (a b : Bool) → (a && b) ≡ true → (a ≡ true) × (b ≡ true)
-both true b e = (refl, e)
-both false b e = cc
-
 nest_inner : (t : TestTree) (y : Tree) → is_off t ≡ true → is_made_if y ≡ true → IsNest (If t (Then y Nil) Nil)
 nest_inner t (If u a Nil) o h = record { test = t; inner = u; list = a; is = refl; off = o; made = h }
 nest_inner t _ o h = cc
@@ -113,7 +110,7 @@ nest_list t (Then y Nil) o h = nest_inner t y o h
 nest_list t _ o h = cc
 
 pub nest_of : (x : Tree) → is_nested x ≡ true → IsNest x
-nest_of (If t a Nil) h = let p = both (is_off t) (is_one_if a) h in nest_list t a p.0 p.1
+nest_of (If t a Nil) h = let p = and_parts (is_off t) (is_one_if a) h in nest_list t a p.0 p.1
 nest_of _ h = cc
 
 -- what it becomes

@@ -65,10 +65,6 @@ entering l m t x y e =
     let s = lands-join l t (one x) in
     omega arith
 
-lands-inside : (l : ℕ) (x : Tree) → lands_inside l x ≤ lands_of l x
-lands-inside l (Land m) = omega arith
-lands-inside l _ = omega arith
-
 moved_levels : (l : ℕ) {xs ys : Forest} → Moved xs ys → levels l ys ≤ levels l xs + lands l xs
 moved_levels l (M.join_after m t) = entering l m t (Land m) (Land m) (omega arith)
 moved_levels l (M.join_before m t) = let p = levels-join l t (one (Leap m)) in let q = lands-join l t (one (Leap m)) in omega arith

@@ -37,6 +37,3 @@ pub at_end : (text : List ℕ) (number i left : ℕ) → i ≡ length text → l
 at_end text number i left l h inv =
     let a = ap (line_start left) (drop_all i text h) ∙ none_left left in
     omega (arith, inv, a, l, h)
-
-pub found : (text : List ℕ) (number i left : ℕ) → left ≡ 0 → line_start number text ≡ i + line_start left (drop i text) → i ≡ line_start number text
-found text number i left e inv = let a = ap (λ n. line_start n (drop i text)) e in omega (arith, inv, a)

@@ -1,8 +1,9 @@
 -- The name of a guard is a name of C, and that of no known function.
-use Rattle.std.proofs.Common.{◌≡◌, ℕ, zero, suc, ◌+◌, ◌<◌, ◌%◌, ◌/◌, ◌==◌, ◌||◌, ◌&&◌, Bool, true, false, cond, codes, List, [], ◌∷◌, ◌++◌, length, refl, sym, ap, subst, ◌∙◌, arith, append_assoc}
+use Rattle.std.proofs.Common.{◌≡◌, ℕ, zero, suc, ◌+◌, ◌<◌, ◌%◌, ◌/◌, ◌==◌, ◌&&◌, Bool, true, false, cond, codes, List, [], ◌∷◌, ◌++◌, length, refl, sym, ap, subst, ◌∙◌, arith, append_assoc}
 use Rattle.std.specs.List.{list_all, AllByRecursion}
 use Rattle.std.specs.Fmt.{decimal, digits, digits_onto, digit_glyph}
 use Rattle.std.proofs.lemmas.Bool.Decides.{nat_tests}
+use Rattle.std.proofs.lemmas.Bool.{and_from, or_left, or_right}
 use Rattle.c_types.specs.Words.{is_letter, is_digit, is_word_byte, is_word, is_keyword, is_known}
 use Rattle.c_copies.specs.Names.{has_name, with_name}
 use Rattle.c_fresh_names.specs.Fresh.{numbered, first_free, fresh}
@@ -14,10 +15,6 @@ use Rattle.c_resolved_defs.specs.PrintableExpressions.{IsName}
 abbrev pub IsTail : List ℕ → Type 0
 IsTail w = list_all is_word_byte w ≡ true
 
-pub and_both : (a b : Bool) → a ≡ true → b ≡ true → (a && b) ≡ true
-and_both true b e h = h
-and_both false b e h = e
-
 pub and_first : (a b : Bool) → (a && b) ≡ true → a ≡ true
 and_first true b e = refl
 and_first false b e = e
@@ -26,22 +23,14 @@ pub and_second : (a b : Bool) → (a && b) ≡ true → b ≡ true
 and_second true b e = e
 and_second false b e = cc
 
-or_first : (a b : Bool) → a ≡ true → (a || b) ≡ true
-or_first true b e = refl
-or_first false b e = cc
-
-or_second : (a b : Bool) → b ≡ true → (a || b) ≡ true
-or_second true b e = refl
-or_second false b e = e
-
 pub tail_append : (a b : List ℕ) → IsTail a → IsTail b → IsTail (a ++ b)
 tail_append [] b h g = g
-tail_append (c ∷ a) b h g = and_both (is_word_byte c) (list_all is_word_byte (a ++ b)) (and_first (is_word_byte c) _ h)
+tail_append (c ∷ a) b h g = and_from (is_word_byte c) (list_all is_word_byte (a ++ b)) (and_first (is_word_byte c) _ h)
     (tail_append a b (and_second (is_word_byte c) _ h) g)
 
 pub word_tail : (w : List ℕ) → is_word w ≡ true → IsTail w
 word_tail [] e = cc
-word_tail (c ∷ cs) e = and_both (is_word_byte c) (list_all is_word_byte cs) (or_first (is_letter c) (is_digit c) (and_first (is_letter c) _ e))
+word_tail (c ∷ cs) e = and_from (is_word_byte c) (list_all is_word_byte cs) (or_left (is_letter c) (is_digit c) (and_first (is_letter c) _ e))
     (and_second (is_letter c) _ e)
 
 -- ---- numbers
@@ -53,8 +42,8 @@ digits_tail : (k n : ℕ) (acc : List ℕ) → IsTail acc → IsTail (digits_ont
 digits_tail zero n acc h = h
 digits_tail (suc k) n acc h =
     let d = digit_glyph false (n % 10) in
-    let one : IsTail (d ∷ acc) = and_both (is_word_byte d) (list_all is_word_byte acc)
-    (or_second (is_letter d) (is_digit d) (glyph_digit (n % 10) (omega arith))) h in
+    let one : IsTail (d ∷ acc) = and_from (is_word_byte d) (list_all is_word_byte acc)
+    (or_right (is_letter d) (is_digit d) (glyph_digit (n % 10) (omega arith))) h in
     cond_tail (n / 10 == 0) (d ∷ acc) (digits_onto k 10 false (n / 10) (d ∷ acc)) one (digits_tail k (n / 10) (d ∷ acc) one)
   where
     cond_tail : (b : Bool) (x y : List ℕ) → IsTail x → IsTail y → IsTail (cond b x y)

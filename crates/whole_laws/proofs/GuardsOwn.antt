@@ -3,6 +3,7 @@ use Rattle.std.proofs.Common.{◌≡◌, ℕ, ◌+◌, ◌≤◌, ◌||◌, Bool
 use Rattle.std.specs.Prelude.{◌≢◌}
 use Rattle.std.specs.Str.{bytes_eq}
 use Rattle.std.proofs.lemmas.Slice.Eq.{bytes_eq-Decides}
+use Rattle.std.proofs.lemmas.Bool.{or_parts}
 use Rattle.c_types.specs.Words.{is_known, known_functions}
 use Rattle.c_copies.specs.Names.{has_name, with_names, given_name, slot_names, slots_names, enum_names, enums_names, top_names, tops_names, names, option_names, given_names}
 use Rattle.c_copies.proofs.Rising.{rising-members}
@@ -25,14 +26,10 @@ use Rattle.whole_laws.proofs.PlainTops.{plain_flat, no_body}
 
 -- ---- names that don't stand in a list
 
-pub or_neither : (a b : Bool) → (a || b) ≡ false → (a ≡ false) × (b ≡ false)
-or_neither true b e = cc
-or_neither false b e = (refl, e)
-
 pub has_append : (xs ys : List (List ℕ)) (m : List ℕ) → has_name (xs ++ ys) m ≡ false → (has_name xs m ≡ false) × (has_name ys m ≡ false)
 has_append [] ys m e = (refl, e)
 has_append (x ∷ xs) ys m e =
-    let h = or_neither (bytes_eq m x) (has_name (xs ++ ys) m) e in
+    let h = or_parts (bytes_eq m x) (has_name (xs ++ ys) m) e in
     let i = has_append xs ys m h.1 in
     (ap (λ b. b || has_name xs m) h.0 ∙ i.0, i.1)
 
@@ -40,10 +37,10 @@ pub not_same : (m x : List ℕ) → bytes_eq m x ≡ false → x ≢ m
 not_same m x e i = true≢false (sym ((bytes_eq-Decides m x).1 (sym i)) ∙ e)
 
 pub first_not : (m x : List ℕ) (xs : List (List ℕ)) → has_name (x ∷ xs) m ≡ false → x ≢ m
-first_not m x xs e = not_same m x (or_neither (bytes_eq m x) (has_name xs m) e).0
+first_not m x xs e = not_same m x (or_parts (bytes_eq m x) (has_name xs m) e).0
 
 rest_not : (m x : List ℕ) (xs : List (List ℕ)) → has_name (x ∷ xs) m ≡ false → has_name xs m ≡ false
-rest_not m x xs e = (or_neither (bytes_eq m x) (has_name xs m) e).1
+rest_not m x xs e = (or_parts (bytes_eq m x) (has_name xs m) e).1
 
 module _ (m : List ℕ) where
   enums_other : (es : List EnumItem) → has_name (enums_names es) m ≡ false → Each (λ (x : EnumItem). x.name ≢ m) es

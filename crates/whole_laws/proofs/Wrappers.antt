@@ -1,7 +1,7 @@
 -- The tokens of a test or selector whose wrappers don't repeat one another, as an expression.
 use Rattle.std.proofs.Common.{◌≡◌, ℕ, zero, suc, ◌+◌, ◌*◌, ◌≤◌, ◌<◌, ℤ, pos, Bool, true, false, cond, ◌||◌, eqb, List, [], ◌∷◌, ◌++◌, Option, Some, None, ◌⊎◌, inl, inr, refl, sym, ap, subst, ◌∙◌, arith}
 use Rattle.std.specs.Prelude.{int_le, nat_lt}
-use Rattle.std.proofs.lemmas.Bool.{eq-eqb, cases_lt}
+use Rattle.std.proofs.lemmas.Bool.{eq-eqb, cases_lt, or_right}
 use Rattle.c_types.specs.declared.kinds.IntKind.{IntKind}
 use Rattle.c_types.specs.declared.kinds.IntKind.TheVariants.{Int}
 use Rattle.c_types.specs.Numbers.{least}
@@ -91,13 +91,9 @@ unseen_fewer : (ls : List ℕ) (l n : ℕ) → unseen (ls ++ l ∷ []) n ≤ uns
 unseen_fewer ls l zero = omega arith
 unseen_fewer ls l (suc k) = let h = unseen_fewer ls l k in let i = new_fewer ls l k in omega (arith, h, i)
 
-or_true : (a b : Bool) → b ≡ true → (a || b) ≡ true
-or_true true b e = refl
-or_true false b e = e
-
 its_own : (ls : List ℕ) (l : ℕ) → has l ls ≡ false → new_one (ls ++ l ∷ []) l + 1 ≤ new_one ls l
 its_own ls l e =
-    let h : new_one (ls ++ l ∷ []) l ≡ 0 = ap (λ b. cond b 0 1) (has_end l l ls ∙ or_true (has l ls) (eqb l l) (eq-eqb l l refl)) in
+    let h : new_one (ls ++ l ∷ []) l ≡ 0 = ap (λ b. cond b 0 1) (has_end l l ls ∙ or_right (has l ls) (eqb l l) (eq-eqb l l refl)) in
     let i : new_one ls l ≡ 1 = ap (λ b. cond b 0 1) e in
     omega (arith, h, i)
 
