@@ -1,30 +1,72 @@
--- Lists and items that show the same of all slots but one, and that nothing round them allows more.
+-- Lists and items that show the same of all slots but one, or name them otherwise than in exits, and that nothing round them
+-- allows more.
 use mathlib.Core.Path.{ap₂}
-use Rattle.std.proofs.Common.{ℕ, suc, ◌+◌, ◌⊎◌, inl, inr, Bool, true, false, cond, ◌&&◌, eqb, eqb-true, Option, Some, None, is_some, ◌≡◌, refl, sym, ap, subst, ◌∙◌, arith}
+use Rattle.std.proofs.Common.{ℕ, suc, ◌+◌, ◌<◌, ◌≤◌, ◌⊎◌, inl, inr, Bool, true, false, cond, ◌&&◌, eqb, eqb-true, List, Option, Some, None, is_some, ◌≡◌, refl, sym, ap, subst, ◌∙◌, arith}
+use Rattle.std.proofs.lemmas.Bool.{ne_eqb}
 use Rattle.c_tree.specs.declared.tree.Home.TheVariants as H
 use Rattle.c_tree.specs.ExpressionTrees.{ExpressionTree, Typed, Var, Assign}
 use Rattle.c_tree.specs.TestTrees.{TestTree, SelectorTree, Source}
-use Rattle.c_tree.specs.Trees.{Tree, Forest, Nil, Then, Sections, Evaluate, If, While, Do, For, Switch, Block, Break, Continue}
+use Rattle.c_tree.specs.Trees.{Tree, Forest, Nil, Then, Sections, Section, Evaluate, If, While, Do, For, Switch, Block, Break, Continue}
 use Rattle.jump_meaning.specs.Code.{FunctionTree}
 use Rattle.tidy_laws.specs.Tails.{is_check, is_end}
 use Rattle.tidy_laws.specs.Mentions.{lacks}
 use Rattle.tidy_laws.specs.Changes.{is_narrow_expression, set_value, low_set, checks, are_low, is_low, is_number, tailed}
-use Rattle.tidy_slots.specs.Counts.{one_if}
+use Rattle.tidy_slots.specs.Counts.{one_if, test_count, list_count, item_count, sections_count}
 use Rattle.tidy_loops.specs.Views.{is_it, is_int_kind}
-use Rattle.tidy_loops.specs.Exits.{checks_in, checks_of, exits_in, exits_of}
+use Rattle.tidy_loops.specs.Exits.{checks_in, checks_of, checks_within, exits_in, exits_of}
 use Rattle.tidy_loops.proofs.FormLaws.{check_if}
 use Rattle.tidy_loops.specs.Slots.{counts_of, reset_in, reset_slot, first_reset, last_reset, but_last, but_first, stop_slot, allowed, breaks, continues, break_slot, continue_slot, broken, continued}
 use Rattle.break_recovery.specs.Next.{of_slot, next_here}
 use Rattle.break_recovery.specs.Places.{Fewer}
-use Rattle.break_recovery.specs.Steady.{is_steady, item_is_steady, HasItems, ShowsAlike, ItemShowsAlike, AreAlike, AreAlikeOf, AreSectionsAlike, AsksAlike, IsAlike}
+use Rattle.tidy_loops.specs.Remaining.{IsApart}
+use Rattle.tidy_loops.proofs.ExitCounts.{check_most, checks_in_most, checks_of_most, checks_within_most, exits_in_most, exits_of_most}
+use Rattle.tidy_loops.proofs.Outside.{stop_one, last_one, outside_test, outside_reset}
+use Rattle.break_recovery.specs.Steady.{turned, item_turned, is_turned, HasItems, ShowsAlike, ItemShowsAlike, NamesOtherwise, NeedsOtherwise, IsKept, ItemIsKept, AreAlike, AreAlikeOf, SectionsKept, AreSectionsAlike, AsksAlike, IsAlike}
+use Rattle.break_recovery.proofs.Less.{broken_less, continued_less}
+use Rattle.break_recovery.proofs.Within.{is_less}
 use Rattle.break_recovery.proofs.Stays.{first_none, second_none, both_none, unslot, slot_none, refused, allowed_still, and_false, counted_none, continue_still}
-use Rattle.break_recovery.proofs.SteadyChanges.{tailed_checks, steady_front, front_checks}
+use Rattle.break_recovery.proofs.SteadyChanges.{tailed_checks, turned_front, front_checks}
 
 none_some : {A P : Type 0} (x : A) → None ≡ Some x → P
 none_some x e = absurd (by e)
   where
     by : None ≡ Some x → ⊥
     by e = cc
+
+-- ---- a mention that is no exit
+
+module _ (h : ℕ) where
+  mutual
+    checks_at_most : (a : Forest) → checks_in h a ≤ exits_in h a
+    checks_at_most Nil = omega arith
+    checks_at_most (Then x xs) = by (is_end h xs) (item_checks_at_most x) (checks_at_most xs)
+      where
+        by : (b : Bool) → checks_of h x ≤ exits_of h x → checks_in h xs ≤ exits_in h xs →
+            checks_of h x + checks_in h xs ≤ cond b (exits_of h x) (checks_of h x) + exits_in h xs
+        by true p q = omega (arith, p, q)
+        by false p q = omega (arith, q)
+
+    item_checks_at_most : (x : Tree) → checks_of h x ≤ exits_of h x
+    item_checks_at_most (If t a b) = let p = checks_at_most a in let q = checks_at_most b in omega (arith, p, q)
+    item_checks_at_most _ = omega arith
+
+  place_most : (b : Bool) (x : Tree) → cond b (exits_of h x) (checks_of h x) ≤ item_count h x
+  place_most true x = exits_of_most h x
+  place_most false x = checks_of_most h x
+
+  place_less : (b : Bool) (x : Tree) → exits_of h x < item_count h x → cond b (exits_of h x) (checks_of h x) < item_count h x
+  place_less true x s = s
+  place_less false x s = let c = item_checks_at_most x in omega (arith, c, s)
+
+  pub otherwise_behind : (x : Tree) (a : Forest) → NamesOtherwise h a → NamesOtherwise h (Then x a)
+  otherwise_behind x a s = let m = place_most (is_end h a) x in omega (arith, m, s)
+
+  pub otherwise_first : (x : Tree) (a : Forest) → exits_of h x < item_count h x → NamesOtherwise h (Then x a)
+  otherwise_first x a s = let m = place_less (is_end h a) x s in let r = exits_in_most h a in omega (arith, m, r)
+
+  -- a list that isn't at a tail
+  pub checks_otherwise : (a : Forest) → NamesOtherwise h a → checks_in h a < list_count h a
+  checks_otherwise a s = let c = checks_at_most a in omega (arith, c, s)
 
 -- ---- what a list shows of one slot
 
@@ -33,14 +75,20 @@ module _ (h : ℕ) where
   end_more x Nil k = absurd k
   end_more x (Then y ys) k = refl
 
-  shows_behind : (x : Tree) (a b : Forest) → ShowsAlike h a b → ShowsAlike h (Then x a) (Then x b)
-  shows_behind x a b s = record {
+  shows_behind : (x : Tree) (a b : Forest) → HasItems a × HasItems b → ShowsAlike h a b → ShowsAlike h (Then x a) (Then x b)
+  shows_behind x a b i s = record {
     checks = ap (λ n. checks_of h x + n) s.checks;
     exits = ap₂ (λ e n. cond e (exits_of h x) (checks_of h x) + n) s.ending s.exits;
     low = λ n. ap (λ z. is_low h n x && z) (s.low n);
-    ending = end_more x b s.some.1 ∙ sym (end_more x a s.some.0);
-    some = (tt, tt);
+    ending = end_more x b i.1 ∙ sym (end_more x a i.0);
   }
+
+  kept_behind : (x : Tree) (a b : Forest) → IsKept h a b → IsKept h (Then x a) (Then x b)
+  kept_behind x a b s = record { less = let l = s.less in omega (arith, l); some = (tt, tt); shows = by s.shows }
+    where
+      by : ShowsAlike h a b ⊎ NamesOtherwise h b → ShowsAlike h (Then x a) (Then x b) ⊎ NamesOtherwise h (Then x b)
+      by (inl p) = inl (shows_behind x a b s.some p)
+      by (inr p) = inr (otherwise_behind h x b p)
 
   shows_first : (x y : Tree) (xs : Forest) → ItemShowsAlike h x y → ShowsAlike h (Then x xs) (Then y xs)
   shows_first x y xs s = record {
@@ -48,44 +96,78 @@ module _ (h : ℕ) where
     exits = ap₂ (λ m n. cond (is_end h xs) m n + exits_in h xs) s.exits s.checks;
     low = λ n. ap (λ z. z && are_low h n xs) (s.low n);
     ending = by xs;
-    some = (tt, tt);
   }
     where
       by : (zs : Forest) → is_end h (Then y zs) ≡ is_end h (Then x zs)
       by Nil = s.check
       by (Then z zs) = refl
 
+  kept_first : (x y : Tree) (xs : Forest) → ItemIsKept h x y → IsKept h (Then x xs) (Then y xs)
+  kept_first x y xs s = record { less = let l = s.less in omega (arith, l); some = (tt, tt); shows = by s.shows }
+    where
+      by : ItemShowsAlike h x y ⊎ (exits_of h y < item_count h y) → ShowsAlike h (Then x xs) (Then y xs) ⊎ NamesOtherwise h (Then y xs)
+      by (inl p) = inl (shows_first x y xs p)
+      by (inr p) = inr (otherwise_first h y xs p)
+
+  -- where the items behind name the slot otherwise
+  kept_before : (x y : Tree) (xs : Forest) → item_count h y ≤ item_count h x → ItemShowsAlike h x y ⊎ NamesOtherwise h xs →
+      IsKept h (Then x xs) (Then y xs)
+  kept_before x y xs l s = record { less = omega (arith, l); some = (tt, tt); shows = by s }
+    where
+      by : ItemShowsAlike h x y ⊎ NamesOtherwise h xs → ShowsAlike h (Then x xs) (Then y xs) ⊎ NamesOtherwise h (Then y xs)
+      by (inl p) = inl (shows_first x y xs p)
+      by (inr p) = inr (otherwise_behind h y xs p)
+
 last_more : (x : Tree) (a : Forest) → HasItems a → last_reset (Then x a) ≡ last_reset a
 last_more x Nil k = absurd k
 last_more x (Then y ys) k = refl
 
-front_more : (x : Tree) (a : Forest) → HasItems a → but_last (Then x a) ≡ Then x (but_last a)
+pub front_more : (x : Tree) (a : Forest) → HasItems a → but_last (Then x a) ≡ Then x (but_last a)
 front_more x Nil k = absurd k
 front_more x (Then y ys) k = refl
 
 -- ---- lists
 
 pub alike_behind : (g : ℕ) (x : Tree) (a b : Forest) → AreAlike g a b → AreAlike g (Then x a) (Then x b)
-alike_behind g x a b q h e = (shows_behind h x a b s, by)
+alike_behind g x a b q h e = (kept_behind h x a b s, by)
   where
-    s : ShowsAlike h a b
+    s : IsKept h a b
     s = (q h e).0
 
-    by : last_reset (Then x b) ≡ Some h → (last_reset (Then x a) ≡ Some h) × ShowsAlike h (but_last (Then x a)) (but_last (Then x b))
+    by : last_reset (Then x b) ≡ Some h → (last_reset (Then x a) ≡ Some h) × IsKept h (but_last (Then x a)) (but_last (Then x b))
     by i =
         let r = (q h e).1 (sym (last_more x b s.some.1) ∙ i) in (
           last_more x a s.some.0 ∙ r.0,
-          subst (λ z. ShowsAlike h z (but_last (Then x b))) (sym (front_more x a s.some.0))
-              (subst (ShowsAlike h (Then x (but_last a))) (sym (front_more x b s.some.1)) (shows_behind h x (but_last a) (but_last b) r.1)),
+          subst (λ z. IsKept h z (but_last (Then x b))) (sym (front_more x a s.some.0))
+              (subst (IsKept h (Then x (but_last a))) (sym (front_more x b s.some.1)) (kept_behind h x (but_last a) (but_last b) r.1)),
         )
 
-pub alike_first : (g : ℕ) (x y : Tree) (xs : Forest) → ((h : ℕ) → eqb g h ≡ false → ItemShowsAlike h x y) → reset_slot y ≡ None →
+-- lists that differ in their first items
+alike_from : (g : ℕ) (x y : Tree) (xs : Forest) →
+    ((h : ℕ) → eqb g h ≡ false → IsKept h (Then x xs) (Then y xs) × IsKept h (Then x (but_last xs)) (Then y (but_last xs))) → reset_slot y ≡ None →
     AreAlike g (Then x xs) (Then y xs)
-alike_first g x y xs s n h e = (shows_first h x y xs (s h e), by xs)
+alike_from g x y xs s n h e = ((s h e).0, by xs (s h e).1)
   where
-    by : (zs : Forest) → last_reset (Then y zs) ≡ Some h → (last_reset (Then x zs) ≡ Some h) × ShowsAlike h (but_last (Then x zs)) (but_last (Then y zs))
-    by Nil i = none_some h (sym n ∙ i)
-    by (Then z zs) i = (i, shows_first h x y (but_last (Then z zs)) (s h e))
+    by : (zs : Forest) → IsKept h (Then x (but_last zs)) (Then y (but_last zs)) → last_reset (Then y zs) ≡ Some h →
+        (last_reset (Then x zs) ≡ Some h) × IsKept h (but_last (Then x zs)) (but_last (Then y zs))
+    by Nil k i = none_some h (sym n ∙ i)
+    by (Then z zs) k i = (i, k)
+
+pub alike_first : (g : ℕ) (x y : Tree) (xs : Forest) → ((h : ℕ) → eqb g h ≡ false → ItemIsKept h x y) → reset_slot y ≡ None →
+    AreAlike g (Then x xs) (Then y xs)
+alike_first g x y xs s n = alike_from g x y xs (λ h e. (kept_first h x y xs (s h e), kept_first h x y (but_last xs) (s h e))) n
+
+either_kept : {P Q R : Type 0} → P ⊎ (Q × R) → (P ⊎ Q) × (P ⊎ R)
+either_kept (inl p) = (inl p, inl p)
+either_kept (inr q) = (inr q.0, inr q.1)
+
+alike_before : (g : ℕ) (x y : Tree) (xs : Forest) → ((h : ℕ) → eqb g h ≡ false → item_count h y ≤ item_count h x) →
+    ((h : ℕ) → eqb g h ≡ false → ItemShowsAlike h x y ⊎ NeedsOtherwise h xs) → reset_slot y ≡ None → AreAlike g (Then x xs) (Then y xs)
+alike_before g x y xs l s n =
+    alike_from g x y xs
+    (λ h e.
+    let p = either_kept (s h e) in
+    (kept_before h x y xs (l h e) p.0, kept_before h x y (but_last xs) (l h e) p.1)) n
 
 -- ---- a loop, and the `g = 0;` behind it
 
@@ -130,9 +212,9 @@ both_ways : (b : Bool) (m n k : ℕ) → m ≡ k → n ≡ k → cond b m n ≡ 
 both_ways true m n k p q = p
 both_ways false m n k p q = q
 
-module _ (h : ℕ) (x y z : Tree) (p : IsPlain h x) (q : IsPlain h y) (r : ShowsNone h z) (e : checks_of h y ≡ checks_of h x) where
-  shows_taken : (xs : Forest) → ShowsAlike h (Then x (Then z xs)) (Then y xs)
-  shows_taken xs = record {
+module _ (h : ℕ) (x y z : Tree) (p : IsPlain h x) (q : IsPlain h y) (r : ShowsNone h z) (l : item_count h y ≤ item_count h x) where
+  shows_taken : (xs : Forest) → checks_of h y ≡ checks_of h x → ShowsAlike h (Then x (Then z xs)) (Then y xs)
+  shows_taken xs e = record {
     checks = let k = r.checks in omega (arith, e, k);
     exits =
         let a = both_ways (is_end h xs) (exits_of h y) (checks_of h y) (checks_of h y) q.exits refl in
@@ -141,21 +223,34 @@ module _ (h : ℕ) (x y z : Tree) (p : IsPlain h x) (q : IsPlain h y) (r : Shows
         omega (arith, e, a, b, c);
     low = λ n. ap (λ b. b && are_low h n xs) (q.low n) ∙ sym (ap₂ (λ b c. b && (c && are_low h n xs)) (p.low n) (r.low n));
     ending = by xs;
-    some = (tt, tt);
   }
     where
       by : (zs : Forest) → is_end h (Then y zs) ≡ is_end h (Then x (Then z zs))
       by Nil = q.check
       by (Then w ws) = refl
 
+  kept_taken : (xs : Forest) → (checks_of h y ≡ checks_of h x) ⊎ NamesOtherwise h xs → IsKept h (Then x (Then z xs)) (Then y xs)
+  kept_taken xs s = record { less = omega (arith, l); some = (tt, tt); shows = by s }
+    where
+      by : (checks_of h y ≡ checks_of h x) ⊎ NamesOtherwise h xs → ShowsAlike h (Then x (Then z xs)) (Then y xs) ⊎ NamesOtherwise h (Then y xs)
+      by (inl e) = inl (shows_taken xs e)
+      by (inr k) = inr (otherwise_behind h y xs k)
+
 alike_taken : (g : ℕ) (x y z : Tree) (xs : Forest) → ((h : ℕ) → IsPlain h x) → ((h : ℕ) → IsPlain h y) → reset_slot z ≡ Some g → reset_slot y ≡ None
-    → ((h : ℕ) → eqb g h ≡ false → checks_of h y ≡ checks_of h x) → AreAlike g (Then x (Then z xs)) (Then y xs)
-alike_taken g x y z xs p q i n s h e = (shows_taken h x y z (p h) (q h) (reset_shows g h e z i) (s h e) xs, by xs)
+    → ((h : ℕ) → eqb g h ≡ false → item_count h y ≤ item_count h x)
+    → ((h : ℕ) → eqb g h ≡ false → (checks_of h y ≡ checks_of h x) ⊎ NeedsOtherwise h xs) → AreAlike g (Then x (Then z xs)) (Then y xs)
+alike_taken g x y z xs p q i n l s h e = (kept xs k.0, by xs k.1)
   where
-    by : (zs : Forest) → last_reset (Then y zs) ≡ Some h → (last_reset (Then x (Then z zs)) ≡ Some h) × ShowsAlike h (but_last (Then x (Then z zs)))
-        (but_last (Then y zs))
-    by Nil k = none_some h (sym n ∙ k)
-    by (Then w ws) k = (k, shows_taken h x y z (p h) (q h) (reset_shows g h e z i) (s h e) (but_last (Then w ws)))
+    k : ((checks_of h y ≡ checks_of h x) ⊎ NamesOtherwise h xs) × ((checks_of h y ≡ checks_of h x) ⊎ NamesOtherwise h (but_last xs))
+    k = either_kept (s h e)
+
+    kept : (zs : Forest) → (checks_of h y ≡ checks_of h x) ⊎ NamesOtherwise h zs → IsKept h (Then x (Then z zs)) (Then y zs)
+    kept = kept_taken h x y z (p h) (q h) (reset_shows g h e z i) (l h e)
+
+    by : (zs : Forest) → (checks_of h y ≡ checks_of h x) ⊎ NamesOtherwise h (but_last zs) → last_reset (Then y zs) ≡ Some h →
+        (last_reset (Then x (Then z zs)) ≡ Some h) × IsKept h (but_last (Then x (Then z zs))) (but_last (Then y zs))
+    by Nil m o = none_some h (sym n ∙ o)
+    by (Then w ws) m o = (o, kept (but_last (Then w ws)) m)
 
 -- ---- the change at a loop
 
@@ -184,47 +279,64 @@ do_plain a t h = record { exits = refl; low = λ n. refl; check = refl }
 for_plain : (b : Forest) (t u : Option ExpressionTree) (a : Forest) (h : ℕ) → IsPlain h (For b t u a)
 for_plain b t u a h = record { exits = refl; low = λ n. refl; check = refl }
 
+either_left : {P Q R : Type 0} → (P → Q) → P ⊎ R → Q ⊎ R
+either_left f (inl p) = inl (f p)
+either_left f (inr r) = inr r
+
+-- no check of the slot is made or taken, or the items behind name it otherwise
+abbrev pub IsLeftAlone : ℕ → ℕ → Tree → Forest → Type 0
+IsLeftAlone g h x xs = (is_turned h (item_turned g x) ≡ false) ⊎ NeedsOtherwise h xs
+
 -- by `break`
 module _ (c : ℕ → ℕ) (n g : ℕ) where
   before_taken : (x y : Tree) (a xs : Forest) (s : Option ℕ) → allowed (breaks c n a xs) s ≡ Some g → ((h : ℕ) → IsPlain h x) →
-      ((h : ℕ) → IsPlain h y) → reset_slot y ≡ None
-      → ((h : ℕ) → eqb g h ≡ false → checks_of h y ≡ checks_of h x) → AreAlike g (Then x xs) (Then y (but_first xs))
-  before_taken x y a Nil s i p q r k = absurd (no (found_so (breaks c n a Nil) s g i).1)
+      ((h : ℕ) → IsPlain h y) → reset_slot y ≡ None → ((h : ℕ) → eqb g h ≡ false → item_count h y ≤ item_count h x)
+      → ((h : ℕ) → eqb g h ≡ false → (checks_of h y ≡ checks_of h x) ⊎ NeedsOtherwise h (but_first xs)) → AreAlike g (Then x xs) (Then y (but_first xs))
+  before_taken x y a Nil s i p q r l k = absurd (no (found_so (breaks c n a Nil) s g i).1)
     where
       no : breaks c n a Nil g ≡ true → ⊥
       no e = cc
-  before_taken x y a (Then z zs) s i p q r k =
+  before_taken x y a (Then z zs) s i p q r l k =
       alike_taken g x y z zs p q (is_that g (reset_slot z) (first_so (is_it g (reset_slot z)) (are_low g n a && eqb (c g) (3 + exits_in g a))
-      (found_so (breaks c n a (Then z zs)) s g i).1)) r k
+      (found_so (breaks c n a (Then z zs)) s g i).1)) r l k
 
-  pub broken_alike : (x : Tree) (xs : Forest) → break_slot c n x xs ≡ Some g → item_is_steady g x ≡ true →
+  pub broken_alike : (x : Tree) (xs : Forest) → break_slot c n x xs ≡ Some g → ((h : ℕ) → eqb g h ≡ false → IsLeftAlone g h x (but_first xs)) →
       AreAlike g (Then x xs) (Then (broken g x) (but_first xs))
   broken_alike (While t a) xs i s =
       before_taken (While t a) (broken g (While t a)) a xs (stop_slot t) i (while_plain t a)
-      (λ h. record { exits = refl; low = λ n. refl; check = refl }) refl (λ h e. tailed_checks g h e Break refl a s)
+      (λ h. record { exits = refl; low = λ n. refl; check = refl }) refl (λ h e. broken_less g h e (While t a))
+      (λ h e. either_left (tailed_checks g h e Break refl a) (s h e))
   broken_alike (Do a t) xs i s =
       before_taken (Do a t) (broken g (Do a t)) a xs (stop_slot t) i (do_plain a t) (λ h. record { exits = refl; low = λ n. refl; check = refl }) refl
-      (λ h e. tailed_checks g h e Break refl a s)
+      (λ h e. broken_less g h e (Do a t)) (λ h e. either_left (tailed_checks g h e Break refl a) (s h e))
   broken_alike _ xs i s = none_some g i
 
   -- by `continue`
-  kept_front : (a : Forest) → allowed (continues c n (but_last a)) (last_reset a) ≡ Some g → is_steady g a ≡ true → (h : ℕ) → eqb g h ≡ false →
-      checks_in h (tailed g Continue (but_last a)) ≡ checks_in h a
-  kept_front a i s h e = tailed_checks g h e Continue refl (but_last a) (steady_front g a s) ∙
+  kept_front : (a : Forest) → allowed (continues c n (but_last a)) (last_reset a) ≡ Some g → (h : ℕ) → eqb g h ≡ false →
+      is_turned h (turned g a) ≡ false → checks_in h (tailed g Continue (but_last a)) ≡ checks_in h a
+  kept_front a i h e u = tailed_checks g h e Continue refl (but_last a) (turned_front g h a u) ∙
       front_checks h g a (found_so (continues c n (but_last a)) (last_reset a) g i).0
 
-  pub continued_alike : (x : Tree) (xs : Forest) → continue_slot c n x ≡ Some g → item_is_steady g x ≡ true → AreAlike g (Then x xs) (Then (continued g x) xs)
+  front_kept : (x y : Tree) (a : Forest) → ((h : ℕ) → IsPlain h x) → ((h : ℕ) → IsPlain h y) → ((h : ℕ) → checks_of h x ≡ checks_in h a) →
+      ((h : ℕ) → checks_of h y ≡ checks_in h (tailed g Continue (but_last a))) → allowed (continues c n (but_last a)) (last_reset a) ≡ Some g → (xs : Forest) →
+      ((h : ℕ) → eqb g h ≡ false → (is_turned h (turned g a) ≡ false) ⊎ NeedsOtherwise h xs) → (h : ℕ) → eqb g h ≡ false →
+      ItemShowsAlike h x y ⊎ NeedsOtherwise h xs
+  front_kept x y a p q k m i xs s h e = either_left (λ u. plain_alike h x y (p h) (q h) (m h ∙ kept_front a i h e u ∙ sym (k h))) (s h e)
+
+  pub continued_alike : (x : Tree) (xs : Forest) → continue_slot c n x ≡ Some g → ((h : ℕ) → eqb g h ≡ false → IsLeftAlone g h x xs) →
+      AreAlike g (Then x xs) (Then (continued g x) xs)
   continued_alike (While t a) xs i s =
       let b = tailed g Continue (but_last a) in
-      alike_first g (While t a) (While t b) xs (λ h e. plain_alike h (While t a) (While t b) (while_plain t a h) (while_plain t b h)
-      (kept_front a i s h e)) refl
+      alike_before g (While t a) (While t b) xs (λ h e. continued_less g h e (While t a))
+      (front_kept (While t a) (While t b) a (while_plain t a) (while_plain t b) (λ h. refl) (λ h. refl) i xs s) refl
   continued_alike (Do a t) xs i s =
       let b = tailed g Continue (but_last a) in
-      alike_first g (Do a t) (Do b t) xs (λ h e. plain_alike h (Do a t) (Do b t) (do_plain a t h) (do_plain b t h) (kept_front a i s h e)) refl
+      alike_before g (Do a t) (Do b t) xs (λ h e. continued_less g h e (Do a t))
+      (front_kept (Do a t) (Do b t) a (do_plain a t) (do_plain b t) (λ h. refl) (λ h. refl) i xs s) refl
   continued_alike (For f t u a) xs i s =
       let b = tailed g Continue (but_last a) in
-      alike_first g (For f t u a) (For f t u b) xs (λ h e. plain_alike h (For f t u a) (For f t u b) (for_plain f t u a h) (for_plain f t u b h)
-      (kept_front a i s h e)) refl
+      alike_before g (For f t u a) (For f t u b) xs (λ h e. continued_less g h e (For f t u a))
+      (front_kept (For f t u a) (For f t u b) a (for_plain f t u a) (for_plain f t u b) (λ h. refl) (λ h. refl) i xs s) refl
   continued_alike _ xs i s = none_some g i
 
 -- ---- what a loop asks
@@ -259,105 +371,166 @@ module _ (g : ℕ) (a b : Forest) (q : AreAlike g a b) (c d : ℕ → ℕ) (l : 
   zero_too : (h : ℕ) → eqb g h ≡ true → d h ≡ 0
   zero_too h e = sym (ap d (eqb-true g h e)) ∙ z
 
-  breaks_asked : (n : ℕ) (xs : Forest) (h : ℕ) → breaks c n a xs h ≡ false → breaks d n b xs h ≡ false
-  breaks_asked n xs h e = by (eqb g h) refl
+  -- a slot that is counted more often than that
+  no_more : (m k : ℕ) (x y : Bool) → (m ≡ k → ⊥) → (x && (y && eqb m k)) ≡ false
+  no_more m k x y e = ap (λ w. x && (y && w)) (ne_eqb m k e) ∙ ap (λ w. x && w) (and_false y) ∙ and_false x
+
+  breaks_held : (n : ℕ) (xs : Forest) (t : TestTree) (h : ℕ) → stop_slot t ≡ Some h → IsKept h a b → NamesOtherwise h b → d h ≡ c h →
+      (c h ≡ 0) ⊎ (test_count h t + list_count h a + one_if (is_it h (first_reset xs)) < c h) → breaks d n b xs h ≡ false
+  breaks_held n xs t h i s u k w = by (is_it h (first_reset xs)) refl
     where
-      same : ShowsAlike h a b → (d h ≡ c h) ⊎ (d h ≡ 0) → breaks d n b xs h ≡ false
-      same s (inl k) =
-          ap₂ (λ m o. is_it h (first_reset xs) && (m && eqb (d h) (3 + o))) (s.low n) s.exits
-          ∙ ap (λ m. is_it h (first_reset xs) && (are_low h n a && eqb m (3 + exits_in h a))) k ∙ e
-      same s (inr k) = no_breaks n xs h k
+      held : (c h ≡ 0) ⊎ (list_count h a + 3 ≤ c h) → breaks d n b xs h ≡ false
+      held (inl e) = no_breaks n xs h (k ∙ e)
+      held (inr m) = let l = s.less in no_more (d h) (3 + exits_in h b) (is_it h (first_reset xs)) (are_low h n b) (λ e. omega (arith, e, k, m, l, u))
 
-      by : (o : Bool) → eqb g h ≡ o → breaks d n b xs h ≡ false
-      by true o = no_breaks n xs h (zero_too h o)
-      by false o = same (q h o).0 (l h)
+      by : (o : Bool) → is_it h (first_reset xs) ≡ o → breaks d n b xs h ≡ false
+      by true e = held (outside_test (c h) (test_count h t) (list_count h a) (is_it h (first_reset xs)) w (stop_one h t i) e)
+      by false e = ap (λ m. m && (are_low h n b && eqb (d h) (3 + exits_in h b))) e
 
-  continues_asked : (n h : ℕ) (v w : Forest) → ShowsAlike h v w → continues c n v h ≡ false → continues d n w h ≡ false
-  continues_asked n h v w s e = by (l h)
+  breaks_same : (n : ℕ) (xs : Forest) (h : ℕ) → ShowsAlike h a b → d h ≡ c h → breaks c n a xs h ≡ false → breaks d n b xs h ≡ false
+  breaks_same n xs h s k e =
+      ap₂ (λ m o. is_it h (first_reset xs) && (m && eqb (d h) (3 + o))) (s.low n) s.exits
+      ∙ ap (λ m. is_it h (first_reset xs) && (are_low h n a && eqb m (3 + exits_in h a))) k ∙ e
+
+  break_asked : (n : ℕ) (xs : Forest) (t : TestTree) → ((h : ℕ) → (c h ≡ 0) ⊎ (test_count h t + list_count h a + one_if (is_it h (first_reset xs)) < c h)) →
+      allowed (breaks c n a xs) (stop_slot t) ≡ None → allowed (breaks d n b xs) (stop_slot t) ≡ None
+  break_asked n xs t w e = by (stop_slot t) refl
     where
-      by : (d h ≡ c h) ⊎ (d h ≡ 0) → continues d n w h ≡ false
-      by (inl k) = ap₂ (λ m o. m && eqb (d h) (2 + o)) (s.low n) s.exits ∙ ap (λ m. are_low h n v && eqb m (2 + exits_in h v)) k ∙ e
-      by (inr k) = no_continues n h w k
+      none : (h : ℕ) → stop_slot t ≡ Some h → IsKept h a b → (d h ≡ c h) ⊎ (d h ≡ 0) → breaks d n b xs h ≡ false
+      none h i s (inl k) = shown s.shows
+        where
+          shown : ShowsAlike h a b ⊎ NamesOtherwise h b → breaks d n b xs h ≡ false
+          shown (inl r) = breaks_same n xs h r k (refused (breaks c n a xs h) h (sym (ap (allowed (breaks c n a xs)) i) ∙ e))
+          shown (inr u) = breaks_held n xs t h i s u k (w h)
+      none h i s (inr k) = no_breaks n xs h k
 
-  break_asked : (n : ℕ) (xs : Forest) (s : Option ℕ) → allowed (breaks c n a xs) s ≡ None → allowed (breaks d n b xs) s ≡ None
-  break_asked n xs s e = allowed_still (breaks c n a xs) (breaks d n b xs) (breaks_asked n xs) s e
+      other : (h : ℕ) → stop_slot t ≡ Some h → (o : Bool) → eqb g h ≡ o → breaks d n b xs h ≡ false
+      other h i true o = no_breaks n xs h (zero_too h o)
+      other h i false o = none h i (q h o).0 (l h)
 
-  continue_asked : (n : ℕ) → allowed (continues c n (but_last a)) (last_reset a) ≡ None → allowed (continues d n (but_last b)) (last_reset b) ≡ None
-  continue_asked n e = by (last_reset b) refl
+      by : (s : Option ℕ) → stop_slot t ≡ s → allowed (breaks d n b xs) (stop_slot t) ≡ None
+      by None i = ap (allowed (breaks d n b xs)) i
+      by (Some h) i = ap (allowed (breaks d n b xs)) i ∙ ap (λ m. cond m (Some h) None) (other h i (eqb g h) refl)
+
+  continues_held : (n h : ℕ) → last_reset a ≡ Some h → IsKept h (but_last a) (but_last b) → NamesOtherwise h (but_last b) → d h ≡ c h →
+      (c h ≡ 0) ⊎ (list_count h a < c h) → continues d n (but_last b) h ≡ false
+  continues_held n h i s u k w = by (outside_reset (c h) (list_count h a) (list_count h (but_last a)) w (last_one h a i))
     where
-      none : (h : ℕ) → last_reset b ≡ Some h → (o : Bool) → eqb g h ≡ o → continues d n (but_last b) h ≡ false
-      none h i true o = no_continues n h (but_last b) (zero_too h o)
-      none h i false o =
-          let r = (q h o).1 i in
-          continues_asked n h (but_last a) (but_last b) r.1 (refused (continues c n (but_last a) h) h (sym (ap (allowed (continues c n (but_last a))) r.0) ∙ e))
+      by : (c h ≡ 0) ⊎ (list_count h (but_last a) + 2 ≤ c h) → continues d n (but_last b) h ≡ false
+      by (inl e) = no_continues n h (but_last b) (k ∙ e)
+      by (inr m) = let l = s.less in no_more (d h) (2 + exits_in h (but_last b)) true (are_low h n (but_last b)) (λ e. omega (arith, e, k, m, l, u))
+
+  continues_same : (n h : ℕ) → ShowsAlike h (but_last a) (but_last b) → d h ≡ c h → continues c n (but_last a) h ≡ false →
+      continues d n (but_last b) h ≡ false
+  continues_same n h s k e = ap₂ (λ m o. m && eqb (d h) (2 + o)) (s.low n) s.exits ∙
+      ap (λ m. are_low h n (but_last a) && eqb m (2 + exits_in h (but_last a))) k ∙ e
+
+  continue_asked : (n : ℕ) → ((h : ℕ) → (c h ≡ 0) ⊎ (list_count h a < c h)) → allowed (continues c n (but_last a)) (last_reset a) ≡ None →
+      allowed (continues d n (but_last b)) (last_reset b) ≡ None
+  continue_asked n w e = by (last_reset b) refl
+    where
+      none : (h : ℕ) → last_reset a ≡ Some h → IsKept h (but_last a) (but_last b) → (d h ≡ c h) ⊎ (d h ≡ 0) → continues d n (but_last b) h ≡ false
+      none h i s (inl k) = shown s.shows
+        where
+          shown : ShowsAlike h (but_last a) (but_last b) ⊎ NamesOtherwise h (but_last b) → continues d n (but_last b) h ≡ false
+          shown (inl r) = continues_same n h r k (refused (continues c n (but_last a) h) h (sym (ap (allowed (continues c n (but_last a))) i) ∙ e))
+          shown (inr u) = continues_held n h i s u k (w h)
+      none h i s (inr k) = no_continues n h (but_last b) k
+
+      other : (h : ℕ) → last_reset b ≡ Some h → (o : Bool) → eqb g h ≡ o → continues d n (but_last b) h ≡ false
+      other h i true o = no_continues n h (but_last b) (zero_too h o)
+      other h i false o = let r = (q h o).1 i in none h r.0 r.1 (l h)
 
       by : (s : Option ℕ) → last_reset b ≡ s → allowed (continues d n (but_last b)) (last_reset b) ≡ None
       by None i = ap (allowed (continues d n (but_last b))) i
-      by (Some h) i = ap (allowed (continues d n (but_last b))) i ∙ ap (λ m. cond m (Some h) None) (none h i (eqb g h) refl)
+      by (Some h) i = ap (allowed (continues d n (but_last b))) i ∙ ap (λ m. cond m (Some h) None) (other h i (eqb g h) refl)
 
 while_asks : (g : ℕ) (t : TestTree) (a b : Forest) → AreAlike g a b → AsksAlike g (While t a) (While t b)
-while_asks g t a b q f h l z n xs e =
+while_asks g t a b q f h l z n xs w e =
     let r = asked_none f n (While t a) xs e in
     none_asked h n (While t b) xs (
-      break_asked g a b q (counts_of f) (counts_of h) l z n xs (stop_slot t) r.0,
-      continue_asked g a b q (counts_of f) (counts_of h) l z n r.1,
+      break_asked g a b q (counts_of f) (counts_of h) l z n xs t (λ k. w k refl) r.0,
+      continue_asked g a b q (counts_of f) (counts_of h) l z n (λ k. is_less (counts_of f k) _ _ (omega arith) (w k refl)) r.1,
     )
 
 do_asks : (g : ℕ) (t : TestTree) (a b : Forest) → AreAlike g a b → AsksAlike g (Do a t) (Do b t)
-do_asks g t a b q f h l z n xs e =
+do_asks g t a b q f h l z n xs w e =
     let r = asked_none f n (Do a t) xs e in
     none_asked h n (Do b t) xs (
-      break_asked g a b q (counts_of f) (counts_of h) l z n xs (stop_slot t) r.0,
-      continue_asked g a b q (counts_of f) (counts_of h) l z n r.1,
+      break_asked g a b q (counts_of f) (counts_of h) l z n xs t (λ k. is_less (counts_of f k) _ _ (omega arith) (w k refl)) r.0,
+      continue_asked g a b q (counts_of f) (counts_of h) l z n (λ k. is_less (counts_of f k) _ _ (omega arith) (w k refl)) r.1,
     )
 
 for_asks : (g : ℕ) (t u : Option ExpressionTree) (a b c d : Forest) → AreAlikeOf g a b c d → AsksAlike g (For a t u b) (For c t u d)
-for_asks g t u a b c d (inl (q, k)) f h l z n xs e =
+for_asks g t u a b c d (inl (q, k)) f h l z n xs w e =
     subst (λ w. next_here h n (Then (For c t u w) xs) ≡ None) (sym k)
     (none_asked h n (For c t u b) xs (refl, continue_still (counts_of f) (counts_of h) l n (For a t u b) (asked_none f n (For a t u b) xs e).1))
-for_asks g t u a b c d (inr (k, q)) f h l z n xs e =
-    none_asked h n (For c t u d) xs (refl, continue_asked g b d q (counts_of f) (counts_of h) l z n (asked_none f n (For a t u b) xs e).1)
+for_asks g t u a b c d (inr (k, q)) f h l z n xs w e =
+    none_asked h n (For c t u d) xs (
+      refl,
+      continue_asked g b d q (counts_of f) (counts_of h) l z n (λ k. is_less (counts_of f k) _ _ (omega arith) (w k refl))
+          (asked_none f n (For a t u b) xs e).1,
+    )
 
 -- ---- items
 
+-- an item whose checks are those of a list in it
+kept_plain : (h : ℕ) (x y : Tree) (a b : Forest) (m : ℕ) → IsPlain h x → IsPlain h y → checks_of h x ≡ checks_in h a → checks_of h y ≡ checks_in h b →
+    item_count h x ≡ m + list_count h a → item_count h y ≡ m + list_count h b → IsKept h a b → ItemIsKept h x y
+kept_plain h x y a b m p q c d i j s = record { less = let l = s.less in omega (arith, i, j, l); shows = by s.shows }
+  where
+    by : ShowsAlike h a b ⊎ NamesOtherwise h b → ItemShowsAlike h x y ⊎ (exits_of h y < item_count h y)
+    by (inl t) = inl (plain_alike h x y p q (d ∙ t.checks ∙ sym c))
+    by (inr u) = let k = checks_otherwise h b u in let e = q.exits in inr (omega (arith, j, k, e, d))
+
 pub while_alike : (g : ℕ) (t : TestTree) (a b : Forest) → AreAlike g a b → IsAlike g (While t a) (While t b)
 while_alike g t a b q = record {
-  shows = λ h e. plain_alike h (While t a) (While t b) (while_plain t a h) (while_plain t b h) (q h e).0.checks;
+  shows = λ h e. kept_plain h (While t a) (While t b) a b (test_count h t) (while_plain t a h) (while_plain t b h) refl refl refl refl (q h e).0;
   asks = while_asks g t a b q;
   none = refl;
 }
 
 pub do_alike : (g : ℕ) (t : TestTree) (a b : Forest) → AreAlike g a b → IsAlike g (Do a t) (Do b t)
 do_alike g t a b q = record {
-  shows = λ h e. plain_alike h (Do a t) (Do b t) (do_plain a t h) (do_plain b t h) (q h e).0.checks;
+  shows = λ h e. kept_plain h (Do a t) (Do b t) a b (test_count h t) (do_plain a t h) (do_plain b t h) refl refl (omega arith) (omega arith) (q h e).0;
   asks = do_asks g t a b q;
   none = refl;
 }
 
 pub for_alike : (g : ℕ) (t u : Option ExpressionTree) (a b c d : Forest) → AreAlikeOf g a b c d → IsAlike g (For a t u b) (For c t u d)
-for_alike g t u a b c d q = record {
-  shows = λ h e. plain_alike h (For a t u b) (For c t u d) (for_plain a t u b h) (for_plain c t u d h) (by q h e);
-  asks = for_asks g t u a b c d q;
-  none = refl;
-}
+for_alike g t u a b c d q = record { shows = by q; asks = for_asks g t u a b c d q; none = refl }
   where
-    by : AreAlikeOf g a b c d → (h : ℕ) → eqb g h ≡ false → checks_in h d ≡ checks_in h b
-    by (inl (p, k)) h e = ap (checks_in h) k
-    by (inr (k, p)) h e = (p h e).0.checks
+    by : AreAlikeOf g a b c d → (h : ℕ) → eqb g h ≡ false → ItemIsKept h (For a t u b) (For c t u d)
+    by (inl (p, k)) h e = record {
+      less = let l = (p h e).0.less in let m = ap (list_count h) k in omega (arith, l, m);
+      shows = inl (plain_alike h (For a t u b) (For c t u d) (for_plain a t u b h) (for_plain c t u d h) (ap (checks_in h) k));
+    }
+    by (inr (k, p)) h e =
+        let m = ap (list_count h) k in
+        kept_plain h (For a t u b) (For c t u d) b d (item_count h (For a t u Nil)) (for_plain a t u b h) (for_plain c t u d h) refl refl (omega arith)
+        (omega (arith, m)) (p h e).0
+
+block_plain : (a : Forest) (h : ℕ) → IsPlain h (Block a)
+block_plain a h = record { exits = refl; low = λ n. refl; check = refl }
 
 pub block_alike : (g : ℕ) (a b : Forest) → AreAlike g a b → IsAlike g (Block a) (Block b)
 block_alike g a b q = record {
-  shows = λ h e. record { checks = (q h e).0.checks; exits = (q h e).0.checks; low = λ n. refl; check = refl };
-  asks = λ f h l z n xs e. refl;
+  shows = λ h e. kept_plain h (Block a) (Block b) a b 0 (block_plain a h) (block_plain b h) refl refl (omega arith) (omega arith) (q h e).0;
+  asks = λ f h l z n xs w e. refl;
   none = refl;
 }
 
 pub switch_alike : (g : ℕ) (s : SelectorTree) (c d : Sections) → AreSectionsAlike g c d → IsAlike g (Switch s c) (Switch s d)
 switch_alike g s c d q = record {
-  shows = λ h e. record { checks = q h e; exits = q h e; low = λ n. refl; check = refl };
-  asks = λ f h l z n xs e. refl;
+  shows = λ h e. record { less = let l = (q h e).less in omega (arith, l); shows = by h (q h e).shows };
+  asks = λ f h l z n xs w e. refl;
   none = refl;
 }
+  where
+    by : (h : ℕ) → (checks_within h d ≡ checks_within h c) ⊎ (checks_within h d < sections_count h d) →
+        ItemShowsAlike h (Switch s c) (Switch s d) ⊎ (exits_of h (Switch s d) < item_count h (Switch s d))
+    by h (inl k) = inl (record { checks = k; exits = k; low = λ n. refl; check = refl })
+    by h (inr k) = inr (omega (arith, k))
 
 -- an else-list that has items makes no check
 no_check : (h : ℕ) (t : TestTree) (b : Forest) → HasItems b → checks h t b ≡ false
@@ -376,13 +549,45 @@ if_shows h t a b c d i p q r s u v = record {
 }
 
 pub if_alike : (g : ℕ) (t : TestTree) (a b c d : Forest) → AreAlikeOf g a b c d → IsAlike g (If t a b) (If t c d)
-if_alike g t a b c d q = record { shows = by q; asks = λ f h l z n xs e. refl; none = refl }
+if_alike g t a b c d q = record { shows = by q; asks = λ f h l z n xs w e. refl; none = refl }
   where
-    by : AreAlikeOf g a b c d → (h : ℕ) → eqb g h ≡ false → ItemShowsAlike h (If t a b) (If t c d)
+    first : (h : ℕ) → d ≡ b → ShowsAlike h a c ⊎ NamesOtherwise h c → ItemShowsAlike h (If t a b) (If t c d) ⊎ (exits_of h (If t c d) < item_count h (If t c d))
+    first h k (inl s) =
+        inl (if_shows h t a b c d (ap (checks h t) k) s.checks (ap (checks_in h) k) s.exits (ap (exits_in h) k) s.low (λ n. ap (are_low h n) k))
+    first h k (inr s) = let m = check_most h t d in let o = exits_in_most h d in inr (omega (arith, s, m, o))
+
+    second : (h : ℕ) → c ≡ a → HasItems b × HasItems d → ShowsAlike h b d ⊎ NamesOtherwise h d →
+        ItemShowsAlike h (If t a b) (If t c d) ⊎ (exits_of h (If t c d) < item_count h (If t c d))
+    second h k i (inl s) =
+        inl (if_shows h t a b c d (no_check h t d i.1 ∙ sym (no_check h t b i.0)) (ap (checks_in h) k) s.checks (ap (exits_in h) k) s.exits
+        (λ n. ap (are_low h n) k) s.low)
+    second h k i (inr s) = let m = check_most h t d in let o = exits_in_most h c in inr (omega (arith, s, m, o))
+
+    by : AreAlikeOf g a b c d → (h : ℕ) → eqb g h ≡ false → ItemIsKept h (If t a b) (If t c d)
     by (inl (p, k)) h e =
         let s = (p h e).0 in
-        if_shows h t a b c d (ap (checks h t) k) s.checks (ap (checks_in h) k) s.exits (ap (exits_in h) k) s.low (λ n. ap (are_low h n) k)
+        record { less = let l = s.less in let m = ap (list_count h) k in omega (arith, l, m); shows = first h k s.shows }
     by (inr (k, p)) h e =
         let s = (p h e).0 in
-        if_shows h t a b c d (no_check h t d s.some.1 ∙ sym (no_check h t b s.some.0)) (ap (checks_in h) k) s.checks (ap (exits_in h) k) s.exits
-        (λ n. ap (are_low h n) k) s.low
+        record { less = let l = s.less in let m = ap (list_count h) k in omega (arith, l, m); shows = second h k s.some s.shows }
+
+-- ---- sections
+
+-- the first of them, or those behind it
+pub first_kept : (h : ℕ) (v w : List ExpressionTree) (d e m n : Bool) (a b : Forest) (c : Sections) → IsKept h a b →
+    SectionsKept h (Section v d a m c) (Section w e b n c)
+first_kept h v w d e m n a b c s = record { less = let l = s.less in omega (arith, l); shows = by s.shows }
+  where
+    by : ShowsAlike h a b ⊎ NamesOtherwise h b → (checks_in h b + checks_within h c ≡ checks_in h a + checks_within h c) ⊎
+        (checks_in h b + checks_within h c < list_count h b + sections_count h c)
+    by (inl k) = let i = k.checks in inl (omega (arith, i))
+    by (inr k) = let i = checks_otherwise h b k in let m = checks_within_most h c in inr (omega (arith, i, m))
+
+pub later_kept : (h : ℕ) (cases : List ExpressionTree) (default ends : Bool) (a : Forest) (c d : Sections) → SectionsKept h c d →
+    SectionsKept h (Section cases default a ends c) (Section cases default a ends d)
+later_kept h cases default ends a c d s = record { less = let l = s.less in omega (arith, l); shows = by s.shows }
+  where
+    by : (checks_within h d ≡ checks_within h c) ⊎ (checks_within h d < sections_count h d) →
+        (checks_in h a + checks_within h d ≡ checks_in h a + checks_within h c) ⊎ (checks_in h a + checks_within h d < list_count h a + sections_count h d)
+    by (inl k) = inl (omega (arith, k))
+    by (inr k) = let m = checks_in_most h a in inr (omega (arith, k, m))

@@ -15,8 +15,9 @@ use Rattle.break_recovery.specs.Loops.{slot_of, continue_there, change_there}
 use Rattle.break_recovery.specs.declared.here.Change.{Change}
 use Rattle.break_recovery.specs.declared.here.Change.TheVariants as V
 use Rattle.break_recovery.specs.Exits.{loop_body, exits_of, NamesAtMost, HoldsAtMost}
-use Rattle.break_recovery.specs.Steady.{item_is_steady}
-use Rattle.break_recovery.proofs.Lacking.{loop_steady_uncounted, loop_steady_reset}
+use Rattle.break_recovery.specs.declared.steady.Turned.TheVariants as T
+use Rattle.break_recovery.specs.Steady.{item_turned}
+use Rattle.break_recovery.proofs.Lacking.{loop_turned_uncounted, loop_turned_reset}
 
 allowed_so : (p : ℕ → Bool) (s : Option ℕ) (g : ℕ) → allowed p s ≡ Some g → (s ≡ Some g) × (p g ≡ true)
 allowed_so p None g e = cc
@@ -83,7 +84,7 @@ body_list (Do a t) b e = cc
 body_list (For f t u a) b e = cc
 body_list _ b e = cc
 
--- a change without exits leaves all other slots as they are
-pub none_steady : (r : Change) (n : ℕ) (x : Tree) → n ≡ 0 → HoldsAtMost r n x → item_is_steady (slot_of r) x ≡ true
-none_steady (V.Break g) n x z (a, e, h) = loop_steady_uncounted g x a e (omega (arith, z, h))
-none_steady (V.Continue g) n x z (a, e, (h, l)) = loop_steady_reset g x a e l (omega (arith, z, h))
+-- a change without exits turns no other slot
+pub none_turned : (r : Change) (n : ℕ) (x : Tree) → n ≡ 0 → HoldsAtMost r n x → item_turned (slot_of r) x ≡ T.Nothing
+none_turned (V.Break g) n x z (a, e, h) = loop_turned_uncounted g x a e (omega (arith, z, h))
+none_turned (V.Continue g) n x z (a, e, (h, l)) = loop_turned_reset g x a e l (omega (arith, z, h))

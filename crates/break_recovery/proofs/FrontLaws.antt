@@ -198,7 +198,7 @@ rest_made (g ∷ gs) n start gone counts f p r x y e u d m held (c, next, (like,
     (first_undeclared g p d) o
     (λ h t.
     let l = held_still 1 p r f h (fewer_counted f h counts s g refl u.told t) g (none_counted h counts s g refl t) x c k like (held f u.told) in
-    (quiet_front h 2 g p (Then c r) d l.0, l.1)) more in
+    (quiet_front h 2 g p (Then c r) d l.0, l.1, l.2)) more in
     record {
       underway =
           let z : suc n + length gs ≡ n + suc (length gs) = omega arith in

@@ -10,6 +10,7 @@ pub mod Underway
 pub mod Stays
 pub mod NothingBefore
 pub mod SteadyChanges
+pub mod Less
 pub mod Alike
 pub mod WaysSearched
 pub mod Steps
@@ -19,6 +20,7 @@ pub mod Numbered
 pub mod Outermost
 pub mod Ways
 pub mod Likeness
+pub mod HeldLaws
 pub mod Steadily
 pub mod Rows
 pub mod RowsWithin

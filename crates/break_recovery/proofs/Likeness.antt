@@ -1,5 +1,5 @@
 -- Lists of items that show the same of all slots but one, and the steps of a way to what was changed.
-use Rattle.std.proofs.Common.{ℕ, zero, suc, ◌+◌, ◌<◌, arith, Bool, true, false, List, [], ◌∷◌, length, take, drop, get_or, slice_set, reverse, option_map, Option, Some, None, Result, Ok, Err, IfOk, ◌≡◌, refl, sym, ap, subst, ◌∙◌}
+use Rattle.std.proofs.Common.{ℕ, zero, suc, ◌+◌, ◌<◌, ◌⊎◌, inl, inr, arith, Bool, true, false, eqb, List, [], ◌∷◌, length, take, drop, get_or, slice_set, reverse, option_map, Option, Some, None, Result, Ok, Err, IfOk, ◌≡◌, refl, sym, ap, subst, ◌∙◌}
 use Rattle.std.proofs.lemmas.List.{reverse-reverse}
 use Rattle.c_tree.specs.declared.tree.Item.{Item, If, While, Do, For, Switch, Block}
 use Rattle.c_tree.specs.declared.tree.Expression.{Expression}
@@ -10,18 +10,20 @@ use Rattle.c_tree.specs.TestTrees.{test_tree, selector_tree}
 use Rattle.c_tree.specs.Trees as Trees
 use Rattle.c_tree.specs.declared.tree.Section as Real
 use Rattle.c_tree.specs.Paths.{list_of}
-use Rattle.c_tree.specs.Trees.{Tree, Forest, Then, trees_of, sections_of, join}
-use Rattle.c_tree.specs.Views.{tree_at}
+use Rattle.c_tree.specs.Trees.{Tree, Forest, Nil, Then, expression_trees, trees_of, sections_of, join}
+use Rattle.c_tree.specs.Views.{tree_at, before}
 use Rattle.c_tree.proofs.TreeLaws.{trees-none}
 use Rattle.c_tree.proofs.Views.{trees-first, trees-at, section-first, at-If, at-While, at-Do, at-For, at-Switch, at-Block}
 use Rattle.jump_meaning.specs.Code.{FunctionTree}
-use Rattle.tidy_loops.specs.Exits.{checks_in, checks_within}
-use Rattle.tidy_loops.specs.Slots.{counts_of, break_slot, continue_slot}
+use Rattle.tidy_loops.specs.Slots.{Tells, count_in, counts_of, break_slot, continue_slot, but_first, but_last}
 use Rattle.break_recovery.specs.Next.{or_else, next_here}
 use Rattle.break_recovery.specs.Places.{Fewer}
-use Rattle.break_recovery.specs.Steady.{item_is_steady, AreAlike, AreAlikeOf, AreSectionsAlike, IsAlike, IsSaid}
+use Rattle.break_recovery.specs.Steady.{item_turned, is_turned, NeedsOtherwise, SectionsKept, AreAlike, AreAlikeOf, AreSectionsAlike, IsAlike, IsSaid}
+use Rattle.break_recovery.specs.declared.steady.Turned.TheVariants as T
+use Rattle.break_recovery.specs.Within.{AreApart}
 use Rattle.break_recovery.specs.Ways.{IsWayIn, IsWayAt}
-use Rattle.break_recovery.proofs.Alike.{alike_behind, alike_first, broken_alike, continued_alike, if_alike, while_alike, do_alike, for_alike, switch_alike, block_alike}
+use Rattle.break_recovery.proofs.Alike.{otherwise_behind, IsLeftAlone, alike_behind, alike_first, broken_alike, continued_alike, if_alike, while_alike, do_alike, for_alike, switch_alike, block_alike, first_kept, later_kept}
+use Rattle.break_recovery.proofs.Within.{apart_told, apart_there}
 use Rattle.break_recovery.proofs.WaysSearched.{goes_in, asked_before}
 use Rattle.break_recovery.specs.declared.here.Change.{Change}
 use Rattle.break_recovery.specs.declared.here.Change.TheVariants as V
@@ -56,20 +58,40 @@ pub sections_alike : (g : ℕ) (cs : List Real.Section) (i : ℕ) (s t : Real.Se
     → AreSectionsAlike g (sections_of cs) (sections_of (slice_set cs i t))
 sections_alike g [] i s t l e q h o = absurd (omega (arith, l))
 sections_alike g (c ∷ cs) zero s t l e q h o =
-    let p = (q h o).0.checks in
-    let r = ap (λ z. checks_in h (trees_of (list_of z))) e in
-    let u = ap (checks_within h) (section-first c cs) in
-    let v = ap (checks_within h) (section-first t cs) in
-    omega (arith, p, r, u, v)
+    let u : c ≡ s = sym e in
+    let v = Real.out-Section s in
+    let w = Real.out-Section t in
+    subst (λ z. SectionsKept h z (sections_of (t ∷ cs))) (sym (section-first c cs ∙ ap (λ c. before c (sections_of cs)) u))
+    (subst (SectionsKept h (before s (sections_of cs))) (sym (section-first t cs))
+    (first_kept h (expression_trees v.cases) (expression_trees w.cases) v.default w.default v.ends w.ends (trees_of v.list) (trees_of w.list) (sections_of cs)
+    (q h o).0))
 sections_alike g (c ∷ cs) (suc i) s t l e q h o =
-    let p = sections_alike g cs i s t (omega (arith, l)) e q h o in
-    let u = ap (checks_within h) (section-first c cs) in
-    let v = ap (checks_within h) (section-first c (slice_set cs i t)) in
-    omega (arith, p, u, v)
+    let v = Real.out-Section c in
+    subst (λ z. SectionsKept h z (sections_of (c ∷ slice_set cs i t))) (sym (section-first c cs))
+    (subst (SectionsKept h (before c (sections_of cs))) (sym (section-first c (slice_set cs i t)))
+    (later_kept h (expression_trees v.cases) v.default v.ends (trees_of v.list) (sections_of cs) (sections_of (slice_set cs i t))
+    (sections_alike g cs i s t (omega (arith, l)) e q h o)))
 
 -- ---- the change at a loop
 
-change_alike : (c : ℕ → ℕ) (n : ℕ) (x : Tree) (xs : Forest) (r : Change) → change_there c n x xs ≡ Some r → item_is_steady (slot_of r) x ≡ true →
+-- an item that is left goes back to the list behind the `g = 0;`
+needs_behind : (h : ℕ) (xs : Forest) → NeedsOtherwise h (but_first xs) → NeedsOtherwise h xs
+needs_behind h (Then z Nil) s = absurd (omega (arith, s))
+needs_behind h (Then z (Then y ys)) s = (otherwise_behind h z (Then y ys) s.0, otherwise_behind h z (but_last (Then y ys)) s.1)
+needs_behind h Nil s = s
+
+left_behind : (g h : ℕ) (x : Tree) (xs : Forest) → IsLeftAlone g h x (but_first xs) → IsLeftAlone g h x xs
+left_behind g h x xs (inl e) = inl e
+left_behind g h x xs (inr s) = inr (needs_behind h xs s)
+
+-- each other slot is left alone by a change, where the item behind the loop goes or not
+abbrev pub AreLeftAlone : Change → Tree → Forest → Type 0
+AreLeftAlone r x xs = (h : ℕ) → eqb (slot_of r) h ≡ false → IsLeftAlone (slot_of r) h x (but_first xs)
+
+pub nothing_turned : (r : Change) (x : Tree) (xs : Forest) → item_turned (slot_of r) x ≡ T.Nothing → AreLeftAlone r x xs
+nothing_turned r x xs e h o = inl (ap (is_turned h) e)
+
+change_alike : (c : ℕ → ℕ) (n : ℕ) (x : Tree) (xs : Forest) (r : Change) → change_there c n x xs ≡ Some r → AreLeftAlone r x xs →
     AreAlike (slot_of r) (Then x xs) (list_after r (Then x xs))
 change_alike c n x xs r e s = by (break_slot c n x xs) (continue_slot c n x) refl refl
   where
@@ -79,17 +101,18 @@ change_alike c n x xs r e s = by (break_slot c n x xs) (continue_slot c n x) ref
     by : (o p : Option ℕ) → break_slot c n x xs ≡ o → continue_slot c n x ≡ p → AreAlike (slot_of r) (Then x xs) (list_after r (Then x xs))
     by (Some g) p h k =
         let i = it_is (V.Break g) (sym (ap (λ o. or_else (option_map V.Break o) (continue_there c n x)) h) ∙ e) in
-        subst (λ r. AreAlike (slot_of r) (Then x xs) (list_after r (Then x xs))) i (broken_alike c n g x xs h (ap (λ r. item_is_steady (slot_of r) x) i ∙ s))
+        subst (λ r. AreAlike (slot_of r) (Then x xs) (list_after r (Then x xs))) i (broken_alike c n g x xs h (subst (λ r. AreLeftAlone r x xs) (sym i) s))
     by None (Some g) h k =
         let i = it_is (V.Continue g) (sym (ap (λ o. or_else (option_map V.Break o) (continue_there c n x)) h ∙ ap (option_map V.Continue) k) ∙ e) in
-        subst (λ r. AreAlike (slot_of r) (Then x xs) (list_after r (Then x xs))) i (continued_alike c n g x xs k (ap (λ r. item_is_steady (slot_of r) x) i ∙ s))
+        let l = subst (λ r. AreLeftAlone r x xs) (sym i) s in
+        subst (λ r. AreAlike (slot_of r) (Then x xs) (list_after r (Then x xs))) i (continued_alike c n g x xs k (λ j o. left_behind g j x xs (l j o)))
     by None None h k = absurd (no (sym (ap (λ o. or_else (option_map V.Break o) (continue_there c n x)) h ∙ ap (option_map V.Continue) k) ∙ e))
       where
         no : None ≡ Some r → ⊥
         no e = cc
 
 pub here_alike : (c : ℕ → ℕ) (n : ℕ) (xs ys : List Item) (i : ℕ) (x : Item) (r : Change) → i < length xs → x ≡ get_or xs i x →
-    change_first c n (trees_of (drop i xs)) ≡ Some r → item_is_steady (slot_of r) (tree_at x) ≡ true
+    change_first c n (trees_of (drop i xs)) ≡ Some r → AreLeftAlone r (tree_at x) (trees_of (drop (i + 1) xs))
     → trees_of ys ≡ join (trees_of (take i xs)) (list_after r (trees_of (drop i xs))) → AreAlike (slot_of r) (trees_of xs) (trees_of ys)
 here_alike c n xs ys i x r h k e s j =
     let t = trees-at xs i x h k in
@@ -116,11 +139,13 @@ was_asked sure f n w a e h q = asked_before sure f n (reverse w) a e (λ i. h (e
 -- where the changed item is like it was, the way goes on in it
 pub item_goes_in : (sure : Bool) (f h : FunctionTree) (g : ℕ) → Fewer (counts_of f) (counts_of h) → counts_of h g ≡ 0 →
     (n i : ℕ) (w : List ℕ) (xs : List Item) (x y : Item) → i < length xs → x ≡ get_or xs i x
-    → (sure ≡ true → IsAlike g (tree_at x) (tree_at y)) → next_here f n (trees_of (drop i xs)) ≡ None → IsWayIn sure h n w (tree_at y) →
-    IsWayAt sure h n w (trees_of (drop i (slice_set xs i y)))
-item_goes_in sure f h g l z n i w xs x y b e s k p =
+    → (sure ≡ true → IsAlike g (tree_at x) (tree_at y)) → (counts : List ℕ) → Tells counts f → AreApart (count_in counts) (trees_of xs) →
+    next_here f n (trees_of (drop i xs)) ≡ None → IsWayIn sure h n w (tree_at y) → IsWayAt sure h n w (trees_of (drop i (slice_set xs i y)))
+item_goes_in sure f h g l z n i w xs x y b e s counts t a k p =
     subst (IsWayAt sure h n w) (sym (dropped_set xs i y b))
-    (goes_in sure f h g l z n w (tree_at x) (tree_at y) (trees_of (drop (i + 1) xs)) s (sym (ap (next_here f n) (trees-at xs i x b e)) ∙ k) p)
+    (goes_in sure f h g l z n w (tree_at x) (tree_at y) (trees_of (drop (i + 1) xs)) s
+    (apart_told counts f (tree_at x) (trees_of (drop (i + 1) xs)) t (apart_there (count_in counts) xs i x b e a))
+    (sym (ap (next_here f n) (trees-at xs i x b e)) ∙ k) p)
 
 pub true_false : true ≡ false → ⊥
 true_false e = cc

@@ -9,7 +9,7 @@ use Rattle.c_tree.proofs.Views.{trees-first, trees-at}
 use Rattle.jump_meaning.specs.Code.{FunctionTree, function_tree}
 use Rattle.tidy_laws.specs.Changes.{undeclared, is_declaration}
 use Rattle.tidy_laws.specs.Gone.{left}
-use Rattle.tidy_loops.specs.Slots.{Tells}
+use Rattle.tidy_loops.specs.Slots.{Tells, count_in}
 use Rattle.break_recovery.specs.Next.{next_at}
 use Rattle.break_recovery.specs.Places.{behind, AreQuiet}
 use Rattle.break_recovery.specs.Underway.{Underway}
@@ -18,6 +18,8 @@ use Rattle.break_recovery.specs.Ends.{with_body, WentOnBy}
 use Rattle.break_recovery.specs.InARow.{without}
 use Rattle.break_recovery.specs.Fronts.{holds_none, DeclaresNone, DeclaresFirst, all_undeclared, all_marked}
 use Rattle.break_recovery.proofs.Steps.{set_trees, entry_is}
+use Rattle.break_recovery.specs.Within.{AreApart}
+use Rattle.break_recovery.proofs.Within.{apart_told, apart_there}
 use Rattle.break_recovery.proofs.Outermost.{behind_is}
 use Rattle.break_recovery.proofs.WaysSearched.{asked_before}
 use Rattle.break_recovery.proofs.RowsWithin.{RowOfItem, long, behind_long, long_take, split_at, Held, asked_none}
@@ -69,7 +71,7 @@ none_went gone counts f = (refl, λ n start u. (subst (λ k. Underway k start go
 module _ (counts after gs v w : List ℕ) (k : ℕ) (xs zs : List Item) (x y : Item) (h : k < length xs) (e : slice_get xs k ≡ Some x)
     (q : RowOfItem 2 counts after gs v w (tree_at x) (tree_at y)) (z : trees_of zs ≡ all_undeclared gs (trees_of (slice_set xs k y)))
     (ahead : (f : FunctionTree) → Tells counts f → AreQuiet f 2 k (trees_of xs) × IsWayAt true f 2 v (behind k (trees_of xs)))
-    (plain : holds_none (tree_at x) ≡ false) (o : v ≡ [] → ⊥) (d : DeclaresFirst (trees_of xs)) where
+    (plain : holds_none (tree_at x) ≡ false) (o : v ≡ [] → ⊥) (d : DeclaresFirst (trees_of xs)) (apart : AreApart (count_in counts) (trees_of xs)) where
   abbrev p : Forest
   p = trees_of (take k xs)
 
@@ -90,8 +92,14 @@ module _ (counts after gs v w : List ℕ) (k : ℕ) (xs zs : List Item) (x y : I
       let a = ahead f t in
       let b : IsWayAt true f 2 v (Then (tree_at x) r) =
       subst (IsWayAt true f 2 v) (ap (behind k) whole ∙ ap (λ k. behind k (join p (Then (tree_at x) r))) (sym at_end) ∙
-      behind_long p (Then (tree_at x) r)) a.1 in
-      (b.1, (subst (λ k. AreQuiet f 2 k (join p (Then (tree_at x) r))) (sym at_end) (subst (AreQuiet f 2 k) whole a.0), asked_before true f 2 v (Then (tree_at x) r) refl o b))
+      behind_long p (Then (tree_at x) r)) a.1 in (
+        b.1,
+        (
+          subst (λ k. AreQuiet f 2 k (join p (Then (tree_at x) r))) (sym at_end) (subst (AreQuiet f 2 k) whole a.0),
+          asked_before true f 2 v (Then (tree_at x) r) refl o b,
+          apart_told counts f (tree_at x) r t (apart_there (count_in counts) xs k x h (entry_is xs k x e) apart),
+        ),
+      )
 
   done : (n : ℕ) (start : FunctionTree) (gone : List Bool) (f : FunctionTree) → f.body ≡ Some (trees_of xs) → Underway n start gone counts f →
       IsDone gs start n gone counts f p r (tree_at y)

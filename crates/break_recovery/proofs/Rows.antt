@@ -129,14 +129,14 @@ module _ {A B : Type 0} (nextA : FunctionTree → A → Option (ℕ × A)) (next
       ((F c, λ h u. step h g a c (p h u) (n h u), (like g a c l, w.0)), w.1)
 
   pub row_lifted : {V W : Type 0} (PA : FunctionTree → V → A → Type 0) (PB : FunctionTree → W → B → Type 0) (counts after gs : List ℕ)
-      (v w : V) (u r : W) (a b : A) → ((h : FunctionTree) → PB h u (F a) → PA h v a × P h a) →
+      (v w : V) (u r : W) (a b : A) → ((h : FunctionTree) → Tells counts h → PB h u (F a) → PA h v a × P h a) →
       ((h : FunctionTree) → PA h w b → P h b → PB h r (F b)) → IsRow nextA likeA PA counts after gs v w a b →
       IsRow nextB likeB PB counts after gs u r (F a) (F b)
   row_lifted PA PB counts after gs v w u r a b i o (e, q) = (
     e,
     λ f t p.
-        let k = q f t (λ h d. (i h (p h d)).0) in
-        let s = lifted counts gs a b f t (λ h d. (i h (p h d)).1) k.0 in
+        let k = q f t (λ h d. (i h d (p h d)).0) in
+        let s = lifted counts gs a b f t (λ h d. (i h d (p h d)).1) k.0 in
         (s.0, λ h d. o h (k.1 h d) (s.1 h (subst (λ z. Tells z h) e d))),
   )
 

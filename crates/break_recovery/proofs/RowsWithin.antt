@@ -1,6 +1,6 @@
 -- Changes in a row in a list, in an item that holds it and in a list that holds the item.
 use mathlib.Core.Path.{ap₂}
-use Rattle.std.proofs.Common.{ℕ, zero, suc, ◌+◌, ◌<◌, arith, true, List, [], ◌∷◌, length, take, drop, slice_get, slice_set, Bool, option_map, Option, Some, None, ◌≡◌, refl, sym, ap, subst, inl, inr, ◌∙◌}
+use Rattle.std.proofs.Common.{ℕ, zero, suc, ◌+◌, ◌<◌, ◌≤◌, ◌⊎◌, arith, true, false, List, [], ◌∷◌, length, take, drop, slice_get, slice_set, Bool, eqb, eqb-true, option_map, Option, Some, None, ◌≡◌, refl, sym, ap, subst, inl, inr, ◌∙◌}
 use Rattle.c_tree.specs.declared.tree.Item.{Item, If, While, Do, For, Switch, Block}
 use Rattle.c_tree.specs.declared.tree.Expression.{Expression}
 use Rattle.c_tree.specs.declared.tree.Test.{Test}
@@ -11,13 +11,17 @@ use Rattle.c_tree.specs.Trees as Trees
 use Rattle.c_tree.specs.declared.tree.Section as Real
 use Rattle.c_tree.specs.Paths.{list_of}
 use Rattle.c_tree.specs.Paths as Paths
-use Rattle.c_tree.specs.Trees.{Tree, Forest, Nil, Then, Sections, Section, expression_trees, trees_of, sections_of, join}
+use Rattle.c_tree.specs.Trees.{Tree, Forest, Nil, Then, Sections, Section, Local, expression_trees, trees_of, sections_of, join}
 use Rattle.c_tree.specs.Views.{tree_at, before}
 use Rattle.c_tree.proofs.TreeLaws.{trees-none}
 use Rattle.c_tree.proofs.PathLemmas.{set_same}
 use Rattle.c_tree.proofs.Views.{trees-first, section-first, at-If, at-While, at-Do, at-For, at-Switch, at-Block}
 use Rattle.jump_meaning.specs.Code.{FunctionTree}
-use Rattle.tidy_loops.specs.Slots.{counts_of}
+use Rattle.tidy_laws.specs.Changes.{is_declaration}
+use Rattle.tidy_slots.specs.Counts.{one_if, item_count}
+use Rattle.tidy_loops.specs.Views.{is_it}
+use Rattle.tidy_loops.specs.Slots.{Tells, count_in, counts_of, first_reset}
+use Rattle.tidy_loops.specs.Remaining.{IsApart}
 use Rattle.break_recovery.specs.Next.{or_else, put, next_list, next_item, next_sections, next_either, next_here, next_at}
 use Rattle.break_recovery.specs.Places.{behind, replaced, AreQuiet, Fewer}
 use Rattle.break_recovery.specs.Steady.{AreAlike, AreAlikeOf, AreSectionsAlike, IsAlike}
@@ -27,8 +31,10 @@ use Rattle.break_recovery.proofs.Rows.{row_lifted, row_said}
 use Rattle.break_recovery.proofs.Stays.{list_still}
 use Rattle.break_recovery.proofs.NextLaws.{in_if, in_while, in_do, in_for, in_switch, in_block, more_sections}
 use Rattle.break_recovery.proofs.NothingBefore.{found_next}
-use Rattle.break_recovery.proofs.Alike.{alike_behind, alike_first, if_alike, while_alike, do_alike, for_alike, switch_alike, block_alike}
-use Rattle.break_recovery.proofs.Steps.{either_in, set_trees, before_with}
+use Rattle.break_recovery.proofs.Alike.{alike_behind, alike_first, if_alike, while_alike, do_alike, for_alike, switch_alike, block_alike, first_kept, later_kept}
+use Rattle.break_recovery.proofs.Steps.{either_in, set_trees, before_with, entry_is}
+use Rattle.break_recovery.specs.Within.{IsWithin}
+use Rattle.break_recovery.proofs.Within.{apart_told, apart_there, within_apart}
 use Rattle.break_recovery.proofs.WaysSearched.{in_if_way, if_way, in_while_way, while_way, in_do_way, do_way, in_for_way, for_way, in_block_way, block_way, in_switch_way, switch_way, still_quiet, asked_before, step_in_list, step_in_first, step_in_second, step_in_sections}
 
 -- ---- the rows
@@ -65,21 +71,21 @@ module _ (n : ℕ) (counts after gs v w : List ℕ) where
       row_lifted (λ f. next_list f n) (λ f. next_item f n) AreAlike IsAlike (Trees.While t) Always
       (λ f g a c p e. in_while f n t a ∙ ap (put (Trees.While t)) e) (λ g a c l. while_alike g t a c l) (λ f h l g z a c e k p. tt)
       (λ f. IsWay true f n) (λ f. IsWayIn true f n) counts after gs v w v w a b
-      (λ h q. (in_while_way true h n v t a q, tt)) (λ h q p. while_way true h n w t b q) r
+      (λ h d q. (in_while_way true h n v t a q, tt)) (λ h q p. while_way true h n w t b q) r
 
   do_made : (t : TestTree) (a b : Forest) → RowOfList n counts after gs v w a b → RowOfItem n counts after gs v w (Trees.Do a t) (Trees.Do b t)
   do_made t a b r =
       row_lifted (λ f. next_list f n) (λ f. next_item f n) AreAlike IsAlike (λ c. Trees.Do c t) Always
       (λ f g a c p e. in_do f n a t ∙ ap (put (λ c. Trees.Do c t)) e) (λ g a c l. do_alike g t a c l) (λ f h l g z a c e k p. tt)
       (λ f. IsWay true f n) (λ f. IsWayIn true f n) counts after gs v w v w a b
-      (λ h q. (in_do_way true h n v a t q, tt)) (λ h q p. do_way true h n w b t q) r
+      (λ h d q. (in_do_way true h n v a t q, tt)) (λ h q p. do_way true h n w b t q) r
 
   block_made : (a b : Forest) → RowOfList n counts after gs v w a b → RowOfItem n counts after gs v w (Trees.Block a) (Trees.Block b)
   block_made a b r =
       row_lifted (λ f. next_list f n) (λ f. next_item f n) AreAlike IsAlike Trees.Block Always
       (λ f g a c p e. in_block f n a ∙ ap (put Trees.Block) e) (λ g a c l. block_alike g a c l) (λ f h l g z a c e k p. tt)
       (λ f. IsWay true f n) (λ f. IsWayIn true f n) counts after gs v w v w a b
-      (λ h q. (in_block_way true h n v a q, tt)) (λ h q p. block_way true h n w b q) r
+      (λ h d q. (in_block_way true h n v a q, tt)) (λ h q p. block_way true h n w b q) r
 
   switch_made : (s : SelectorTree) (c d : Sections) → RowOfSections n counts after gs v w c d →
       RowOfItem n counts after gs v w (Trees.Switch s c) (Trees.Switch s d)
@@ -87,7 +93,7 @@ module _ (n : ℕ) (counts after gs v w : List ℕ) where
       row_lifted (λ f. next_sections f n) (λ f. next_item f n) AreSectionsAlike IsAlike (Trees.Switch s) Always
       (λ f g c d p e. in_switch f n s c ∙ ap (put (Trees.Switch s)) e) (λ g c d l. switch_alike g s c d l) (λ f h l g z c d e k p. tt)
       (λ f. IsWayThrough true f n) (λ f. IsWayIn true f n) counts after gs v w v w c d
-      (λ h q. (in_switch_way true h n v s c q, tt)) (λ h q p. switch_way true h n w s d q) r
+      (λ h d q. (in_switch_way true h n v s c q, tt)) (λ h q p. switch_way true h n w s d q) r
 
   if_made : (t : TestTree) (c d : Forest × Forest) → RowOfTwo n counts after gs v w c d →
       RowOfItem n counts after gs v w (Trees.If t c.0 c.1) (Trees.If t d.0 d.1)
@@ -97,7 +103,7 @@ module _ (n : ℕ) (counts after gs v w : List ℕ) where
       ap (put (λ (c : Forest × Forest). Trees.If t c.0 c.1)) e)
       (λ g c d l. if_alike g t c.0 c.1 d.0 d.1 l) (λ f h l g z c d e k p. tt)
       (λ f. IsWayOfTwo f n) (λ f. IsWayIn true f n) counts after gs v w v w c d
-      (λ h q. (in_if_way true h n v t c.0 c.1 q, tt)) (λ h q p. if_way true h n w t d.0 d.1 q) r
+      (λ h d q. (in_if_way true h n v t c.0 c.1 q, tt)) (λ h q p. if_way true h n w t d.0 d.1 q) r
 
   for_made : (t u : Option ExpressionTree) (c d : Forest × Forest) → RowOfTwo n counts after gs v w c d →
       RowOfItem n counts after gs v w (Trees.For c.0 t u c.1) (Trees.For d.0 t u d.1)
@@ -107,7 +113,7 @@ module _ (n : ℕ) (counts after gs v w : List ℕ) where
       ap (put (λ (c : Forest × Forest). Trees.For c.0 t u c.1)) e)
       (λ g c d l. for_alike g t u c.0 c.1 d.0 d.1 l) (λ f h l g z c d e k p. tt)
       (λ f. IsWayOfTwo f n) (λ f. IsWayIn true f n) counts after gs v w v w c d
-      (λ h q. (in_for_way true h n v c.0 t u c.1 q, tt)) (λ h q p. for_way true h n w d.0 t u d.1 q) r
+      (λ h d q. (in_for_way true h n v c.0 t u c.1 q, tt)) (λ h q p. for_way true h n w d.0 t u d.1 q) r
 
   -- as items
   pub while_row : (x : Item) (t : Test) (a b : List Item) → x ≡ While t a → RowOfList n counts after gs v w (trees_of a) (trees_of b) →
@@ -160,7 +166,7 @@ module _ (n : ℕ) (counts after gs v w : List ℕ) where
       (λ f g a c p e. ap (λ o. or_else (put (λ c. (c, b)) o) (put (λ d. (a, d)) (next_list f n b))) e)
       (λ g a c l. inl (l, refl)) (λ f h l g z a c e k p. tt)
       (λ f. IsWay true f n) (λ f. IsWayOfTwo f n) counts after gs v w u (0 ∷ w) a c
-      (λ h q. (i h q, tt)) (λ h q p. q) r
+      (λ h d q. (i h q, tt)) (λ h q p. q) r
 
   second_made : (u : List ℕ) (a b c : Forest) → ((h : FunctionTree) → IsWayOf true h n u a b → (next_list h n a ≡ None) × IsWay true h n v b) →
       RowOfList n counts after gs v w b c → RowOfTwo n counts after gs u (1 ∷ w) (a, b) (a, c)
@@ -169,7 +175,7 @@ module _ (n : ℕ) (counts after gs v w : List ℕ) where
       (λ f g b c p e. ap₂ (λ o z. or_else (put (λ c. (c, b)) o) (put (λ c. (a, c)) z)) p e)
       (λ g b c l. inr (refl, l)) (λ f h l g z b c e k p. list_still f h l a n p)
       (λ f. IsWay true f n) (λ f. IsWayOfTwo f n) counts after gs v w u (1 ∷ w) b c
-      (λ h q. ((i h q).1, (i h q).0)) (λ h q p. (p, q)) r
+      (λ h d q. ((i h q).1, (i h q).0)) (λ h q p. (p, q)) r
 
 -- ---- an item of a list
 
@@ -199,65 +205,93 @@ pub asked_none : (h : FunctionTree) (n : ℕ) (w : List ℕ) (a : Forest) → ne
 asked_none h n [] a e = tt
 asked_none h n (j ∷ w) a e = e
 
+-- what holds no list allows no change in it
+no_declaration : (f : FunctionTree) (n : ℕ) (y : Tree) (c : ℕ × Tree) → next_item f n y ≡ Some c → (g : ℕ) → is_declaration g y ≡ false
+no_declaration f n (Local x es) c e g = absurd (no e)
+  where
+    no : None ≡ Some c → ⊥
+    no e = cc
+no_declaration f n _ c e g = refl
+
+-- an item that was changed stays apart, since it names each other slot no more often
+apart_still : (f h : FunctionTree) → Fewer (counts_of f) (counts_of h) → (g : ℕ) → counts_of h g ≡ 0 → (y z : Tree) (r : Forest) →
+    ((j : ℕ) → is_declaration j y ≡ false) → ((j : ℕ) → eqb g j ≡ false → item_count j z ≤ item_count j y) → IsApart (counts_of f) y r →
+    IsApart (counts_of h) z r
+apart_still f h l g o y z r d m a j i = by (eqb g j) refl
+  where
+    less : (counts_of f j ≡ 0) ⊎ (item_count j y + one_if (is_it j (first_reset r)) < counts_of f j) → item_count j z ≤ item_count j y →
+        (counts_of h j ≡ counts_of f j) ⊎ (counts_of h j ≡ 0) →
+        (counts_of h j ≡ 0) ⊎ (item_count j z + one_if (is_it j (first_reset r)) < counts_of h j)
+    less w k (inr q) = inl q
+    less (inl w) k (inl q) = inl (q ∙ w)
+    less (inr w) k (inl q) = inr (omega (arith, w, k, q))
+
+    by : (b : Bool) → eqb g j ≡ b → (counts_of h j ≡ 0) ⊎ (item_count j z + one_if (is_it j (first_reset r)) < counts_of h j)
+    by true e = inl (sym (ap (counts_of h) (eqb-true g j e)) ∙ o)
+    by false e = less (a j (d j)) (m j e) (l j)
+
 module _ (n : ℕ) (p r : Forest) where
   abbrev With : Tree → Forest
   With y = join p (Then y r)
 
   abbrev pub Held : FunctionTree → Tree → Type 0
-  Held f y = AreQuiet f (suc n) (long p) (join p (Then y r)) × (next_here f (suc n) (Then y r) ≡ None)
+  Held f y = AreQuiet f (suc n) (long p) (join p (Then y r)) × (next_here f (suc n) (Then y r) ≡ None) × IsApart (counts_of f) y r
 
   pub at_it : (f : FunctionTree) (g : ℕ) (y z : Tree) → next_here f (suc n) (Then y r) ≡ None → next_item f (suc n) y ≡ Some (g, z) →
       next_at f (suc n) (behind (long p) (With y)) ≡ Some (g, Then z r)
   at_it f g y z h e = ap (next_at f (suc n)) (behind_long p (Then y r)) ∙ ap₂ (λ o z. or_else o (put (λ y. Then y r) z)) h e
 
   pub with_next : (f : FunctionTree) (g : ℕ) (y z : Tree) → Held f y → next_item f (suc n) y ≡ Some (g, z) → next_list f n (With y) ≡ Some (g, With z)
-  with_next f g y z (q, k) e = found_next f n (long p) (With y) g (Then z r) q (at_it f g y z k e) ∙
+  with_next f g y z (q, k, a) e = found_next f n (long p) (With y) g (Then z r) q (at_it f g y z k e) ∙
       ap (λ z. Some (g, z)) (replaced_long p (Then z r) (Then y r))
 
   pub held_still : (f h : FunctionTree) → Fewer (counts_of f) (counts_of h) → (g : ℕ) → counts_of h g ≡ 0 → (y z : Tree) →
       next_item f (suc n) y ≡ Some (g, z) → IsAlike g y z → Held f y → Held h z
-  held_still f h l g o y z e s (q, k) = (
+  held_still f h l g o y z e s (q, k, a) = (
     subst (AreQuiet h (suc n) (long p)) (replaced_long p (Then z r) (Then y r))
         (still_quiet f h l (suc n) (long p) (With y) g (Then z r) (at_it f g y z k e) q),
-    s.asks f h l o (suc n) r k,
+    s.asks f h l o (suc n) r a k,
+    apart_still f h l g o y z r (no_declaration f (suc n) y (g, z) e) (λ j i. (s.shows j i).less) a,
   )
 
   with_alike : (g : ℕ) (y z : Tree) → IsAlike g y z → AreAlike g (With y) (With z)
   with_alike g y z s = alike_front g p (Then y r) (Then z r) (alike_first g y z r s.shows s.none)
 
   way_out : (h : FunctionTree) (k : ℕ) (w : List ℕ) (z : Tree) → k ≡ long p → IsWayIn true h (suc n) w z → Held h z → IsWay true h n (k ∷ w) (With z)
-  way_out h k w z e q (a, b) = subst (λ k. IsWay true h n (k ∷ w) (With z)) (sym e) (
+  way_out h k w z e q (a, b, c) = subst (λ k. IsWay true h n (k ∷ w) (With z)) (sym e) (
     a,
     subst (IsWayAt true h (suc n) w) (sym (behind_long p (Then z r))) (asked_none h (suc n) w (Then z r) b, q),
   )
 
-  way_in : (h : FunctionTree) (k : ℕ) (u v : List ℕ) (y : Tree) → k ≡ long p → IsStep u k v → (v ≡ [] → ⊥) → IsWay true h n u (With y) →
-      IsWayIn true h (suc n) v y × Held h y
-  way_in h k u v y e s o q =
+  way_in : (h : FunctionTree) (k : ℕ) (u v : List ℕ) (y : Tree) → k ≡ long p → IsStep u k v → (v ≡ [] → ⊥) → IsApart (counts_of h) y r →
+      IsWay true h n u (With y) → IsWayIn true h (suc n) v y × Held h y
+  way_in h k u v y e s o a q =
       let d = step_in_list true h n k u v (With y) s q in
       let b : IsWayAt true h (suc n) v (Then y r) = subst (IsWayAt true h (suc n) v) (ap (λ k. behind k (With y)) e ∙ behind_long p (Then y r)) d.1 in
-      (b.1, (subst (λ k. AreQuiet h (suc n) k (With y)) e d.0, asked_before true h (suc n) v (Then y r) refl o b))
+      (b.1, (subst (λ k. AreQuiet h (suc n) k (With y)) e d.0, asked_before true h (suc n) v (Then y r) refl o b, a))
 
   list_made : (counts after gs u v w : List ℕ) (k : ℕ) (y z : Tree) → k ≡ long p → IsStep u k v → (v ≡ [] → ⊥) →
+      ((h : FunctionTree) → Tells counts h → IsApart (counts_of h) y r) →
       RowOfItem (suc n) counts after gs v w y z → RowOfList n counts after gs u (k ∷ w) (With y) (With z)
-  list_made counts after gs u v w k y z e s o q =
+  list_made counts after gs u v w k y z e s o a q =
       row_lifted (λ f. next_item f (suc n)) (λ f. next_list f n) IsAlike AreAlike With Held with_next with_alike held_still
       (λ f. IsWayIn true f (suc n)) (λ f. IsWay true f n) counts after gs v w u (k ∷ w) y z
-      (λ h. way_in h k u v y e s o) (λ h. way_out h k w z e) q
+      (λ h t. way_in h k u v y e s o (a h t)) (λ h. way_out h k w z e) q
 
 pub split_at : (xs : List Item) (i : ℕ) (x : Item) → i < length xs → slice_get xs i ≡ Some x →
     trees_of xs ≡ join (trees_of (take i xs)) (Then (tree_at x) (trees_of (drop (i + 1) xs)))
 split_at xs i x h e = ap trees_of (sym (set_same xs i x e)) ∙ set_trees xs i x h
 
 pub list_row : (n m : ℕ) (counts after gs u v w : List ℕ) (xs : List Item) (i : ℕ) (x y : Item) → m ≡ suc n → i < length xs →
-    slice_get xs i ≡ Some x → IsStep u i v → (v ≡ [] → ⊥) → RowOfItem m counts after gs v w (tree_at x) (tree_at y) →
-    RowOfList n counts after gs u (i ∷ w) (trees_of xs) (trees_of (slice_set xs i y))
-list_row n m counts after gs u v w xs i x y k h e s o q =
+    slice_get xs i ≡ Some x → IsStep u i v → (v ≡ [] → ⊥) → IsWithin (count_in counts) (trees_of xs) →
+    RowOfItem m counts after gs v w (tree_at x) (tree_at y) → RowOfList n counts after gs u (i ∷ w) (trees_of xs) (trees_of (slice_set xs i y))
+list_row n m counts after gs u v w xs i x y k h e s o l q =
     let p = trees_of (take i xs) in
     let r = trees_of (drop (i + 1) xs) in
     subst (RowOfList n counts after gs u (i ∷ w) (trees_of xs)) (sym (set_trees xs i y h))
     (subst (λ a. RowOfList n counts after gs u (i ∷ w) a (join p (Then (tree_at y) r))) (sym (split_at xs i x h e))
     (list_made n p r counts after gs u v w i (tree_at x) (tree_at y) (sym (long_take xs i h)) s o
+    (λ f t. apart_told counts f (tree_at x) r t (apart_there (count_in counts) xs i x h (entry_is xs i x e) (within_apart (count_in counts) (trees_of xs) l)))
     (subst (λ j. RowOfItem j counts after gs v w (tree_at x) (tree_at y)) k q)))
 
 -- ---- the list at the end of a way
@@ -282,9 +316,9 @@ module _ (n : ℕ) (counts after gs v w : List ℕ) (cases : List ExpressionTree
       row_lifted (λ f. next_list f n) (λ f. next_sections f n) AreAlike AreSectionsAlike (λ a. Section cases default a ends c) Always
       (λ f g a d p e. more_sections f n cases default a ends c ∙
       ap (λ o. or_else (put (λ b. Section cases default b ends c) o) (put (Section cases default a ends) (next_sections f n c))) e)
-      (λ g a d l h o. let k = (l h o).0.checks in omega (arith, k)) (λ f h l g z a d e k p. tt)
+      (λ g a d l h o. first_kept h cases cases default default ends ends a d c (l h o).0) (λ f h l g z a d e k p. tt)
       (λ f. IsWay true f n) (λ f. IsWayThrough true f n) counts after gs v w (0 ∷ v) (0 ∷ w) a b
-      (λ h q. (q.1, tt)) (λ h q p. (tt, q)) r
+      (λ h d q. (q.1, tt)) (λ h q p. (tt, q)) r
 
   tail_made : (k : ℕ) (a : Forest) (c d : Sections) → RowOfSections n counts after gs (k ∷ v) (k ∷ w) c d →
       RowOfSections n counts after gs (suc k ∷ v) (suc k ∷ w) (Section cases default a ends c) (Section cases default a ends d)
@@ -293,9 +327,9 @@ module _ (n : ℕ) (counts after gs v w : List ℕ) (cases : List ExpressionTree
       (λ f c. next_list f n a ≡ None)
       (λ f g c d p e. more_sections f n cases default a ends c ∙
       ap₂ (λ o z. or_else (put (λ b. Section cases default b ends c) o) (put (Section cases default a ends) z)) p e)
-      (λ g c d l h o. let k = l h o in omega (arith, k)) (λ f h l g z c d e k p. list_still f h l a n p)
+      (λ g c d l h o. later_kept h cases default ends a c d (l h o)) (λ f h l g z c d e k p. list_still f h l a n p)
       (λ f. IsWayThrough true f n) (λ f. IsWayThrough true f n) counts after gs (k ∷ v) (k ∷ w) (suc k ∷ v) (suc k ∷ w) c d
-      (λ h q. ((q.0.1, q.1), q.0.0)) (λ h q p. ((p, q.0), q.1)) r
+      (λ h d q. ((q.0.1, q.1), q.0.0)) (λ h q p. ((p, q.0), q.1)) r
 
 sections_made : (n : ℕ) (counts after gs v w : List ℕ) (i : ℕ) (cs : List Real.Section) (s t : Real.Section) → i < length cs →
     slice_get cs i ≡ Some s → t ≡ Paths.with_list (list_of t) s → RowOfList n counts after gs v w (trees_of (list_of s)) (trees_of (list_of t)) →

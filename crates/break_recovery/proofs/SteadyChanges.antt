@@ -1,6 +1,6 @@
--- A change of a loop that is steady leaves the checks of each other slot.
+-- A change of a loop leaves the checks of each other slot that it doesn't turn.
 use Rattle.std.proofs.Common.{ℕ, ◌+◌, ◌⊎◌, inl, inr, Bool, true, false, not, cond, ◌&&◌, eqb, eqb-true, is_some, Option, Some, None, ◌≡◌, refl, sym, ap, ◌∙◌, arith}
-use Rattle.std.proofs.lemmas.Bool.{and_parts, and_cases, not-true, not-false}
+use Rattle.std.proofs.lemmas.Bool.{and_cases, not-false}
 use Rattle.c_tree.specs.declared.tree.Home.TheVariants as H
 use Rattle.c_tree.specs.ExpressionTrees.{ExpressionTree, Typed, Var, Assign}
 use Rattle.c_tree.specs.TestTrees.{TestTree, Source}
@@ -14,10 +14,13 @@ use Rattle.tidy_loops.specs.Views.{off_slot, is_it}
 use Rattle.tidy_loops.proofs.FormLaws.{off_it}
 use Rattle.tidy_loops.specs.Exits.{checks_in, checks_of, checks_within}
 use Rattle.tidy_loops.specs.Slots.{last_reset, but_last}
-use Rattle.break_recovery.specs.Steady.{has_else, is_steady, item_is_steady, sections_are_steady}
+use Rattle.break_recovery.specs.declared.steady.Turned.{Turned}
+use Rattle.break_recovery.specs.declared.steady.Turned.TheVariants as T
+use Rattle.break_recovery.specs.Steady.{both, one_of, is_turned, has_else, turned, item_turned, sections_turned}
+use Rattle.break_recovery.proofs.Steadily.{TurnsLess, both_parts, less_both, less_turned}
 use Rattle.break_recovery.proofs.Lacking.{inner_lacking, tailed_lacking}
 
--- ---- what is no `!x` is no check
+-- ---- what is no `!h` is no check of h
 
 no_off : (h : ℕ) (s : Option ℕ) → is_some s ≡ false → is_it h s ≡ false
 no_off h None e = refl
@@ -25,6 +28,10 @@ no_off h (Some x) e = cc
 
 not_off : (h : ℕ) (e : ExpressionTree) → is_some (off_slot e) ≡ false → is_off h e ≡ false
 not_off h e i = off_it h e ∙ no_off h (off_slot e) i
+
+unturned_slot : (h : ℕ) (s : Option ℕ) → is_turned h (one_of s) ≡ false → is_it h s ≡ false
+unturned_slot h None e = refl
+unturned_slot h (Some x) e = e
 
 module _ (h : ℕ) where
   checks_join : (a b : Forest) → checks_in h (join a b) ≡ checks_in h a + checks_in h b
@@ -69,13 +76,16 @@ module _ (g h : ℕ) (other : eqb g h ≡ false) where
       let m = ap one_if (kept_check h t b w k n) in
       omega (arith, m, p, q)
 
-  -- in a steady `if` that tests `!x` an else-list lacks the slot, so it stays
-  if_steady : (t : TestTree) (a b w : Forest) → (list_lacks g b ≡ true → w ≡ b) → item_is_steady g (If t a b) ≡ true →
-      ((has_else t b ≡ false) ⊎ (w ≡ b)) × ((is_steady g a ≡ true) × (is_steady g b ≡ true))
-  if_steady t a b w k e =
-      let n = has_else t b && not (list_lacks g b) in
-      let p = and_parts (not n) (is_steady g a && is_steady g b) e in
-      (kept (and_cases (has_else t b) (not (list_lacks g b)) (not-true n p.0)), and_parts (is_steady g a) (is_steady g b) p.1)
+  kept_many : (c : Bool) (b : Turned) → is_turned h (cond c T.Many b) ≡ false → (c ≡ false) × (is_turned h b ≡ false)
+  kept_many true b e = cc
+  kept_many false b e = (refl, e)
+
+  -- in an `if` that tests `!x`, and turns not every slot, an else-list lacks the slot, so it stays
+  if_turned : (t : TestTree) (a b w : Forest) → (list_lacks g b ≡ true → w ≡ b) → is_turned h (item_turned g (If t a b)) ≡ false →
+      ((has_else t b ≡ false) ⊎ (w ≡ b)) × ((is_turned h (turned g a) ≡ false) × (is_turned h (turned g b) ≡ false))
+  if_turned t a b w k e =
+      let p = kept_many (has_else t b && not (list_lacks g b)) (both (turned g a) (turned g b)) e in
+      (kept (and_cases (has_else t b) (not (list_lacks g b)) p.0), both_parts h (turned g a) (turned g b) p.1)
     where
       kept : ((has_else t b ≡ false) ⊎ (not (list_lacks g b) ≡ false)) → (has_else t b ≡ false) ⊎ (w ≡ b)
       kept (inl i) = inl i
@@ -85,17 +95,17 @@ module _ (g h : ℕ) (other : eqb g h ≡ false) where
   inner_none b e = ap (inner g) e
 
   mutual
-    inner_checks : (a : Forest) → is_steady g a ≡ true → checks_in h (inner g a) ≡ checks_in h a
+    inner_checks : (a : Forest) → is_turned h (turned g a) ≡ false → checks_in h (inner g a) ≡ checks_in h a
     inner_checks Nil e = refl
     inner_checks (Then x xs) e =
-        let p = inner_item_checks x (and_parts (item_is_steady g x) (is_steady g xs) e).0 in
-        let q = inner_checks xs (and_parts (item_is_steady g x) (is_steady g xs) e).1 in
+        let p = inner_item_checks x (both_parts h (item_turned g x) (turned g xs) e).0 in
+        let q = inner_checks xs (both_parts h (item_turned g x) (turned g xs) e).1 in
         let r = checks_join h (inner_item g x) (inner g xs) in
         omega (arith, p, q, r)
 
-    inner_item_checks : (x : Tree) → item_is_steady g x ≡ true → checks_in h (inner_item g x) ≡ checks_of h x
+    inner_item_checks : (x : Tree) → is_turned h (item_turned g x) ≡ false → checks_in h (inner_item g x) ≡ checks_of h x
     inner_item_checks (If t a b) e =
-        let s = if_steady t a b (inner g b) (inner_lacking g b) e in
+        let s = if_turned t a b (inner g b) (inner_lacking g b) e in
         if_checks t a b (inner g a) (inner g b) (checks g t b) refl (inner_none b) s.0 (inner_checks a s.1.0) (inner_checks b s.1.1)
     inner_item_checks (While t a) e = let p = inner_checks a e in omega (arith, p)
     inner_item_checks (Do a t) e = let p = inner_checks a e in omega (arith, p)
@@ -104,27 +114,30 @@ module _ (g h : ℕ) (other : eqb g h ≡ false) where
     inner_item_checks (Block a) e = let p = inner_checks a e in omega (arith, p)
     inner_item_checks x e = omega arith
 
-    inner_sections_checks : (c : Sections) → sections_are_steady g c ≡ true → checks_within h (inner_sections g c) ≡ checks_within h c
+    inner_sections_checks : (c : Sections) → is_turned h (sections_turned g c) ≡ false → checks_within h (inner_sections g c) ≡ checks_within h c
     inner_sections_checks NoSection e = refl
     inner_sections_checks (Section cases default a ends c) e =
-        let p = inner_checks a (and_parts (is_steady g a) (sections_are_steady g c) e).0 in
-        let q = inner_sections_checks c (and_parts (is_steady g a) (sections_are_steady g c) e).1 in
+        let p = inner_checks a (both_parts h (turned g a) (sections_turned g c) e).0 in
+        let q = inner_sections_checks c (both_parts h (turned g a) (sections_turned g c) e).1 in
         omega (arith, p, q)
 
   -- ---- sets
 
-  leaving_checks : (l : Tree) (v : ExpressionTree) (b : Bool) → checks_of h l ≡ 0 → is_some (off_slot v) ≡ false →
+  leaving_checks : (l : Tree) (v : ExpressionTree) (b : Bool) → checks_of h l ≡ 0 → is_off h v ≡ false →
       checks_of h (cond b l (If (Source v) (one l) Nil)) ≡ 0
   leaving_checks l v true k i = k
-  leaving_checks l v false k i = let m = ap one_if (not_off h v i) in omega (arith, m, k)
+  leaving_checks l v false k i = let m = ap one_if i in omega (arith, m, k)
 
-  set_at : (l : Tree) → checks_of h l ≡ 0 → (e v : ExpressionTree) (a b : Bool) → not (a && is_some (off_slot v)) ≡ true →
+  set_at : (l : Tree) → checks_of h l ≡ 0 → (e v : ExpressionTree) (a b : Bool) → is_turned h (cond a (one_of (off_slot v)) T.Nothing) ≡ false →
       checks_in h (one (set_or l e (cond (a && b) (Some v) None))) ≡ 0
-  set_at l k e v true true i = let p = leaving_checks l v (is_number 1 v) k (not-true (is_some (off_slot v)) i) in omega (arith, p)
+  set_at l k e v true true i =
+      let p = leaving_checks l v (is_number 1 v) k (off_it h v ∙ unturned_slot h (off_slot v) i) in
+      omega (arith, p)
   set_at l k e v true false i = omega arith
   set_at l k e v false b i = omega arith
 
-  set_checks : (l : Tree) → checks_of h l ≡ 0 → (e : ExpressionTree) → item_is_steady g (Evaluate e) ≡ true → checks_in h (one (set_or l e (set_value g e))) ≡ 0
+  set_checks : (l : Tree) → checks_of h l ≡ 0 → (e : ExpressionTree) → is_turned h (item_turned g (Evaluate e)) ≡ false →
+      checks_in h (one (set_or l e (set_value g e))) ≡ 0
   set_checks l k (Typed t (Assign (Var (H.Slot x)) v)) i = set_at l k (Typed t (Assign (Var (H.Slot x)) v)) v (eqb x g) (is_narrow_expression v && lacks g v) i
   set_checks l k e i = omega arith
 
@@ -137,30 +150,31 @@ module _ (g h : ℕ) (other : eqb g h ≡ false) where
     tailed_none b e = ap (tailed g l) e
 
     mutual
-      pub tailed_checks : (a : Forest) → is_steady g a ≡ true → checks_in h (tailed g l a) ≡ checks_in h a
+      pub tailed_checks : (a : Forest) → is_turned h (turned g a) ≡ false → checks_in h (tailed g l a) ≡ checks_in h a
       tailed_checks Nil e = refl
       tailed_checks (Then x xs) e =
-          let s = (and_parts (item_is_steady g x) (is_steady g xs) e).0 in
+          let s = (both_parts h (item_turned g x) (turned g xs) e).0 in
           let p = chosen_checks (checks_of h x) (is_end g xs) (tailed_item g l x) (inner_item g x) (tailed_item_checks x s) (inner_item_checks x s) in
-          let q = tailed_checks xs (and_parts (item_is_steady g x) (is_steady g xs) e).1 in
+          let q = tailed_checks xs (both_parts h (item_turned g x) (turned g xs) e).1 in
           let r = checks_join h (cond (is_end g xs) (tailed_item g l x) (inner_item g x)) (tailed g l xs) in
           omega (arith, p, q, r)
 
-      tailed_item_checks : (x : Tree) → item_is_steady g x ≡ true → checks_in h (tailed_item g l x) ≡ checks_of h x
+      tailed_item_checks : (x : Tree) → is_turned h (item_turned g x) ≡ false → checks_in h (tailed_item g l x) ≡ checks_of h x
       tailed_item_checks (Evaluate e) i = set_checks l k e i
       tailed_item_checks (If t a b) e =
-          let s = if_steady t a b (tailed g l b) (tailed_lacking g l b) e in
+          let s = if_turned t a b (tailed g l b) (tailed_lacking g l b) e in
           if_checks t a b (tailed g l a) (tailed g l b) (checks g t b) refl (tailed_none b) s.0 (tailed_checks a s.1.0) (tailed_checks b s.1.1)
       tailed_item_checks x e = inner_item_checks x e
 
 -- ---- without the last item
 
-pub steady_front : (g : ℕ) (a : Forest) → is_steady g a ≡ true → is_steady g (but_last a) ≡ true
-steady_front g Nil e = refl
-steady_front g (Then x Nil) e = refl
-steady_front g (Then x (Then y ys)) e =
-    ap (λ z. z && is_steady g (but_last (Then y ys))) (and_parts (item_is_steady g x) (is_steady g (Then y ys)) e).0
-    ∙ steady_front g (Then y ys) (and_parts (item_is_steady g x) (is_steady g (Then y ys)) e).1
+front_less : (g : ℕ) (a : Forest) → TurnsLess (turned g (but_last a)) (turned g a)
+front_less g Nil = inl refl
+front_less g (Then x Nil) = inl refl
+front_less g (Then x (Then y ys)) = less_both (item_turned g x) (turned g (but_last (Then y ys))) (turned g (Then y ys)) (front_less g (Then y ys))
+
+pub turned_front : (g h : ℕ) (a : Forest) → is_turned h (turned g a) ≡ false → is_turned h (turned g (but_last a)) ≡ false
+turned_front g h a e = less_turned h (turned g (but_last a)) (turned g a) (front_less g a) e
 
 reset_checks : (h g : ℕ) (x : Tree) → last_reset (Then x Nil) ≡ Some g → checks_of h x ≡ 0
 reset_checks h g (Evaluate e) i = refl

@@ -18,14 +18,14 @@ use Rattle.jump_meaning.specs.Code.{FunctionTree}
 use Rattle.tidy_loops.specs.Slots.{Tells, counts_of, count_in}
 use Rattle.break_recovery.specs.Next.{or_else, put, next_list, next_item, next_sections, next_here, next_at, changed_to}
 use Rattle.break_recovery.specs.Places.{behind, replaced, AreQuiet, IsFoundAt, Fewer}
-use Rattle.break_recovery.specs.Steady.{item_is_steady, AreAlike}
+use Rattle.break_recovery.specs.Steady.{AreAlike}
 use Rattle.break_recovery.specs.declared.here.Change.{Change}
 use Rattle.break_recovery.specs.Loops.{slot_of, keeps_next, change_there, change_first, loop_after, list_after}
 use Rattle.break_recovery.specs.InARow.{IsRow, closed}
 use Rattle.break_recovery.proofs.NextLaws.{in_if, in_while, in_do, in_for, in_switch, in_block}
 use Rattle.break_recovery.proofs.Rows.{row_none, row_more, row_one}
 use Rattle.break_recovery.proofs.Loops.{here_changed, here_none, next_kept, next_taken, none_next as next_last, before_rest}
-use Rattle.break_recovery.proofs.Likeness.{here_alike}
+use Rattle.break_recovery.proofs.Likeness.{AreLeftAlone, here_alike}
 use Rattle.break_recovery.proofs.Steps.{entry_is, here_found, no_here}
 use Rattle.break_recovery.proofs.Ways.{at_told, list_found}
 use Rattle.break_recovery.proofs.WaysSearched.{still_quiet}
@@ -136,7 +136,7 @@ module _ (n : ℕ) (counts : List ℕ) (at : ℕ) (xs : List Item) (x : Item) (h
   RowAt after gs to ys = IsRow (λ f. next_list f n) AreAlike (λ f. AreQuiet f (suc n)) counts after gs at to (trees_of xs) (trees_of ys)
 
   pub change_row : (after : List ℕ) (r : Change) (ys : List Item) → Some r ≡ change_first (count_in counts) (suc n) (trees_of (drop at xs)) →
-      item_is_steady (slot_of r) (tree_at x) ≡ true → trees_of ys ≡ join (trees_of (take at xs)) (list_after r (trees_of (drop at xs))) →
+      AreLeftAlone r (tree_at x) (trees_of (drop (at + 1) xs)) → trees_of ys ≡ join (trees_of (take at xs)) (list_after r (trees_of (drop at xs))) →
       after ≡ slice_set counts (slot_of r) 0 → RowAt after (slot_of r ∷ []) at ys
   change_row after r ys k s j q =
       row_one (λ f. next_list f n) AreAlike (λ f. AreQuiet f (suc n)) counts after g at at a b q
@@ -258,7 +258,7 @@ module _ (n at m : ℕ) (counts : List ℕ) (xs ys : List Item) (x : Item) (to :
       (λ f t. ap (λ i. next_item f i (tree_at x)) (sym j) ∙ q f t)))
 
   pub changed : (after slots late : List ℕ) (g : ℕ) (r : Change) → Some r ≡ change_first (count_in counts) (suc n) (trees_of (drop at (closed at m xs))) →
-      g ≡ slot_of r → item_is_steady g (tree_at x) ≡ true → to ≡ at →
+      g ≡ slot_of r → AreLeftAlone r (tree_at x) (trees_of (drop m xs)) → to ≡ at →
       trees_of ys ≡ join (trees_of (take at (closed at m xs))) (list_after r (trees_of (drop at (closed at m xs)))) → after ≡ slice_set counts g 0 →
       late ≡ slots ++ g ∷ [] → (gs : List ℕ) × (late ≡ slots ++ gs) × RowTo n counts after gs at to (trees_of (closed at m xs)) (trees_of ys)
   changed after slots late g r k i s p j q t = (
@@ -267,7 +267,7 @@ module _ (n at m : ℕ) (counts : List ℕ) (xs ys : List Item) (x : Item) (to :
     subst (λ t. RowTo n counts after (g ∷ []) at t (trees_of (closed at m xs)) (trees_of ys)) (sym p)
         (subst (λ g. RowTo n counts after (g ∷ []) at at (trees_of (closed at m xs)) (trees_of ys)) (sym i)
         (change_row n counts at (closed at m xs) x (long_meant at m xs x h l e) (get_meant at m xs x h l e) after r ys k
-        (ap (λ g. item_is_steady g (tree_at x)) (sym i) ∙ s) j (q ∙ ap (λ g. slice_set counts g 0) i))),
+        (subst (λ a. AreLeftAlone r (tree_at x) (trees_of a)) (sym (closed_behind at m xs h l)) s) j (q ∙ ap (λ g. slice_set counts g 0) i))),
   )
 
 -- the gap closes

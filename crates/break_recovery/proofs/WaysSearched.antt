@@ -7,6 +7,7 @@ use Rattle.jump_meaning.specs.Code.{FunctionTree}
 use Rattle.tidy_loops.specs.Slots.{counts_of}
 use Rattle.break_recovery.specs.Next.{next_list, next_here, next_at}
 use Rattle.break_recovery.specs.Places.{behind, replaced, removed, AreQuiet, Fewer, IsFoundAt}
+use Rattle.tidy_loops.specs.Remaining.{IsApart}
 use Rattle.break_recovery.specs.Steady.{IsAlike}
 use Rattle.break_recovery.specs.Ways.{IfSure, AreQuietSections, list_there, IsWay, IsWayAt, IsWayIn, IsWayOf, IsWayThrough, IsStep, KeepsWay}
 use Rattle.break_recovery.proofs.NothingBefore.{quiet_replaced, moved_up}
@@ -161,10 +162,10 @@ when_sure true P e h = h
 
 -- where an item is like one that allowed no change itself, a way in it is one from it on
 pub goes_in : (sure : Bool) (f h : FunctionTree) (g : ℕ) → Fewer (counts_of f) (counts_of h) → counts_of h g ≡ 0 →
-    (n : ℕ) (w : List ℕ) (x y : Tree) (xs : Forest) → (sure ≡ true → IsAlike g x y)
+    (n : ℕ) (w : List ℕ) (x y : Tree) (xs : Forest) → (sure ≡ true → IsAlike g x y) → IsApart (counts_of f) x xs
     → next_here f n (Then x xs) ≡ None → IsWayIn sure h n w y → IsWayAt sure h n w (Then y xs)
-goes_in sure f h g l z n [] x y xs s k p = (tt, tt)
-goes_in sure f h g l z n (j ∷ w) x y xs s k p = (if_sure sure (next_here h n (Then y xs) ≡ None) (λ e. (s e).asks f h l z n xs k), p)
+goes_in sure f h g l z n [] x y xs s a k p = (tt, tt)
+goes_in sure f h g l z n (j ∷ w) x y xs s a k p = (if_sure sure (next_here h n (Then y xs) ≡ None) (λ e. (s e).asks f h l z n xs a k), p)
 
 -- an item on a sure way was asked before
 pub asked_before : (sure : Bool) (f : FunctionTree) (n : ℕ) (w : List ℕ) (a : Forest) → sure ≡ true → (w ≡ [] → ⊥) → IsWayAt sure f n w a →

@@ -11,14 +11,14 @@ use Rattle.jump_meaning.specs.World.{no_slot}
 use Rattle.tidy_laws.specs.Changes.{is_declaration, is_zero_value, declares, is_flag}
 use Rattle.tidy_slots.specs.Counts.{one_if, values_count, list_count, item_count, sections_count}
 use Rattle.tidy_loops.specs.Views.{is_it}
-use Rattle.tidy_loops.specs.Slots.{Tells, count_in, may_go, reset_slot, first_reset}
+use Rattle.tidy_loops.specs.Slots.{Tells, count_in, counts_of, may_go, reset_slot, first_reset}
 use Rattle.tidy_loops.specs.Remaining.{IsApart}
 use Rattle.tidy_loops.proofs.Outside.{reset_one}
 use Rattle.break_recovery.specs.Within.{IsWithin, AreSectionsWithin, AreWithin, AreApart}
 
 -- ---- a list within another
 
-is_less : (c m n : ℕ) → m ≤ n → (c ≡ 0) ⊎ (n < c) → (c ≡ 0) ⊎ (m < c)
+pub is_less : (c m n : ℕ) → m ≤ n → (c ≡ 0) ⊎ (n < c) → (c ≡ 0) ⊎ (m < c)
 is_less c m n h (inl z) = inl z
 is_less c m n h (inr k) = inr (omega (arith, h, k))
 
@@ -94,6 +94,10 @@ in_apart c xs i x h e w = lists_within c (tree_at x) (trees_of (drop (i + 1) xs)
 
 pub in_list : (c : ℕ → ℕ) (xs : List Item) (i : ℕ) (x : Item) → i < length xs → x ≡ get_or xs i x → IsWithin c (trees_of xs) → AreWithin c (tree_at x)
 in_list c xs i x h e w = in_apart c xs i x h e (within_apart c (trees_of xs) w)
+
+-- the counts of a function
+pub apart_told : (counts : List ℕ) (f : FunctionTree) (x : Tree) (xs : Forest) → Tells counts f → IsApart (count_in counts) x xs → IsApart (counts_of f) x xs
+apart_told counts f x xs t w g o = subst (λ m. (m ≡ 0) ⊎ (item_count g x + one_if (is_it g (first_reset xs)) < m)) (t g) (w g o)
 
 -- what stands behind an item counts by its first item alone
 pub apart_before : (c : ℕ → ℕ) (x : Tree) (xs ys : Forest) → first_reset ys ≡ first_reset xs → IsApart c x xs → IsApart c x ys

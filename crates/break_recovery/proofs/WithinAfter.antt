@@ -19,42 +19,11 @@ use Rattle.break_recovery.specs.declared.here.Change.{Change}
 use Rattle.break_recovery.specs.declared.here.Change.TheVariants as V
 use Rattle.break_recovery.specs.InARow.{closed}
 use Rattle.break_recovery.specs.Within.{IsWithin}
-use Rattle.break_recovery.proofs.Others.{tailed_other}
-use Rattle.break_recovery.proofs.Within.{within_less, within_first}
+use Rattle.break_recovery.proofs.Less.{after_less}
+use Rattle.break_recovery.proofs.Within.{is_less, within_less, within_first}
 use Rattle.break_recovery.proofs.Walks.{drop_at, closed_get, closed_behind, meant_change}
 use Rattle.break_recovery.specs.Exits.{exits_of, HoldsAtMost}
 use Rattle.break_recovery.proofs.ExitsTold.{change_holds}
-
-rest_less : (h : ℕ) (t : TestTree) → test_count h (rest_test t) ≤ test_count h t
-rest_less h (Source (Typed k (Binary AndThen e t))) = omega arith
-rest_less h _ = omega arith
-
-last_less : (h : ℕ) (a : Forest) → list_count h (but_last a) ≤ list_count h a
-last_less h Nil = omega arith
-last_less h (Then x Nil) = omega arith
-last_less h (Then x (Then y ys)) = let r = last_less h (Then y ys) in omega (arith, r)
-
-first_less : (h : ℕ) (a : Forest) → list_count h (but_first a) ≤ list_count h a
-first_less h Nil = omega arith
-first_less h (Then x xs) = omega arith
-
-module _ (g h : ℕ) (other : eqb g h ≡ false) where
-  broken_less : (x : Tree) → item_count h (broken g x) ≤ item_count h x
-  broken_less (While t a) = let r = rest_less h t in let m = tailed_other g h other Break (omega arith) a in omega (arith, r, m)
-  broken_less (Do a t) = let r = rest_less h t in let m = tailed_other g h other Break (omega arith) a in omega (arith, r, m)
-  broken_less _ = omega arith
-
-  continued_less : (x : Tree) → item_count h (continued g x) ≤ item_count h x
-  continued_less (While t a) = let r = last_less h a in let m = tailed_other g h other Continue (omega arith) (but_last a) in omega (arith, r, m)
-  continued_less (Do a t) = let r = last_less h a in let m = tailed_other g h other Continue (omega arith) (but_last a) in omega (arith, r, m)
-  continued_less (For f t u a) = let r = last_less h a in let m = tailed_other g h other Continue (omega arith) (but_last a) in omega (arith, r, m)
-  continued_less _ = omega arith
-
-after_less : (c : Change) (h : ℕ) → eqb (slot_of c) h ≡ false → (a : Forest) → list_count h (list_after c a) ≤ list_count h a
-after_less (V.Break g) h o Nil = omega arith
-after_less (V.Break g) h o (Then x xs) = let b = broken_less g h o x in let f = first_less h xs in omega (arith, b, f)
-after_less (V.Continue g) h o Nil = omega arith
-after_less (V.Continue g) h o (Then x xs) = let b = continued_less g h o x in omega (arith, b)
 
 forgotten : (xs : List ℕ) (s : ℕ) → count_in (slice_set xs s 0) s ≡ 0
 forgotten [] s = refl
@@ -74,7 +43,7 @@ none_of h = ap (list_count h) trees-none
 nothing_and : {m n : ℕ} → m ≡ 0 → m + n ≡ n
 nothing_and e = omega (arith, e)
 
-count_join_of : (h : ℕ) (xs : List Item) (i : ℕ) → list_count h (trees_of (take i xs)) + list_count h (trees_of (drop i xs)) ≡ list_count h (trees_of xs)
+pub count_join_of : (h : ℕ) (xs : List Item) (i : ℕ) → list_count h (trees_of (take i xs)) + list_count h (trees_of (drop i xs)) ≡ list_count h (trees_of xs)
 count_join_of h [] zero = nothing_and (none_of h)
 count_join_of h [] (suc i) = nothing_and (none_of h)
 count_join_of h (x ∷ xs) zero = nothing_and (none_of h)
@@ -119,3 +88,11 @@ pub walk_holds : (c : ℕ → ℕ) (n at next : ℕ) (xs : List Item) (x : Item)
     IsWithin c (trees_of (closed at next xs)) → change_first c n (trees_of (drop at (closed at next xs))) ≡ Some r → HoldsAtMost r (exits_of c r) (tree_at x)
 walk_holds c n at next xs x r h l e w k =
     change_holds c n (tree_at x) (trees_of (drop next xs)) r (walk_apart c at next xs x h l e w) (meant_change at next xs x h l e c n ∙ k)
+
+-- the items behind the gap
+pub walk_counts : (c : ℕ → ℕ) (at next : ℕ) (xs : List Item) → at < next → next ≤ length xs → IsWithin c (trees_of (closed at next xs)) → (g : ℕ) →
+    (c g ≡ 0) ⊎ (list_count g (trees_of (drop next xs)) < c g)
+walk_counts c at next xs h l w g =
+    let t = count_join_of g (closed at next xs) (at + 1) in
+    let e = ap (λ a. list_count g (trees_of a)) (closed_behind at next xs h l) in
+    is_less (c g) _ _ (omega (arith, t, e)) (w g)

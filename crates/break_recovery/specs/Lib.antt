@@ -11,3 +11,4 @@ pub mod InARow
 pub mod Fronts
 pub mod Within
 pub mod Exits
+pub mod Held

@@ -1,5 +1,6 @@
--- Changes that leave all other slots as they are: then nothing round the loop allows a change that it didn't allow before.
-use Rattle.std.specs.Prelude.{ℕ, ◌≡◌, ◌⊎◌, Bool, true, false, not, ◌&&◌, eqb, is_some, Option, Some, None}
+-- Changes that leave all other slots as they are, or name them otherwise than in exits: then nothing round the loop allows a
+-- change that it didn't allow before.
+use Rattle.std.specs.Prelude.{ℕ, ◌≡◌, ◌<◌, ◌≤◌, ◌⊎◌, Bool, true, false, not, cond, ◌&&◌, eqb, is_some, Option, Some, None}
 use Rattle.c_tree.specs.ExpressionTrees.{ExpressionTree, PlaceTree, Typed, Assign}
 use Rattle.c_tree.specs.TestTrees.{TestTree, Source}
 use Rattle.c_tree.specs.Trees.{Tree, Forest, Nil, Then, Sections, NoSection, Section, Evaluate, If, While, Do, For, Switch, Block}
@@ -7,22 +8,43 @@ use Rattle.jump_meaning.specs.Code.{FunctionTree}
 use Rattle.tidy_laws.specs.Tails.{is_check, is_end}
 use Rattle.tidy_laws.specs.Mentions.{list_lacks}
 use Rattle.tidy_laws.specs.Changes.{are_low, is_low}
+use Rattle.tidy_slots.specs.Counts.{list_count, item_count, sections_count}
 use Rattle.tidy_loops.specs.Views.{place_slot, off_slot, is_it}
 use Rattle.tidy_loops.specs.Exits.{checks_in, checks_of, checks_within, exits_in, exits_of}
 use Rattle.tidy_loops.specs.Slots.{counts_of, reset_slot, last_reset, but_last}
+use Rattle.tidy_loops.specs.Remaining.{IsApart}
 use Rattle.break_recovery.specs.Next.{next_here}
 use Rattle.break_recovery.specs.Places.{Fewer}
+use Rattle.break_recovery.specs.declared.steady.Turned.{Turned}
+use Rattle.break_recovery.specs.declared.steady.Turned.TheVariants as T
 
--- ---- which changes make no check of another slot, and take none
+-- ---- which checks of other slots a change makes or takes
 
--- a set of the slot at this place to `!x`
-abbrev pub assigns_off : ℕ → PlaceTree → ExpressionTree → Bool
-assigns_off g p e = is_it g (place_slot p) && is_some (off_slot e)
+-- of one slot alone, or of more
+abbrev pub both : Turned → Turned → Turned
+both T.Nothing b = b
+both (T.One x) T.Nothing = T.One x
+both (T.One x) (T.One y) = cond (eqb x y) (T.One x) T.Many
+both (T.One x) T.Many = T.Many
+both T.Many b = T.Many
 
--- a set of the slot to `!x`, which becomes the check `if (!x) { jump }`
-abbrev pub sets_off : ℕ → ExpressionTree → Bool
-sets_off g (Typed k (Assign p e)) = assigns_off g p e
-sets_off g _ = false
+abbrev pub one_of : Option ℕ → Turned
+one_of None = T.Nothing
+one_of (Some x) = T.One x
+
+-- whether they may be checks of this slot
+abbrev pub is_turned : ℕ → Turned → Bool
+is_turned h T.Nothing = false
+is_turned h (T.One x) = eqb x h
+is_turned h T.Many = true
+
+-- a set of the slot at this place to `!x` becomes the check `if (!x) { jump }`
+abbrev pub assigned : ℕ → PlaceTree → ExpressionTree → Turned
+assigned g p e = cond (is_it g (place_slot p)) (one_of (off_slot e)) T.Nothing
+
+abbrev pub set_turned : ℕ → ExpressionTree → Turned
+set_turned g (Typed k (Assign p e)) = assigned g p e
+set_turned g _ = T.Nothing
 
 -- an `if (!x)` with an else-list: without its else-list it is a check of x
 abbrev pub has_else : TestTree → Forest → Bool
@@ -30,24 +52,24 @@ has_else (Source e) (Then x xs) = is_some (off_slot e)
 has_else _ _ = false
 
 abbrev mutual
-  -- a list holds no such set, and no such `if` whose else-list names the slot, at any depth; an else-list that lacks the slot stays
-  pub is_steady : ℕ → Forest → Bool
-  is_steady g Nil = true
-  is_steady g (Then x xs) = item_is_steady g x && is_steady g xs
+  -- by the sets of a list at any depth; an `if (!x)` whose else-list names the slot may lose that, and any check in it
+  pub turned : ℕ → Forest → Turned
+  turned g Nil = T.Nothing
+  turned g (Then x xs) = both (item_turned g x) (turned g xs)
 
-  pub item_is_steady : ℕ → Tree → Bool
-  item_is_steady g (Evaluate e) = not (sets_off g e)
-  item_is_steady g (If t a b) = not (has_else t b && not (list_lacks g b)) && (is_steady g a && is_steady g b)
-  item_is_steady g (While t a) = is_steady g a
-  item_is_steady g (Do a t) = is_steady g a
-  item_is_steady g (For f t u a) = is_steady g a
-  item_is_steady g (Switch s c) = sections_are_steady g c
-  item_is_steady g (Block a) = is_steady g a
-  item_is_steady g x = true
+  pub item_turned : ℕ → Tree → Turned
+  item_turned g (Evaluate e) = set_turned g e
+  item_turned g (If t a b) = cond (has_else t b && not (list_lacks g b)) T.Many (both (turned g a) (turned g b))
+  item_turned g (While t a) = turned g a
+  item_turned g (Do a t) = turned g a
+  item_turned g (For f t u a) = turned g a
+  item_turned g (Switch s c) = sections_turned g c
+  item_turned g (Block a) = turned g a
+  item_turned g x = T.Nothing
 
-  pub sections_are_steady : ℕ → Sections → Bool
-  sections_are_steady g NoSection = true
-  sections_are_steady g (Section cases default a ends c) = is_steady g a && sections_are_steady g c
+  pub sections_turned : ℕ → Sections → Turned
+  sections_turned g NoSection = T.Nothing
+  sections_turned g (Section cases default a ends c) = both (turned g a) (sections_turned g c)
 
 -- ---- what stays
 
@@ -61,7 +83,6 @@ pub record ShowsAlike (h : ℕ) (a b : Forest) : Type 0 where
   pub exits : exits_in h b ≡ exits_in h a
   pub low : (n : ℕ) → are_low h n b ≡ are_low h n a
   pub ending : is_end h b ≡ is_end h a
-  pub some : HasItems a × HasItems b
 
 -- and two items
 pub record ItemShowsAlike (h : ℕ) (x y : Tree) : Type 0 where
@@ -70,25 +91,49 @@ pub record ItemShowsAlike (h : ℕ) (x y : Tree) : Type 0 where
   pub low : (n : ℕ) → is_low h n y ≡ is_low h n x
   pub check : is_check h y ≡ is_check h x
 
--- they do of each slot but this one, and without a last `h = 0;` of the second too
+-- a list names the slot otherwise than in exits
+abbrev pub NamesOtherwise : ℕ → Forest → Type 0
+NamesOtherwise h a = exits_in h a < list_count h a
+
+-- and without its last item too
+abbrev pub NeedsOtherwise : ℕ → Forest → Type 0
+NeedsOtherwise h a = NamesOtherwise h a × NamesOtherwise h (but_last a)
+
+-- the second list names the slot no more often than the first, and shows as much of it or names it otherwise
+pub record IsKept (h : ℕ) (a b : Forest) : Type 0 where
+  pub less : list_count h b ≤ list_count h a
+  pub some : HasItems a × HasItems b
+  pub shows : ShowsAlike h a b ⊎ NamesOtherwise h b
+
+-- and the second item
+pub record ItemIsKept (h : ℕ) (x y : Tree) : Type 0 where
+  pub less : item_count h y ≤ item_count h x
+  pub shows : ItemShowsAlike h x y ⊎ (exits_of h y < item_count h y)
+
+-- each slot is kept but this one, and without a last `h = 0;` of the second list too
 abbrev pub AreAlike : ℕ → Forest → Forest → Type 0
-AreAlike g a b = (h : ℕ) → eqb g h ≡ false → ShowsAlike h a b × (last_reset b ≡ Some h → (last_reset a ≡ Some h) × ShowsAlike h (but_last a) (but_last b))
+AreAlike g a b = (h : ℕ) → eqb g h ≡ false → IsKept h a b × (last_reset b ≡ Some h → (last_reset a ≡ Some h) × IsKept h (but_last a) (but_last b))
 
 -- of two pairs of lists, one pair is alike and the other the same
 abbrev pub AreAlikeOf : ℕ → Forest → Forest → Forest → Forest → Type 0
 AreAlikeOf g a b c d = (AreAlike g a c × (d ≡ b)) ⊎ ((c ≡ a) × AreAlike g b d)
 
+-- of sections
+pub record SectionsKept (h : ℕ) (c d : Sections) : Type 0 where
+  pub less : sections_count h d ≤ sections_count h c
+  pub shows : (checks_within h d ≡ checks_within h c) ⊎ (checks_within h d < sections_count h d)
+
 abbrev pub AreSectionsAlike : ℕ → Sections → Sections → Type 0
-AreSectionsAlike g c d = (h : ℕ) → eqb g h ≡ false → checks_within h d ≡ checks_within h c
+AreSectionsAlike g c d = (h : ℕ) → eqb g h ≡ false → SectionsKept h c d
 
 -- where the one item allows no change itself, neither does the other, once the slot counts no more
 abbrev pub AsksAlike : ℕ → Tree → Tree → Type 0
-AsksAlike g x y = (f h : FunctionTree) → Fewer (counts_of f) (counts_of h) → counts_of h g ≡ 0 → (n : ℕ) (xs : Forest) →
+AsksAlike g x y = (f h : FunctionTree) → Fewer (counts_of f) (counts_of h) → counts_of h g ≡ 0 → (n : ℕ) (xs : Forest) → IsApart (counts_of f) x xs →
     next_here f n (Then x xs) ≡ None → next_here h n (Then y xs) ≡ None
 
 -- two items are alike but for what they show of this slot
 pub record IsAlike (g : ℕ) (x y : Tree) : Type 0 where
-  pub shows : (h : ℕ) → eqb g h ≡ false → ItemShowsAlike h x y
+  pub shows : (h : ℕ) → eqb g h ≡ false → ItemIsKept h x y
   pub asks : AsksAlike g x y
   pub none : reset_slot y ≡ None
 

@@ -15,6 +15,7 @@ ghost use Rattle.break_recovery.specs.Exits.{HoldsAtMost};
 ghost use Rattle.c_tree.specs.declared.tree.Item.{Item};
 ghost use Rattle.c_tree.specs.Views.{tree_at};
 
+use crate::held::Holds;
 use crate::here::{Change, change_of, changed_loop, exits_of, keeps_next, slot_of};
 use crate::search::{change_item, was_asked};
 use c_tree::Item;
@@ -115,6 +116,7 @@ pub fn change_at(
     at: usize,
     way: &mut List<usize>,
     sure: &mut bool,
+    holds: &mut Holds,
 ) -> Result<Option<u32>, Memory>
     requires place { at < length list.old }
     requires within { AreApart (count_in counts.now) (trees_of list.old) }
@@ -123,9 +125,9 @@ pub fn change_at(
     ensures way { IfOk result (λ it. LeadsOn counts.now it (λ g. g) (λ f. IsWayAt sure.old f level (reverse way.old) (trees_of (drop at list.old))) (λ (g : ℕ) h. IsWayAt sure.new h level (reverse way.new) (trees_of (drop at list.new)))) }
 {
     if was_asked(way, *sure) {
-        return change_within(alloc, counts, level, list, at, way, sure);
+        return change_within(alloc, counts, level, list, at, way, sure, holds);
     }
-    change_asked(alloc, counts, level, list, at, way, sure)
+    change_asked(alloc, counts, level, list, at, way, sure, holds)
 }
 
 /// Makes the next change at this place, whose item may allow one itself.
@@ -137,6 +139,7 @@ fn change_asked(
     at: usize,
     way: &mut List<usize>,
     sure: &mut bool,
+    holds: &mut Holds,
 ) -> Result<Option<u32>, Memory>
     requires place { at < length list.old }
     requires within { AreApart (count_in counts.now) (trees_of list.old) }
@@ -149,7 +152,7 @@ fn change_asked(
         *way = List::new(alloc);
         return Ok(here);
     }
-    change_within(alloc, counts, level, list, at, way, sure)
+    change_within(alloc, counts, level, list, at, way, sure, holds)
 }
 
 /// Makes the next change in the item at this place, which allows none itself.
@@ -161,6 +164,7 @@ fn change_within(
     at: usize,
     way: &mut List<usize>,
     sure: &mut bool,
+    holds: &mut Holds,
 ) -> Result<Option<u32>, Memory>
     requires place { at < length list.old }
     requires within { AreApart (count_in counts.now) (trees_of list.old) }
@@ -168,7 +172,15 @@ fn change_within(
     ensures kept { IfOk result (λ it. it ≡ None → list.new ≡ list.old) }
     ensures way { IfOk result (λ it. LeadsOn counts.now it (λ g. g) (λ f. (next_here f level (trees_of (drop at list.old)) ≡ None) × IsWayAt sure.old f level (reverse way.old) (trees_of (drop at list.old))) (λ (g : ℕ) h. IsWayAt sure.new h level (reverse way.new) (trees_of (drop at list.new)))) }
 {
-    change_item(alloc, counts, level, list.at_mut(at).get_mut(), way, sure)
+    change_item(
+        alloc,
+        counts,
+        level,
+        list.at_mut(at).get_mut(),
+        way,
+        sure,
+        holds,
+    )
 }
 
 /// Takes the first `int g = 0;` out, and answers where it stood.

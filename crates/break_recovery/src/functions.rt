@@ -15,6 +15,7 @@ ghost use Rattle.break_recovery.specs.Within.{AreApart};
 
 use crate::boxes::{boxed, unboxed, undeclare};
 use crate::fronts::{declares_first, holds_none};
+use crate::held::{Holds, no_holds};
 use crate::places::{Start, behind_change, change_from, keep_way};
 use crate::rest::change_on_in;
 use crate::search::was_asked;
@@ -34,6 +35,7 @@ fn change_list_of(
     start: &mut Start,
     way: &mut List<usize>,
     sure: &mut bool,
+    holds: &mut Holds,
     list: &mut List<Boxed<Item>>,
 ) -> Result<Option<u32>, Memory>
     requires { AreApart (count_in counts.now) (trees_of list.old) }
@@ -42,7 +44,7 @@ fn change_list_of(
     ensures first { IfOk result (λ it. (f : FunctionTree) → Tells counts.now f → IsAhead sure.old f 2 start.old.doubt start.old.from (reverse way.old) (trees_of list.old) → DeclaresFirst (trees_of list.old) → DeclaresFirst (trees_of list.new)) }
     ensures start { IfOk result (λ it. LeadsOn counts.now it (λ g. g) (λ f. IsAhead sure.old f 2 start.old.doubt start.old.from (reverse way.old) (trees_of list.old)) (λ (g : ℕ) h. IsAhead sure.new h 2 start.new.doubt start.new.from (reverse way.new) (trees_of list.new))) }
 {
-    let change = change_from(alloc, counts, 2, list, *start, way, sure)?;
+    let change = change_from(alloc, counts, 2, list, *start, way, sure, holds)?;
     match change {
         Some((slot, place)) => {
             let gone = undeclare(slot, list);
@@ -78,6 +80,7 @@ fn change_once(
     start: &mut Start,
     way: &mut List<usize>,
     sure: &mut bool,
+    holds: &mut Holds,
     gone: &mut List<bool>,
     counts: &mut List<u64>,
     list: &mut List<Boxed<Item>>,
@@ -87,7 +90,7 @@ fn change_once(
     ensures start { IfOk result (λ went. went ≡ true → (f : Function) → Tells counts.old (function_tree (with_body f list.old)) → IsStart counts.old start.old sure.old (reverse way.old) (trees_of list.old) → IsStart counts.new start.new sure.new (reverse way.new) (trees_of list.new)) }
     ensures first { IfOk result (λ went. (f : Function) → Tells counts.old (function_tree (with_body f list.old)) → IsStart counts.old start.old sure.old (reverse way.old) (trees_of list.old) → DeclaresFirst (trees_of list.old) → DeclaresFirst (trees_of list.new)) }
 {
-    let change = change_list_of(alloc, counts, start, way, sure, list)?;
+    let change = change_list_of(alloc, counts, start, way, sure, holds, list)?;
     match change {
         Some(slot) => {
             mark(slot, gone);
@@ -153,6 +156,7 @@ fn change_rest(
     gone: &mut List<bool>,
     counts: &mut List<u64>,
     list: &mut List<Boxed<Item>>,
+    holds: &mut Holds,
 ) -> Result<u64, Memory>
     requires { AreApart (count_in counts.old) (trees_of list.old) }
     ensures went { IfOk result (λ m. (f : Function) → IsStart counts.old start.old sure (reverse way.old) (trees_of list.old) → (first ≡ true → DeclaresFirst (trees_of list.old)) → WentOnBy m gone.old counts.old (with_body f list.old) gone.new counts.new (with_body f list.new)) }
@@ -164,7 +168,14 @@ fn change_rest(
     if !goes_in(*start, way, sure, list) {
         return Ok(0);
     }
-    let slots = change_on_in(alloc, counts, 2, list.at_mut(start.from).get_mut(), way)?;
+    let slots = change_on_in(
+        alloc,
+        counts,
+        2,
+        list.at_mut(start.from).get_mut(),
+        way,
+        holds,
+    )?;
     let before = list.len();
     undeclare_all(&slots, gone, list);
     let after = list.len();
@@ -219,12 +230,14 @@ fn change_boxes(
     let mut start = Start { doubt: 0, from: 0 };
     let mut way = List::new(alloc);
     let mut sure = true;
+    let mut holds = no_holds(alloc);
     let mut count = 0;
     'changes: while change_once(
         alloc,
         &mut start,
         &mut way,
         &mut sure,
+        &mut holds,
         &mut gone,
         &mut counts,
         list,
@@ -238,6 +251,7 @@ fn change_boxes(
             &mut gone,
             &mut counts,
             list,
+            &mut holds,
         )?;
         count = one_and(count, more)?;
     }

@@ -10,11 +10,12 @@ ghost use Rattle.break_recovery.specs.Next.{put, next_here, changed_to};
 ghost use Rattle.break_recovery.specs.Loops.{continue_there, change_there, change_first, loop_after, list_after, slot_of as the_slot_of, keeps_next as the_keeps_next};
 ghost use Rattle.break_recovery.specs.Within.{IsWithin};
 ghost use Rattle.break_recovery.specs.Exits.{exits_of as the_exits_of, HoldsAtMost};
-ghost use Rattle.break_recovery.specs.Steady.{item_is_steady as the_item_is_steady};
+ghost use Rattle.break_recovery.specs.Steady.{item_turned as the_item_turned};
 ghost use Rattle.c_tree.specs.declared.tree.Item.{Item};
 ghost use Rattle.tidy_loops.specs.Remaining.{IsApart};
 
-use crate::steady::item_is_steady;
+use crate::held::{Holds, are_held_there};
+use crate::steady::{Turned, item_turned};
 use c_tree::Item;
 use c_types::{List, Memory};
 use std::alloc::Global;
@@ -87,15 +88,15 @@ pub fn exits_of(counts: &List<u64>, change: Change) -> u64
     }
 }
 
-/// Whether the change of a loop with so many exits leaves all other slots as they are.
-pub fn leaves_others(change: Change, exits: u64, item: &Item) -> bool
+/// The other slots of which the change of a loop with so many exits makes or takes checks.
+pub fn turned_by(change: Change, exits: u64, item: &Item) -> Turned
     requires { HoldsAtMost change exits (tree_at item.now) }
-    ensures { result ≡ the_item_is_steady (the_slot_of change) (tree_at item.now) }
+    ensures { result ≡ the_item_turned (the_slot_of change) (tree_at item.now) }
 {
     if exits == 0 {
-        return true;
+        return Turned::Nothing;
     }
-    item_is_steady(slot_of(change), item)
+    item_turned(slot_of(change), item)
 }
 
 /// Makes the change at the loop, which holds so many exits. After `Memory` the loop is given up.
@@ -152,7 +153,7 @@ fn make(
 }
 
 /// Makes the change at a loop whose body stands at this level, if one applies, and answers its slot, and whether
-/// that is sure to leave all other slots as they are. Else the list stays.
+/// that is sure to allow no loop round it a change. Else the list stays.
 pub fn change_here(
     alloc: Global,
     counts: &List<u64>,
@@ -160,6 +161,7 @@ pub fn change_here(
     list: &mut List<Item>,
     at: usize,
     sure: &mut bool,
+    holds: &mut Holds,
 ) -> Result<Option<u32>, Memory>
     requires place { at < length list.old }
     requires within { IsWithin (count_in counts.now) (trees_of list.old) }
@@ -170,9 +172,10 @@ pub fn change_here(
     match find(counts, level, list, at)? {
         Some(change) => {
             let exits = exits_of(counts, change);
-            let steady = leaves_others(change, exits, &list.as_slice()[at]);
+            let turned = turned_by(change, exits, &list.as_slice()[at]);
+            let held = are_held_there(alloc, counts, holds, turned, list, at + 1)?;
             make(alloc, change, exits, list, at)?;
-            *sure = steady;
+            *sure = held;
             Ok(Some(slot_of(change)))
         }
         None => Ok(None),

@@ -5,6 +5,7 @@
 mod boxes;
 mod fronts;
 mod functions;
+mod held;
 mod here;
 mod places;
 mod program;

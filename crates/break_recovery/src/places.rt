@@ -10,6 +10,7 @@ ghost use Rattle.break_recovery.specs.Ways.{IsWayAt, LeadsOn, IsAhead, IsBefore,
 ghost use Rattle.break_recovery.specs.Within.{AreApart};
 
 use crate::boxes::change_at;
+use crate::held::Holds;
 use c_tree::Item;
 use c_types::{Boxed, List, Memory};
 use std::alloc::Global;
@@ -31,6 +32,7 @@ fn change_place(
     place: usize,
     way: &mut List<usize>,
     sure: &mut bool,
+    holds: &mut Holds,
 ) -> Result<Option<u32>, Memory>
     requires { AreApart (count_in counts.now) (trees_of list.old) }
     ensures made { IfOk result (λ it. (f : FunctionTree) → Tells counts.now f → IsWayAt sure.old f level (reverse way.old) (behind place (trees_of list.old)) → changed_to it (trees_of list.new) ≡ put (λ c. replaced place c (trees_of list.old)) (next_at f level (behind place (trees_of list.old)))) }
@@ -38,7 +40,7 @@ fn change_place(
     ensures way { IfOk result (λ it. LeadsOn counts.now it (λ g. g) (λ f. IsWayAt sure.old f level (reverse way.old) (behind place (trees_of list.old))) (λ (g : ℕ) h. IsWayAt sure.new h level (reverse way.new) (behind place (trees_of list.new)))) }
 {
     if place < list.len() {
-        return change_at(alloc, counts, level, list, place, way, sure);
+        return change_at(alloc, counts, level, list, place, way, sure, holds);
     }
     Ok(None)
 }
@@ -52,6 +54,7 @@ fn change_behind(
     from: usize,
     way: &mut List<usize>,
     sure: &mut bool,
+    holds: &mut Holds,
 ) -> Result<Option<(u32, usize)>, Memory>
     requires { AreApart (count_in counts.now) (trees_of list.old) }
     ensures made { IfOk result (λ it. (f : FunctionTree) → Tells counts.now f → AreQuiet f level from (trees_of list.old) → IsWayAt sure.old f level (reverse way.old) (behind from (trees_of list.old)) → IsFoundAt f level it (trees_of list.old) (trees_of list.new)) }
@@ -60,7 +63,7 @@ fn change_behind(
 {
     let mut i = from;
     while i < list.len() {
-        let change = change_place(alloc, counts, level, list, i, way, sure)?;
+        let change = change_place(alloc, counts, level, list, i, way, sure, holds)?;
         match change {
             Some(slot) => return Ok(Some((slot, i))),
             None => {
@@ -81,6 +84,7 @@ fn change_doubt(
     start: Start,
     way: &mut List<usize>,
     sure: &mut bool,
+    holds: &mut Holds,
 ) -> Result<Option<(u32, usize)>, Memory>
     requires place { start.doubt < start.from }
     requires within { AreApart (count_in counts.now) (trees_of list.old) }
@@ -98,6 +102,7 @@ fn change_doubt(
         start.doubt,
         &mut inside,
         &mut steady,
+        holds,
     )?;
     match change {
         Some(slot) => {
@@ -105,7 +110,7 @@ fn change_doubt(
             *sure = steady;
             Ok(Some((slot, start.doubt)))
         }
-        None => change_behind(alloc, counts, level, list, start.from, way, sure),
+        None => change_behind(alloc, counts, level, list, start.from, way, sure, holds),
     }
 }
 
@@ -118,6 +123,7 @@ pub fn change_from(
     start: Start,
     way: &mut List<usize>,
     sure: &mut bool,
+    holds: &mut Holds,
 ) -> Result<Option<(u32, usize)>, Memory>
     requires { AreApart (count_in counts.now) (trees_of list.old) }
     ensures made { IfOk result (λ it. (f : FunctionTree) → Tells counts.now f → IsAhead sure.old f level start.doubt start.from (reverse way.old) (trees_of list.old) → IsFoundAt f level it (trees_of list.old) (trees_of list.new)) }
@@ -125,9 +131,9 @@ pub fn change_from(
     ensures way { IfOk result (λ it. LeadsOn counts.now it (λ c. c.0) (λ f. IsAhead sure.old f level start.doubt start.from (reverse way.old) (trees_of list.old)) (λ (c : ℕ × ℕ) h. IsWayAt sure.new h level (reverse way.new) (behind c.1 (trees_of list.new)))) }
 {
     if start.doubt < start.from {
-        return change_doubt(alloc, counts, level, list, start, way, sure);
+        return change_doubt(alloc, counts, level, list, start, way, sure, holds);
     }
-    change_behind(alloc, counts, level, list, start.from, way, sure)
+    change_behind(alloc, counts, level, list, start.from, way, sure, holds)
 }
 
 /// Where the search goes on behind a change at this place, with the declaration gone from that one.

@@ -11,6 +11,7 @@ ghost use Rattle.break_recovery.specs.InARow.{IsRow};
 ghost use Rattle.tidy_loops.specs.Slots.{count_in};
 ghost use Rattle.break_recovery.specs.Within.{IsWithin, AreSectionsWithin, AreWithin};
 
+use crate::held::Holds;
 use crate::search::next_step;
 use crate::walk::change_along;
 use c_tree::{Item, Section};
@@ -44,15 +45,16 @@ fn change_on(
     level: u32,
     list: &mut List<Item>,
     way: &mut List<usize>,
+    holds: &mut Holds,
 ) -> Result<List<u32>, Memory>
     requires { IsWithin (count_in counts.old) (trees_of list.old) }
     ensures { IfOk result (λ gs. IsRow (λ f. next_list f level) AreAlike (λ f. IsWay true f level) counts.old counts.new gs (reverse way.old) (reverse way.new) (trees_of list.old) (trees_of list.new)) }
 {
     let mut at = next_step(way);
     if goes_on(way) {
-        return change_on_at(alloc, counts, level, list, at, way);
+        return change_on_at(alloc, counts, level, list, at, way, holds);
     }
-    let slots = change_along(alloc, counts, level, list, &mut at)?;
+    let slots = change_along(alloc, counts, level, list, &mut at, holds)?;
     way.push(at)?;
     Ok(slots)
 }
@@ -65,6 +67,7 @@ fn change_on_at(
     list: &mut List<Item>,
     at: usize,
     way: &mut List<usize>,
+    holds: &mut Holds,
 ) -> Result<List<u32>, Memory>
     requires on { way.old ≡ [] → ⊥ }
     requires within { IsWithin (count_in counts.old) (trees_of list.old) }
@@ -74,7 +77,7 @@ fn change_on_at(
     if at >= list.len() {
         return Ok(give_up(alloc, way));
     }
-    let slots = change_on_in(alloc, counts, inside, list.at_mut(at), way)?;
+    let slots = change_on_in(alloc, counts, inside, list.at_mut(at), way, holds)?;
     way.push(at)?;
     Ok(slots)
 }
@@ -87,38 +90,39 @@ pub fn change_on_in(
     level: u32,
     item: &mut Item,
     way: &mut List<usize>,
+    holds: &mut Holds,
 ) -> Result<List<u32>, Memory>
     requires { AreWithin (count_in counts.old) (tree_at item.old) }
     ensures { IfOk result (λ gs. IsRow (λ f. next_item f level) IsAlike (λ f. IsWayIn true f level) counts.old counts.new gs (reverse way.old) (reverse way.new) (tree_at item.old) (tree_at item.new)) }
 {
     match mem::replace(item, Item::Break) {
         Item::If(test, mut a, mut b) => {
-            let slots = change_on_either(alloc, counts, level, &mut a, &mut b, way);
+            let slots = change_on_either(alloc, counts, level, &mut a, &mut b, way, holds);
             *item = Item::If(test, a, b);
             slots
         }
         Item::While(test, mut a) => {
-            let slots = change_on(alloc, counts, level, &mut a, way);
+            let slots = change_on(alloc, counts, level, &mut a, way, holds);
             *item = Item::While(test, a);
             slots
         }
         Item::Do(mut a, test) => {
-            let slots = change_on(alloc, counts, level, &mut a, way);
+            let slots = change_on(alloc, counts, level, &mut a, way, holds);
             *item = Item::Do(a, test);
             slots
         }
         Item::For(mut first, test, third, mut a) => {
-            let slots = change_on_either(alloc, counts, level, &mut first, &mut a, way);
+            let slots = change_on_either(alloc, counts, level, &mut first, &mut a, way, holds);
             *item = Item::For(first, test, third, a);
             slots
         }
         Item::Switch(selector, mut sections) => {
-            let slots = change_on_sections(alloc, counts, level, &mut sections, way);
+            let slots = change_on_sections(alloc, counts, level, &mut sections, way, holds);
             *item = Item::Switch(selector, sections);
             slots
         }
         Item::Block(mut a) => {
-            let slots = change_on(alloc, counts, level, &mut a, way);
+            let slots = change_on(alloc, counts, level, &mut a, way, holds);
             *item = Item::Block(a);
             slots
         }
@@ -137,16 +141,17 @@ fn change_on_either(
     first: &mut List<Item>,
     second: &mut List<Item>,
     way: &mut List<usize>,
+    holds: &mut Holds,
 ) -> Result<List<u32>, Memory>
     requires { IsWithin (count_in counts.old) (trees_of first.old) × IsWithin (count_in counts.old) (trees_of second.old) }
     ensures { IfOk result (λ gs. IsRow (λ f (c : Forest × Forest). next_either f level c.0 c.1) (λ g (c d : Forest × Forest). AreAlikeOf g c.0 c.1 d.0 d.1) (λ f w (c : Forest × Forest). IsWayOf true f level w c.0 c.1) counts.old counts.new gs (reverse way.old) (reverse way.new) (trees_of first.old, trees_of second.old) (trees_of first.new, trees_of second.new)) }
 {
     if next_step(way) > 0 {
-        let slots = change_on(alloc, counts, level, second, way)?;
+        let slots = change_on(alloc, counts, level, second, way, holds)?;
         way.push(1)?;
         return Ok(slots);
     }
-    let slots = change_on(alloc, counts, level, first, way)?;
+    let slots = change_on(alloc, counts, level, first, way, holds)?;
     way.push(0)?;
     Ok(slots)
 }
@@ -158,6 +163,7 @@ fn change_on_sections(
     level: u32,
     sections: &mut List<Section>,
     way: &mut List<usize>,
+    holds: &mut Holds,
 ) -> Result<List<u32>, Memory>
     requires { AreSectionsWithin (count_in counts.old) (sections_of sections.old) }
     ensures { IfOk result (λ gs. IsRow (λ f. next_sections f level) AreSectionsAlike (λ f. IsWayThrough true f level) counts.old counts.new gs (reverse way.old) (reverse way.new) (sections_of sections.old) (sections_of sections.new)) }
@@ -166,7 +172,7 @@ fn change_on_sections(
     if at >= sections.len() {
         return Ok(give_up(alloc, way));
     }
-    let slots = change_on_section(alloc, counts, level, sections.at_mut(at), way)?;
+    let slots = change_on_section(alloc, counts, level, sections.at_mut(at), way, holds)?;
     way.push(at)?;
     Ok(slots)
 }
@@ -178,10 +184,11 @@ fn change_on_section(
     level: u32,
     section: &mut Section,
     way: &mut List<usize>,
+    holds: &mut Holds,
 ) -> Result<List<u32>, Memory>
     requires { IsWithin (count_in counts.old) (trees_of (list_of section.old)) }
     ensures row { IfOk result (λ gs. IsRow (λ f. next_list f level) AreAlike (λ f. IsWay true f level) counts.old counts.new gs (reverse way.old) (reverse way.new) (trees_of (list_of section.old)) (trees_of (list_of section.new))) }
     ensures rest { IfOk result (λ gs. section.new ≡ with_list (list_of section.new) section.old) }
 {
-    change_on(alloc, counts, level, &mut section.list, way)
+    change_on(alloc, counts, level, &mut section.list, way, holds)
 }

@@ -9,6 +9,7 @@ ghost use Rattle.break_recovery.specs.Steady.{AreAlike, AreAlikeOf, AreSectionsA
 ghost use Rattle.break_recovery.specs.Ways.{IsWay, IsWayAt, IsWayIn, IsWayOf, IsWayThrough, IsStep, LeadsOn};
 ghost use Rattle.break_recovery.specs.Within.{IsWithin, AreSectionsWithin, AreWithin};
 
+use crate::held::Holds;
 use crate::here::change_here;
 use c_tree::{Item, Section};
 use c_types::{List, Memory};
@@ -45,6 +46,7 @@ fn change_list(
     list: &mut List<Item>,
     way: &mut List<usize>,
     sure: &mut bool,
+    holds: &mut Holds,
 ) -> Result<Option<u32>, Memory>
     requires { IsWithin (count_in counts.now) (trees_of list.old) }
     ensures made { IfOk result (λ it. (f : FunctionTree) → Tells counts.now f → IsWay sure.old f level (reverse way.old) (trees_of list.old) → changed_to it (trees_of list.new) ≡ next_list f level (trees_of list.old)) }
@@ -55,7 +57,7 @@ fn change_list(
     let inside = deeper(level)?;
     let mut i = next_step(way);
     while i < list.len() {
-        let change = change_at(alloc, counts, inside, list, i, way, sure)?;
+        let change = change_at(alloc, counts, inside, list, i, way, sure, holds)?;
         if change.is_some() {
             way.push(i)?;
             return Ok(change);
@@ -75,6 +77,7 @@ fn change_at(
     at: usize,
     way: &mut List<usize>,
     sure: &mut bool,
+    holds: &mut Holds,
 ) -> Result<Option<u32>, Memory>
     requires place { at < length list.old }
     requires within { IsWithin (count_in counts.now) (trees_of list.old) }
@@ -84,9 +87,9 @@ fn change_at(
     ensures way { IfOk result (λ it. LeadsOn counts.now it (λ g. g) (λ f. IsWayAt sure.old f level (reverse way.old) (trees_of (drop at list.old))) (λ (g : ℕ) h. IsWayAt sure.new h level (reverse way.new) (trees_of (drop at list.new)))) }
 {
     if was_asked(way, *sure) {
-        return change_within(alloc, counts, level, list, at, way, sure);
+        return change_within(alloc, counts, level, list, at, way, sure, holds);
     }
-    change_asked(alloc, counts, level, list, at, way, sure)
+    change_asked(alloc, counts, level, list, at, way, sure, holds)
 }
 
 /// Makes the next change at this place of a list, whose item may allow one itself.
@@ -99,6 +102,7 @@ fn change_asked(
     at: usize,
     way: &mut List<usize>,
     sure: &mut bool,
+    holds: &mut Holds,
 ) -> Result<Option<u32>, Memory>
     requires place { at < length list.old }
     requires within { IsWithin (count_in counts.now) (trees_of list.old) }
@@ -107,12 +111,12 @@ fn change_asked(
     ensures alike { IfOk result (λ it. IsSaid it sure.new (λ g. AreAlike g (trees_of list.old) (trees_of list.new))) }
     ensures way { IfOk result (λ it. LeadsOn counts.now it (λ g. g) (λ f. IsWayAt sure.old f level (reverse way.old) (trees_of (drop at list.old))) (λ (g : ℕ) h. IsWayAt sure.new h level (reverse way.new) (trees_of (drop at list.new)))) }
 {
-    let here = change_here(alloc, counts, level, list, at, sure)?;
+    let here = change_here(alloc, counts, level, list, at, sure, holds)?;
     if here.is_some() {
         *way = List::new(alloc);
         return Ok(here);
     }
-    change_within(alloc, counts, level, list, at, way, sure)
+    change_within(alloc, counts, level, list, at, way, sure, holds)
 }
 
 /// Makes the next change in the item at this place, which allows none itself.
@@ -125,6 +129,7 @@ fn change_within(
     at: usize,
     way: &mut List<usize>,
     sure: &mut bool,
+    holds: &mut Holds,
 ) -> Result<Option<u32>, Memory>
     requires place { at < length list.old }
     requires within { IsWithin (count_in counts.now) (trees_of list.old) }
@@ -133,7 +138,7 @@ fn change_within(
     ensures alike { IfOk result (λ it. IsSaid it sure.new (λ g. AreAlike g (trees_of list.old) (trees_of list.new))) }
     ensures way { IfOk result (λ it. LeadsOn counts.now it (λ g. g) (λ f. (next_here f level (trees_of (drop at list.old)) ≡ None) × IsWayAt sure.old f level (reverse way.old) (trees_of (drop at list.old))) (λ (g : ℕ) h. IsWayAt sure.new h level (reverse way.new) (trees_of (drop at list.new)))) }
 {
-    change_item(alloc, counts, level, list.at_mut(at), way, sure)
+    change_item(alloc, counts, level, list.at_mut(at), way, sure, holds)
 }
 
 /// Makes the next change of an item, whose lists stand at this level.
@@ -145,6 +150,7 @@ pub fn change_item(
     item: &mut Item,
     way: &mut List<usize>,
     sure: &mut bool,
+    holds: &mut Holds,
 ) -> Result<Option<u32>, Memory>
     requires { AreWithin (count_in counts.now) (tree_at item.old) }
     ensures made { IfOk result (λ it. (f : FunctionTree) → Tells counts.now f → IsWayIn sure.old f level (reverse way.old) (tree_at item.old) → changed_to it (tree_at item.new) ≡ next_item f level (tree_at item.old)) }
@@ -154,32 +160,32 @@ pub fn change_item(
 {
     match mem::replace(item, Item::Break) {
         Item::If(test, mut a, mut b) => {
-            let change = change_either(alloc, counts, level, &mut a, &mut b, way, sure);
+            let change = change_either(alloc, counts, level, &mut a, &mut b, way, sure, holds);
             *item = Item::If(test, a, b);
             change
         }
         Item::While(test, mut a) => {
-            let change = change_list(alloc, counts, level, &mut a, way, sure);
+            let change = change_list(alloc, counts, level, &mut a, way, sure, holds);
             *item = Item::While(test, a);
             change
         }
         Item::Do(mut a, test) => {
-            let change = change_list(alloc, counts, level, &mut a, way, sure);
+            let change = change_list(alloc, counts, level, &mut a, way, sure, holds);
             *item = Item::Do(a, test);
             change
         }
         Item::For(mut first, test, third, mut a) => {
-            let change = change_either(alloc, counts, level, &mut first, &mut a, way, sure);
+            let change = change_either(alloc, counts, level, &mut first, &mut a, way, sure, holds);
             *item = Item::For(first, test, third, a);
             change
         }
         Item::Switch(selector, mut sections) => {
-            let change = change_sections(alloc, counts, level, &mut sections, way, sure);
+            let change = change_sections(alloc, counts, level, &mut sections, way, sure, holds);
             *item = Item::Switch(selector, sections);
             change
         }
         Item::Block(mut a) => {
-            let change = change_list(alloc, counts, level, &mut a, way, sure);
+            let change = change_list(alloc, counts, level, &mut a, way, sure, holds);
             *item = Item::Block(a);
             change
         }
@@ -200,6 +206,7 @@ fn change_either(
     second: &mut List<Item>,
     way: &mut List<usize>,
     sure: &mut bool,
+    holds: &mut Holds,
 ) -> Result<Option<u32>, Memory>
     requires { IsWithin (count_in counts.now) (trees_of first.old) × IsWithin (count_in counts.now) (trees_of second.old) }
     ensures made { IfOk result (λ it. (f : FunctionTree) → Tells counts.now f → IsWayOf sure.old f level (reverse way.old) (trees_of first.old) (trees_of second.old) → changed_to it (trees_of first.new, trees_of second.new) ≡ next_either f level (trees_of first.old) (trees_of second.old)) }
@@ -208,15 +215,15 @@ fn change_either(
     ensures way { IfOk result (λ it. LeadsOn counts.now it (λ g. g) (λ f. IsWayOf sure.old f level (reverse way.old) (trees_of first.old) (trees_of second.old)) (λ (g : ℕ) h. IsWayOf sure.new h level (reverse way.new) (trees_of first.new) (trees_of second.new))) }
 {
     if next_step(way) > 0 {
-        return change_second(alloc, counts, level, second, way, sure);
+        return change_second(alloc, counts, level, second, way, sure, holds);
     }
-    let change = change_list(alloc, counts, level, first, way, sure)?;
+    let change = change_list(alloc, counts, level, first, way, sure, holds)?;
     if change.is_some() {
         way.push(0)?;
         return Ok(change);
     }
     *way = List::new(alloc);
-    change_second(alloc, counts, level, second, way, sure)
+    change_second(alloc, counts, level, second, way, sure, holds)
 }
 
 /// Makes the next change of the second of two lists, where the first has none.
@@ -228,6 +235,7 @@ fn change_second(
     second: &mut List<Item>,
     way: &mut List<usize>,
     sure: &mut bool,
+    holds: &mut Holds,
 ) -> Result<Option<u32>, Memory>
     requires { IsWithin (count_in counts.now) (trees_of second.old) }
     ensures made { IfOk result (λ it. (f : FunctionTree) → Tells counts.now f → IsWay sure.old f level (reverse way.old) (trees_of second.old) → changed_to it (trees_of second.new) ≡ next_list f level (trees_of second.old)) }
@@ -235,7 +243,7 @@ fn change_second(
     ensures alike { IfOk result (λ it. IsSaid it sure.new (λ g. AreAlike g (trees_of second.old) (trees_of second.new))) }
     ensures way { IfOk result (λ it. LeadsOn counts.now it (λ g. g) (λ f. IsWay sure.old f level (reverse way.old) (trees_of second.old)) (λ (g : ℕ) h. (w : List ℕ) × (reverse way.new ≡ 1 ∷ w) × IsWay sure.new h level w (trees_of second.new))) }
 {
-    let change = change_list(alloc, counts, level, second, way, sure)?;
+    let change = change_list(alloc, counts, level, second, way, sure, holds)?;
     if change.is_some() {
         way.push(1)?;
         return Ok(change);
@@ -251,6 +259,7 @@ fn change_sections(
     sections: &mut List<Section>,
     way: &mut List<usize>,
     sure: &mut bool,
+    holds: &mut Holds,
 ) -> Result<Option<u32>, Memory>
     requires { AreSectionsWithin (count_in counts.now) (sections_of sections.old) }
     ensures made { IfOk result (λ it. (f : FunctionTree) → Tells counts.now f → IsWayThrough sure.old f level (reverse way.old) (sections_of sections.old) → changed_to it (sections_of sections.new) ≡ next_sections f level (sections_of sections.old)) }
@@ -260,7 +269,7 @@ fn change_sections(
 {
     let mut i = next_step(way);
     while i < sections.len() {
-        let change = change_section(alloc, counts, level, sections.at_mut(i), way, sure)?;
+        let change = change_section(alloc, counts, level, sections.at_mut(i), way, sure, holds)?;
         if change.is_some() {
             way.push(i)?;
             return Ok(change);
@@ -279,6 +288,7 @@ fn change_section(
     section: &mut Section,
     way: &mut List<usize>,
     sure: &mut bool,
+    holds: &mut Holds,
 ) -> Result<Option<u32>, Memory>
     requires { IsWithin (count_in counts.now) (trees_of (list_of section.old)) }
     ensures made { IfOk result (λ it. (f : FunctionTree) → Tells counts.now f → IsWay sure.old f level (reverse way.old) (trees_of (list_of section.old)) → changed_to it (trees_of (list_of section.new)) ≡ next_list f level (trees_of (list_of section.old))) }
@@ -287,5 +297,5 @@ fn change_section(
     ensures alike { IfOk result (λ it. IsSaid it sure.new (λ g. AreAlike g (trees_of (list_of section.old)) (trees_of (list_of section.new)))) }
     ensures way { IfOk result (λ it. LeadsOn counts.now it (λ g. g) (λ f. IsWay sure.old f level (reverse way.old) (trees_of (list_of section.old))) (λ (g : ℕ) h. IsWay sure.new h level (reverse way.new) (trees_of (list_of section.new)))) }
 {
-    change_list(alloc, counts, level, &mut section.list, way, sure)
+    change_list(alloc, counts, level, &mut section.list, way, sure, holds)
 }

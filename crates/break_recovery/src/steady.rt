@@ -1,34 +1,81 @@
-//! Whether a change of a loop leaves the checks of all other slots as they are.
+//! Of which other slots a change of a loop makes or takes checks.
 
-ghost use Rattle.std.specs.Prelude.{◌≡◌, ◌&&◌, not};
+ghost use Rattle.std.specs.Prelude.{◌≡◌};
 ghost use Rattle.c_tree.specs.Trees.{trees_of, sections_of};
 ghost use Rattle.c_tree.specs.ExpressionTrees.{expression_tree, place_tree};
 ghost use Rattle.c_tree.specs.Views.{tree_at};
-ghost use Rattle.tidy_laws.specs.Mentions.{list_lacks};
 ghost use Rattle.tidy_loops.specs.Views.{expression_at, test_at};
-ghost use Rattle.break_recovery.specs.Steady.{assigns_off as the_assigns_off, sets_off as the_sets_off, has_else as the_has_else, is_steady as the_is_steady, item_is_steady as the_item_is_steady, sections_are_steady as the_sections_are_steady};
+ghost use Rattle.break_recovery.specs.Steady.{both as the_both, one_of as the_one_of, assigned as the_assigned, set_turned as the_set_turned, has_else as the_has_else, turned as the_turned, item_turned as the_item_turned, sections_turned as the_sections_turned};
 
 use c_tree::{Expression, Item, Node, Place, Section, Test};
 use c_types::List;
 use tidy_loops::{is_it, off_slot, place_slot};
 use tidy_slots::list_names;
 
-fn assigns_off(slot: u32, place: &Place, value: &Expression) -> bool
-    ensures { result ≡ the_assigns_off slot (place_tree place.now) (expression_tree value.now) }
-{
-    if !is_it(slot, place_slot(place)) {
-        return false;
-    }
-    off_slot(value).is_some()
+/// The slots of which a change of another makes or takes checks.
+#[derive(Clone, Copy)]
+pub enum Turned {
+    /// None.
+    Nothing,
+    /// This one alone.
+    One(u32),
+    /// More than one, or any.
+    Many,
 }
 
-/// Whether the expression sets the slot to `!x`.
-fn sets_off(slot: u32, e: &Expression) -> bool
-    ensures { result ≡ the_sets_off slot (expression_at e.now) }
+/// Those of two parts.
+fn both(first: Turned, second: Turned) -> Turned
+    ensures { result ≡ the_both first second }
+{
+    match first {
+        Turned::Nothing => second,
+        Turned::One(slot) => with_one(slot, second),
+        Turned::Many => Turned::Many,
+    }
+}
+
+/// This slot, and those of another part.
+fn with_one(slot: u32, second: Turned) -> Turned
+    ensures { result ≡ the_both (Turned.One slot) second }
+{
+    match second {
+        Turned::Nothing => Turned::One(slot),
+        Turned::One(other) => {
+            if slot == other {
+                Turned::One(slot)
+            } else {
+                Turned::Many
+            }
+        }
+        Turned::Many => Turned::Many,
+    }
+}
+
+fn one_of(slot: Option<u32>) -> Turned
+    ensures { result ≡ the_one_of slot }
+{
+    match slot {
+        Some(slot) => Turned::One(slot),
+        None => Turned::Nothing,
+    }
+}
+
+fn assigned(slot: u32, place: &Place, value: &Expression) -> Turned
+    ensures { result ≡ the_assigned slot (place_tree place.now) (expression_tree value.now) }
+{
+    if !is_it(slot, place_slot(place)) {
+        return Turned::Nothing;
+    }
+    one_of(off_slot(value))
+}
+
+/// What a set of the slot to `!x` becomes is a check of x.
+fn set_turned(slot: u32, e: &Expression) -> Turned
+    ensures { result ≡ the_set_turned slot (expression_at e.now) }
 {
     match &e.node {
-        Node::Assign(place, value) => assigns_off(slot, place, value.get()),
-        _ => false,
+        Node::Assign(place, value) => assigned(slot, place, value.get()),
+        _ => Turned::Nothing,
     }
 }
 
@@ -42,60 +89,68 @@ fn has_else(test: &Test, other: &List<Item>) -> bool
     }
 }
 
-/// Whether a list holds no set of the slot to `!x`, and no `if (!x)` whose else-list names the slot.
-#[cycle(steady)]
-fn is_steady(slot: u32, list: &List<Item>) -> bool
-    ensures { result ≡ the_is_steady slot (trees_of list.now) }
+/// Those of a list.
+#[cycle(turned)]
+fn list_turned(slot: u32, list: &List<Item>) -> Turned
+    ensures { result ≡ the_turned slot (trees_of list.now) }
 {
-    items_are_steady(slot, list.as_slice())
+    items_turned(slot, list.as_slice())
 }
 
-#[cycle(steady)]
-fn items_are_steady(slot: u32, items: &[Item]) -> bool
-    ensures { result ≡ the_is_steady slot (trees_of items.now) }
+#[cycle(turned)]
+fn items_turned(slot: u32, items: &[Item]) -> Turned
+    ensures { result ≡ the_turned slot (trees_of items.now) }
 {
-    for i in 0..items.len() {
-        if !item_is_steady(slot, &items[i]) {
-            return false;
-        }
+    let mut all = Turned::Nothing;
+    let mut at = items.len();
+    'items: while at > 0 {
+        let place = at - 1;
+        let more = item_turned(slot, &items[place]);
+        all = both(more, all);
+        at = place;
     }
-    true
+    all
 }
 
-#[cycle(steady)]
-fn sections_are_steady(slot: u32, sections: &[Section]) -> bool
-    ensures { result ≡ the_sections_are_steady slot (sections_of sections.now) }
+#[cycle(turned)]
+fn sections_turned(slot: u32, sections: &[Section]) -> Turned
+    ensures { result ≡ the_sections_turned slot (sections_of sections.now) }
 {
-    for i in 0..sections.len() {
-        if !is_steady(slot, &sections[i].list) {
-            return false;
-        }
+    let mut all = Turned::Nothing;
+    let mut at = sections.len();
+    'sections: while at > 0 {
+        let place = at - 1;
+        let more = list_turned(slot, &sections[place].list);
+        all = both(more, all);
+        at = place;
     }
-    true
+    all
 }
 
-/// Whether an item holds no set of the slot to `!x`, and no `if (!x)` whose else-list names the slot.
-#[cycle(steady)]
-pub fn item_is_steady(slot: u32, item: &Item) -> bool
-    ensures { result ≡ the_item_is_steady slot (tree_at item.now) }
+/// Those of the `if`s and sets of an item, at any depth.
+#[cycle(turned)]
+pub fn item_turned(slot: u32, item: &Item) -> Turned
+    ensures { result ≡ the_item_turned slot (tree_at item.now) }
 {
     match item {
-        Item::Evaluate(e) => !sets_off(slot, e),
+        Item::Evaluate(e) => set_turned(slot, e),
         Item::If(test, a, b) => {
-            let a = is_steady(slot, a);
-            // an else-list that lacks the slot is steady
+            let first = list_turned(slot, a);
+            // an else-list that lacks the slot stays
             if has_else(test, b) {
-                let named = list_names(slot, b);
-                return a & !named;
+                if list_names(slot, b) {
+                    return Turned::Many;
+                }
+                return first;
             }
-            let b = is_steady(slot, b);
-            a & b
+            let second = list_turned(slot, b);
+            both(first, second)
         }
-        Item::While(_, a) => is_steady(slot, a),
-        Item::Do(a, _) => is_steady(slot, a),
-        Item::For(_, _, _, a) => is_steady(slot, a),
-        Item::Switch(_, sections) => sections_are_steady(slot, sections.as_slice()),
-        Item::Block(a) => is_steady(slot, a),
-        _ => true,
+        Item::While(_, a) => list_turned(slot, a),
+        Item::Do(a, _) => list_turned(slot, a),
+        Item::For(_, _, _, a) => list_turned(slot, a),
+        Item::Switch(_, sections) => sections_turned(slot, sections.as_slice()),
+        Item::Block(a) => list_turned(slot, a),
+        _ => Turned::Nothing,
     }
 }

@@ -12,11 +12,13 @@ ghost use Rattle.break_recovery.specs.Steady.{AreAlike};
 ghost use Rattle.break_recovery.specs.InARow.{IsRow, closed};
 ghost use Rattle.break_recovery.specs.Within.{IsWithin};
 ghost use Rattle.break_recovery.specs.Exits.{HoldsAtMost};
+ghost use Rattle.break_recovery.specs.Held.{AreHeld, SameBehind};
 ghost use Rattle.c_tree.specs.declared.tree.Item.{Item};
 ghost use Rattle.c_tree.specs.Views.{tree_at};
 
 use crate::functions::forget;
-use crate::here::{Change, change_of, changed_loop, exits_of, keeps_next, leaves_others, slot_of};
+use crate::held::{Holds, are_held, forget_holds};
+use crate::here::{Change, change_of, changed_loop, exits_of, keeps_next, slot_of, turned_by};
 use crate::quiet::item_is_quiet;
 use c_tree::Item;
 use c_types::{List, Memory};
@@ -35,7 +37,7 @@ pub struct Walk {
 const FEW: usize = 64;
 
 /// Whether a list has few items from a place on.
-fn are_few(list: &List<Item>, place: usize) -> bool
+pub fn are_few(list: &List<Item>, place: usize) -> bool
     ensures many { result ≡ false → place < length list.now }
     ensures bound { length list.now ≤ 4294967295 }
 {
@@ -43,15 +45,16 @@ fn are_few(list: &List<Item>, place: usize) -> bool
     place >= count || count - place < FEW
 }
 
-/// Makes changes at loops of a list at this level, from a place on, as long as each is steady and the next of the list, and
-/// answers their slots. They count no more then. The place moves on to where the changes end. Where few items are left it
-/// makes none.
+/// Makes changes at loops of a list at this level, from a place on, as long as each is the next of the list and allows no
+/// loop round it a change, and answers their slots. They count no more then. The place moves on to where the changes end.
+/// Where few items are left it makes none.
 pub fn change_along(
     alloc: Global,
     counts: &mut List<u64>,
     level: u32,
     list: &mut List<Item>,
     place: &mut usize,
+    holds: &mut Holds,
 ) -> Result<List<u32>, Memory>
     requires { IsWithin (count_in counts.old) (trees_of list.old) }
     ensures { IfOk result (λ gs. IsRow (λ f. next_list f level) AreAlike (λ f. AreQuiet f (suc level)) counts.old counts.new gs place.old place.new (trees_of list.old) (trees_of list.new)) }
@@ -63,7 +66,8 @@ pub fn change_along(
         at: *place,
         next: *place + 1,
     };
-    let slots = walk_on(alloc, counts, level, list, &mut walk)?;
+    forget_holds(alloc, holds);
+    let slots = walk_on(alloc, counts, level, list, &mut walk, holds)?;
     close_gap(alloc, list, walk.at, walk.next)?;
     *place = walk.at;
     Ok(slots)
@@ -76,9 +80,11 @@ fn walk_on(
     level: u32,
     list: &mut List<Item>,
     walk: &mut Walk,
+    holds: &mut Holds,
 ) -> Result<List<u32>, Memory>
     requires place { (walk.old.at < walk.old.next) × (walk.old.next ≤ length list.old) }
     requires within { IsWithin (count_in counts.old) (trees_of (closed walk.old.at walk.old.next list.old)) }
+    requires known { AreHeld holds.old.known list.old walk.old.next }
     ensures within { OnOk result ((walk.new.at < walk.new.next) × (walk.new.next ≤ length list.new)) }
     ensures row { IfOk result (λ gs. IsRow (λ f. next_list f level) AreAlike (λ f. AreQuiet f (suc level)) counts.old counts.new gs walk.old.at walk.new.at (trees_of (closed walk.old.at walk.old.next list.old)) (trees_of (closed walk.new.at walk.new.next list.new))) }
 {
@@ -86,7 +92,7 @@ fn walk_on(
     let mut slots = List::new(alloc);
     let mut left = 2 * list.len();
     'steps: while left > 0 {
-        let leads_on = step(alloc, counts, inside, list, walk, &mut slots)?;
+        let leads_on = step(alloc, counts, inside, list, walk, holds, &mut slots)?;
         if !leads_on {
             return Ok(slots);
         }
@@ -102,16 +108,19 @@ fn step(
     level: u32,
     list: &mut List<Item>,
     walk: &mut Walk,
+    holds: &mut Holds,
     slots: &mut List<u32>,
 ) -> Result<bool, Memory>
     requires place { (walk.old.at < walk.old.next) × (walk.old.next ≤ length list.old) }
     requires within { IsWithin (count_in counts.old) (trees_of (closed walk.old.at walk.old.next list.old)) }
+    requires known { AreHeld holds.old.known list.old walk.old.next }
+    ensures known { OnOk result (AreHeld holds.new.known list.new walk.new.next) }
     ensures less { OnOk result (IsWithin (count_in counts.new) (trees_of (closed walk.new.at walk.new.next list.new))) }
     ensures within { OnOk result ((walk.new.at < walk.new.next) × (walk.new.next ≤ length list.new)) }
     ensures row { (n : ℕ) → level ≡ suc n → OnOk result ((gs : List ℕ) × (slots.new ≡ slots.old ++ gs) × IsRow (λ f. next_list f n) AreAlike (λ f. AreQuiet f (suc n)) counts.old counts.new gs walk.old.at walk.new.at (trees_of (closed walk.old.at walk.old.next list.old)) (trees_of (closed walk.new.at walk.new.next list.new))) }
 {
     match find(counts, level, list, *walk)? {
-        Some(change) => change_steadily(alloc, change, counts, list, walk, slots),
+        Some(change) => change_held(alloc, change, counts, list, walk, holds, slots),
         None => pass(counts, level, list, walk),
     }
 }
@@ -133,18 +142,21 @@ fn find(
     change_of(counts, level, &items[at], rest)
 }
 
-/// Makes this change, if it leaves all other slots as they are, and says whether it did.
-fn change_steadily(
+/// Makes this change, and says so, where all slots are held that it turns. Else it makes none.
+fn change_held(
     alloc: Global,
     change: Change,
     counts: &mut List<u64>,
     list: &mut List<Item>,
     walk: &mut Walk,
+    holds: &mut Holds,
     slots: &mut List<u32>,
 ) -> Result<bool, Memory>
     requires place { (walk.old.at < walk.old.next) × (walk.old.next ≤ length list.old) }
+    requires known { AreHeld holds.old.known list.old walk.old.next }
     requires found { (n : ℕ) × change_first (count_in counts.old) n (trees_of (drop walk.old.at (closed walk.old.at walk.old.next list.old))) ≡ Some change }
     requires within { IsWithin (count_in counts.old) (trees_of (closed walk.old.at walk.old.next list.old)) }
+    ensures known { OnOk result (AreHeld holds.new.known list.new walk.new.next) }
     ensures less { OnOk result (IsWithin (count_in counts.new) (trees_of (closed walk.new.at walk.new.next list.new))) }
     ensures within { OnOk result ((walk.new.at < walk.new.next) × (walk.new.next ≤ length list.new)) }
     ensures row { (n : ℕ) → Some change ≡ change_first (count_in counts.old) (suc n) (trees_of (drop walk.old.at (closed walk.old.at walk.old.next list.old))) → OnOk result ((gs : List ℕ) × (slots.new ≡ slots.old ++ gs) × IsRow (λ f. next_list f n) AreAlike (λ f. AreQuiet f (suc n)) counts.old counts.new gs walk.old.at walk.new.at (trees_of (closed walk.old.at walk.old.next list.old)) (trees_of (closed walk.new.at walk.new.next list.new))) }
@@ -152,7 +164,9 @@ fn change_steadily(
     let slot = slot_of(change);
     let at = walk.at;
     let exits = exits_of(counts, change);
-    if !leaves_others(change, exits, &list.as_slice()[at]) {
+    let turned = turned_by(change, exits, &list.as_slice()[at]);
+    let held = are_held(counts, holds, turned, list, walk.next)?;
+    if !held {
         return Ok(false);
     }
     make(alloc, change, exits, list, walk)?;
@@ -173,6 +187,7 @@ fn make(
     requires exits { (x : Item) → slice_get list.old walk.old.at ≡ Some x → HoldsAtMost change exits (tree_at x) }
     ensures within { OnOk result ((walk.new.at < walk.new.next) × (walk.new.next ≤ length list.new)) }
     ensures place { OnOk result (walk.new.at ≡ walk.old.at) }
+    ensures behind { OnOk result ((walk.old.next ≤ walk.new.next) × SameBehind walk.new.next list.old list.new) }
     ensures made { OnOk result (trees_of (closed walk.new.at walk.new.next list.new) ≡ join (trees_of (take walk.old.at (closed walk.old.at walk.old.next list.old))) (list_after change (trees_of (drop walk.old.at (closed walk.old.at walk.old.next list.old))))) }
 {
     changed_loop(alloc, change, exits, list.at_mut(walk.at))?;
@@ -194,6 +209,7 @@ fn pass(
 ) -> Result<bool, Memory>
     requires place { (walk.old.at < walk.old.next) × (walk.old.next ≤ length list.old) }
     requires within { IsWithin (count_in counts.now) (trees_of (closed walk.old.at walk.old.next list.old)) }
+    ensures behind { OnOk result ((walk.old.next ≤ walk.new.next) × SameBehind walk.new.next list.old list.new) }
     ensures less { OnOk result (IsWithin (count_in counts.now) (trees_of (closed walk.new.at walk.new.next list.new))) }
     ensures within { OnOk result ((walk.new.at < walk.new.next) × (walk.new.next ≤ length list.new)) }
     ensures row { (n : ℕ) → level ≡ suc n → None ≡ change_first (count_in counts.now) level (trees_of (drop walk.old.at (closed walk.old.at walk.old.next list.old))) → OnOk result (IsRow (λ f. next_list f n) AreAlike (λ f. AreQuiet f (suc n)) counts.now counts.now [] walk.old.at walk.new.at (trees_of (closed walk.old.at walk.old.next list.old)) (trees_of (closed walk.new.at walk.new.next list.new))) }
@@ -216,6 +232,7 @@ fn move_on(list: &mut List<Item>, walk: &mut Walk)
     requires within { (walk.old.at < walk.old.next) × (walk.old.next < length list.old) }
     ensures within { (walk.new.at < walk.new.next) × (walk.new.next ≤ length list.new) }
     ensures place { walk.new.at ≡ walk.old.at + 1 }
+    ensures behind { (walk.old.next ≤ walk.new.next) × SameBehind walk.new.next list.old list.new }
     ensures same { (closed walk.new.at walk.new.next list.new) ≡ (closed walk.old.at walk.old.next list.old) }
 {
     let item = mem::replace(list.at_mut(walk.next), Item::Break);

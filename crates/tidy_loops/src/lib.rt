@@ -23,6 +23,7 @@ pub use forms::{is_it, off_slot, place_slot};
 pub use levels::deeper;
 pub use making::{broken, continued};
 pub use reading::is_declaration;
+pub use remaining::names_otherwise;
 
 /// At a loop at most one change by `break` and one by `continue` apply: those of the slots that are read.
 #[tactic(auto, using(crate::proofs::AtLoop::loop_laws_hold))]

@@ -1,7 +1,7 @@
 //! Whether all mentions of a slot in a list are exits. The list is read from its end: the reading stops at the first
 //! mention that is no exit, and once no mention is left.
 
-ghost use Rattle.std.specs.Prelude.{◌≡◌, ◌+◌, ◌<◌, ◌≤◌, ◌&&◌, not, eqb, is_some, true, cond, length, drop, option_map};
+ghost use Rattle.std.specs.Prelude.{◌≡◌, ◌+◌, ◌<◌, ◌≤◌, ◌&&◌, not, eqb, ltb, is_some, true, cond, length, drop, option_map};
 ghost use Rattle.c_tree.specs.ExpressionTrees.{expression_tree};
 ghost use Rattle.c_tree.specs.TestTrees.{test_tree};
 ghost use Rattle.c_tree.specs.Trees.{Nil, For, trees_of, sections_of};
@@ -10,7 +10,7 @@ ghost use Rattle.tidy_laws.specs.Tails.{is_end};
 ghost use Rattle.tidy_laws.specs.Mentions.{item_lacks};
 ghost use Rattle.tidy_laws.specs.Changes.{set_value as the_set_value};
 ghost use Rattle.tidy_slots.specs.Counts.{one_if, expression_count, test_count, list_count, item_count, sections_count};
-ghost use Rattle.tidy_loops.specs.Exits.{checks_within, exits_in};
+ghost use Rattle.tidy_loops.specs.Exits.{checks_within, exits_in, exits_of};
 ghost use Rattle.tidy_loops.specs.Remaining.{exits_within, item_exits, IsLeft};
 
 use crate::forms::{is_check, is_last, set_value};
@@ -207,5 +207,16 @@ pub fn are_exits(slot: u32, items: &[Item], left: u64) -> bool
     match behind_items(slot, true, items, left) {
         Some(rest) => rest == 0,
         None => false,
+    }
+}
+
+/// Whether an item at a tail names the slot otherwise than in exits, where it names it so often at most.
+pub fn names_otherwise(slot: u32, item: &Item, most: u64) -> bool
+    requires { item_count slot (tree_at item.now) ≤ most }
+    ensures { result ≡ ltb (exits_of slot (tree_at item.now)) (item_count slot (tree_at item.now)) }
+{
+    match behind_item(slot, true, item, most) {
+        Some(_) => false,
+        None => true,
     }
 }

@@ -59,10 +59,10 @@ returns c =
     record {
       went = λ f i d. subst (λ m. WentOnBy m c.args.gone.now c.args.counts.now (with_body f xs) c.undeclare_all.new.gone s (with_body f zs))
           (sym c.len-count.ensures.value)
-          (rest_went c.args.counts.now s gs v w k xs zs x y there.0 e q c.undeclare_all.ensures.gone (ahead i) plain o (d first) c.args.gone.now
+          (rest_went c.args.counts.now s gs v w k xs zs x y there.0 e q c.undeclare_all.ensures.gone (ahead i) plain o (d first) c.requires c.args.gone.now
           c.undeclare_all.new.gone f c.undeclare_all.ensures.marked);
       start = λ f n start u i d.
-          let r = rest_starts c.args.counts.now s gs v w k xs zs x y there.0 e q c.undeclare_all.ensures.gone (ahead i) plain o (d first) n start
+          let r = rest_starts c.args.counts.now s gs v w k xs zs x y there.0 e q c.undeclare_all.ensures.gone (ahead i) plain o (d first) c.requires n start
           c.args.gone.now (function_tree (with_body f xs)) c.saturating_sub-from.result refl u from in (
             λ g t. subst (λ b. IsAhead b g 2 c.saturating_sub-from.result c.saturating_sub-from.result w (trees_of zs)) (sym sure.0) (r.0 g t),
             λ b. r.1,

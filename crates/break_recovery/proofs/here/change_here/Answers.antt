@@ -1,5 +1,5 @@
 use mathlib.Core.Path.{fun_ext}
-use Rattle.std.proofs.Common.{take, drop, Some, get_or, ap, sym, subst, ◌≡◌, ◌∙◌}
+use Rattle.std.proofs.Common.{◌+◌, take, drop, Some, get_or, ap, sym, subst, ◌≡◌, ◌∙◌, arith}
 use Rattle.c_tree.specs.Trees.{trees_of, join}
 use Rattle.c_tree.specs.Views.{tree_at}
 use Rattle.tidy_loops.specs.Slots.{count_in}
@@ -10,7 +10,9 @@ use Rattle.break_recovery.proofs.Outermost.{some_none}
 use Rattle.break_recovery.proofs.Loops.{here_changed, here_none}
 use Rattle.break_recovery.specs.Exits.{HoldsAtMost}
 use Rattle.break_recovery.proofs.Steps.{entry_is}
-use Rattle.break_recovery.proofs.Within.{within_apart}
+use Rattle.break_recovery.proofs.Within.{is_less, within_apart}
+use Rattle.break_recovery.proofs.WithinAfter.{count_join_of}
+use Rattle.break_recovery.proofs.HeldLaws.{held_left}
 use Rattle.break_recovery.proofs.ExitsPlaced.{list_holds}
 use Rattle.break_recovery.proofs.here.change_here.Goals as goal
 
@@ -28,10 +30,11 @@ returns-in_ok-make-in-Some c =
           ∙ here_changed f c.args.level (trees_of (drop at xs)) (join (trees_of (take at xs))) (count_in c.args.counts.now) (fun_ext h)
           _ c.in_ok-change.ensures r (trees_of ys) c.in-Some.is c.in_ok-make-in-Some.ensures;
       kept = λ e. some_none g e;
-      alike = said_here g c.leaves_others-steady.result (λ g. AreAlike g (trees_of xs) (trees_of ys))
+      alike = said_here g c.in_ok-held-in-Some.held (λ g. AreAlike g (trees_of xs) (trees_of ys))
           (λ i. subst (λ g. AreAlike g (trees_of xs) (trees_of ys)) (sym c.slot_of.ensures)
           (here_alike (count_in c.args.counts.now) c.args.level xs ys at x r c.requires.place e (sym c.in_ok-change.ensures ∙ c.in-Some.is)
-          (sym c.leaves_others-steady.ensures ∙ i) c.in_ok-make-in-Some.ensures));
+          (held_left r (tree_at x) c.turned_by-turned.result xs (at + 1) c.turned_by-turned.ensures (c.in_ok-held-in-Some.ensures i))
+          c.in_ok-make-in-Some.ensures));
     }
 
 pub returns-in-None-clause-made : goal.returns-in-None-clause-made
@@ -41,8 +44,8 @@ returns-in-None-clause-made c =
     λ f h. here_none f c.args.level (trees_of (drop at xs)) (join (trees_of (take at xs))) (count_in c.args.counts.now) (fun_ext h)
     _ c.in_ok-change.ensures (trees_of xs) c.in-None.is
 
-pub leaves_others-steady-requires : goal.leaves_others-steady-requires
-leaves_others-steady-requires c =
+pub turned_by-turned-requires : goal.turned_by-turned-requires
+turned_by-turned-requires c =
     let xs = c.args.list.now in
     let x = c.index-as_slice-at.result in
     let e : x ≡ get_or xs c.args.at x = c.index-as_slice-at.is ∙ ap (λ z. get_or z c.args.at x) c.as_slice.ensures.value in
@@ -56,3 +59,8 @@ make-requires-clause-exits c = λ x e.
     subst (λ n. HoldsAtMost c.in-Some.change n (tree_at x)) (sym c.exits_of-exits.ensures)
     (list_holds (count_in c.args.counts.now) c.args.level xs c.args.at x c.in-Some.change c.requires.place (entry_is xs c.args.at x e)
     (within_apart _ (trees_of xs) c.requires.within) (sym c.in_ok-change.ensures ∙ c.in-Some.is))
+
+pub are_held_there-requires : goal.are_held_there-requires
+are_held_there-requires c = λ g.
+    let t = count_join_of g c.args.list.now (c.args.at + 1) in
+    is_less (count_in c.args.counts.now g) _ _ (omega (arith, t)) (c.requires.within g)

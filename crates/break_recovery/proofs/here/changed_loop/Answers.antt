@@ -2,7 +2,6 @@ use Rattle.std.proofs.Common.{ap, subst, arith}
 use Rattle.c_tree.specs.Views.{tree_at}
 use Rattle.tidy_slots.specs.Counts.{list_count}
 use Rattle.tidy_loops.specs.Slots.{but_last}
-use Rattle.break_recovery.specs.declared.here.Change.TheVariants as V
 use Rattle.break_recovery.specs.Exits.{HoldsAtMost}
 use Rattle.break_recovery.proofs.ExitsTold.{body_list}
 use Rattle.break_recovery.proofs.here.changed_loop.Goals as goal

@@ -69,7 +69,7 @@ change_on_at-returns t c =
     λ v i. subst (λ u. RowOfList n c.args.counts.now s gs v u (trees_of xs) (trees_of (slice_set xs at y)))
     (sym (way_told c.push.new.self w at c.in_ok-push.ensures.ok))
     (list_row n c.in_ok-inside.inside c.args.counts.now s gs v (reverse c.args.way.now) (reverse w) xs at x y c.in_ok-inside.ensures h
-    c.at_mut.ensures.value i (λ e. c.requires.on (empty_back c.args.way.now e)) c.in_ok-slots.ensures)
+    c.at_mut.ensures.value i (λ e. c.requires.on (empty_back c.args.way.now e)) c.requires.within c.in_ok-slots.ensures)
 
 pub change_on_section-change_on-requires : goal.change_on_section-change_on-requires
 change_on_section-change_on-requires t c = (omega (arith, c.decreases), c.requires)

@@ -21,6 +21,7 @@ use Rattle.break_recovery.proofs.Likeness.{if_ok_both, alike_set, sections_alike
 use Rattle.break_recovery.proofs.Steps.{section_found, sections_end, an_entry, no_answer, a_slot, an_answer, item_changed, entry_is, here_found, no_here, first_changed, if_changed, while_changed, do_changed, for_changed, switch_changed, block_changed, leaf_stays, section_changed, quiet_go}
 use Rattle.c_tree.proofs.Views.{at-If, at-While, at-Do, at-For, at-Switch, at-Block}
 use Rattle.tidy_loops.specs.Slots.{count_in}
+use Rattle.break_recovery.proofs.Within.{within_apart}
 use Rattle.break_recovery.specs.Within.{IsWithin, AreWithin, AreSectionsWithin}
 use Rattle.break_recovery.proofs.Within.{in_list, section_in}
 use Rattle.break_recovery.proofs.search.+search.Goals as goal
@@ -199,7 +200,8 @@ change_within-returns t c =
           (λ g. alike_set g xs at x y c.requires.place e) k)
           c.change_item.ensures.alike;
       way = if_ok_both c.change_item.result _ _ _
-          (λ it a k g r f h d l z p. item_goes_in sure f h g l z n at w xs x y c.requires.place e (a g r) p.0
+          (λ it a k g r f h d l z p. item_goes_in sure f h g l z n at w xs x y c.requires.place e (a g r) c.args.counts.now d
+          (within_apart (count_in c.args.counts.now) (trees_of xs) c.requires.within) p.0
           (k g r f h d l z (i f n at v xs xs x c.requires.place e refl p.1)))
           c.change_item.ensures.alike c.change_item.ensures.way;
     }

@@ -1,9 +1,11 @@
-use Rattle.std.proofs.Common.{sym, subst}
+use Rattle.std.proofs.Common.{◌+◌, sym, subst}
+use Rattle.std.proofs.lemmas.List.Elements.{All-nil}
 use Rattle.c_tree.specs.Trees.{trees_of}
 use Rattle.break_recovery.specs.InARow.{closed}
 use Rattle.break_recovery.proofs.Walks.{RowTo, stays, closed_none}
 use Rattle.tidy_loops.specs.Slots.{count_in}
 use Rattle.break_recovery.specs.Within.{IsWithin}
+use Rattle.break_recovery.specs.Held.{AreHeld}
 use Rattle.break_recovery.proofs.walk.change_along.Goals as goal
 
 pub returns-then-are_few : goal.returns-then-are_few
@@ -29,3 +31,6 @@ returns c =
 pub walk_on-requires-clause-within : goal.walk_on-requires-clause-within
 walk_on-requires-clause-within c =
     subst (λ ys. IsWithin (count_in c.args.counts.now) (trees_of ys)) (sym (closed_none c.args.place.now c.args.list.now)) c.requires
+
+pub walk_on-requires-clause-known : goal.walk_on-requires-clause-known
+walk_on-requires-clause-known c = subst (λ hs. AreHeld hs c.args.list.now (c.args.place.now + 1)) (sym c.forget_holds.ensures) (All-nil _)

@@ -1,5 +1,6 @@
-use Rattle.std.proofs.Common.{refl, sym, ◌∙◌, arith}
+use Rattle.std.proofs.Common.{◌+◌, refl, sym, ◌∙◌, arith}
 use Rattle.std.proofs.lemmas.List.{length-set}
+use Rattle.break_recovery.proofs.HeldLaws.{set_before}
 use Rattle.break_recovery.proofs.Walks.{closed_kept, closed_taken, closed_last}
 use Rattle.break_recovery.proofs.walk.make.Goals as goal
 
@@ -12,6 +13,7 @@ returns-then-keeps_next c =
     record {
       within = let i = length-set xs w.at y in (c.requires.place.0, omega (arith, c.requires.place, i));
       place = refl;
+      behind = (omega arith, set_before w.next w.at xs y (omega (arith, c.requires.place)));
       made = closed_kept w.at w.next xs x c.requires.place.0 c.requires.place.1 c.at_mut.ensures.value y c.args.change c.in_ok-changed_loop.ensures
           (sym c.keeps_next.ensures ∙ c.if-keeps_next.true);
     }
@@ -26,6 +28,7 @@ returns-then-walk-len c =
     record {
       within = (omega (arith, c.requires.place), omega (arith, c.if-walk-len.true, c.len.ensures.value));
       place = refl;
+      behind = (omega arith, set_before (w.next + 1) w.at xs y (omega (arith, c.requires.place)));
       made = closed_taken w.at w.next xs x c.requires.place.0 c.requires.place.1 c.at_mut.ensures.value y c.args.change c.in_ok-changed_loop.ensures
           (sym c.keeps_next.ensures ∙ c.if-keeps_next.false) (omega (arith, c.if-walk-len.true, c.len.ensures.value, i));
     }
@@ -40,6 +43,7 @@ returns-else-walk-len c =
     record {
       within = (c.requires.place.0, omega (arith, c.requires.place, i));
       place = refl;
+      behind = (omega arith, set_before w.next w.at xs y (omega (arith, c.requires.place)));
       made = closed_last w.at w.next xs x c.requires.place.0 c.requires.place.1 c.at_mut.ensures.value y c.args.change c.in_ok-changed_loop.ensures
           (sym c.keeps_next.ensures ∙ c.if-keeps_next.false) (omega (arith, c.if-walk-len.false, c.len.ensures.value, i));
     }

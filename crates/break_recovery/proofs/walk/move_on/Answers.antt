@@ -1,6 +1,8 @@
-use Rattle.std.proofs.Common.{◌≡◌, ◌+◌, Some, length, slice_get, slice_set, refl, sym, ap, ◌∙◌, arith}
+use Rattle.std.proofs.Common.{◌≡◌, ◌+◌, Some, length, slice_get, slice_set, refl, sym, ap, subst, ◌∙◌, arith}
 use Rattle.std.proofs.lemmas.List.{length-set}
 use Rattle.break_recovery.specs.InARow.{closed}
+use Rattle.break_recovery.specs.Held.{SameBehind}
+use Rattle.break_recovery.proofs.HeldLaws.{set_both}
 use Rattle.break_recovery.proofs.Walks.{closed_moved}
 use Rattle.break_recovery.proofs.walk.move_on.Goals as goal
 
@@ -17,5 +19,9 @@ returns c =
     record {
       within = (omega (arith, c.requires.within), omega (arith, c.requires.within, i, j, k));
       place = refl;
+      behind = (
+        omega arith,
+        subst (SameBehind (w.next + 1) xs) (sym c.set.ensures) (set_both (w.next + 1) w.next (w.at + 1) xs b z (omega arith) (omega (arith, c.requires.within))),
+      );
       same = ap (closed (w.at + 1) (w.next + 1)) c.set.ensures ∙ closed_moved w.at w.next xs z b c.requires.within.0 e;
     }

@@ -1,6 +1,7 @@
 use Rattle.std.proofs.Common.{◌<◌, length, drop, get_or, sym, ap, subst, ◌∙◌, arith}
 use Rattle.c_tree.specs.Trees.{trees_of}
 use Rattle.break_recovery.specs.InARow.{closed}
+use Rattle.break_recovery.proofs.HeldLaws.{same_list}
 use Rattle.break_recovery.proofs.Walks.{slice_there, stays, passed}
 use Rattle.c_tree.specs.Views.{tree_at}
 use Rattle.tidy_loops.specs.Slots.{count_in}
@@ -11,6 +12,7 @@ use Rattle.break_recovery.proofs.walk.pass.Goals as goal
 
 pub returns-then-walk-len : goal.returns-then-walk-len
 returns-then-walk-len c = record {
+  behind = (omega arith, same_list c.args.walk.now.next c.args.list.now);
   less = c.requires.within;
   within = c.requires.place;
   row = λ n e k. stays n c.args.counts.now c.args.walk.now.at (trees_of (closed c.args.walk.now.at c.args.walk.now.next c.args.list.now));
@@ -18,6 +20,7 @@ returns-then-walk-len c = record {
 
 pub returns-then-not-quiet : goal.returns-then-not-quiet
 returns-then-not-quiet c = record {
+  behind = (omega arith, same_list c.args.walk.now.next c.args.list.now);
   less = c.requires.within;
   within = c.requires.place;
   row = λ n e k. stays n c.args.counts.now c.args.walk.now.at (trees_of (closed c.args.walk.now.at c.args.walk.now.next c.args.list.now));
@@ -30,6 +33,7 @@ returns c =
     let x = c.index-as_slice-at.result in
     let h : w.at < length xs = omega (arith, c.requires.place) in
     record {
+      behind = c.move_on.ensures.behind;
       less = subst (λ z. IsWithin (count_in c.args.counts.now) (trees_of z)) (sym c.move_on.ensures.same) c.requires.within;
       within = c.move_on.ensures.within;
       row = λ n e k. passed n w.at w.next c.args.counts.now xs (closed c.move_on.new.walk.at c.move_on.new.walk.next c.move_on.new.list) x

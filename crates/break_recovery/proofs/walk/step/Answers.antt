@@ -3,6 +3,7 @@ use Rattle.c_tree.specs.Trees.{trees_of}
 use Rattle.tidy_loops.specs.Slots.{count_in}
 use Rattle.break_recovery.specs.Loops.{change_first}
 use Rattle.break_recovery.specs.InARow.{closed}
+use Rattle.break_recovery.proofs.HeldLaws.{still_held}
 use Rattle.break_recovery.proofs.Walks.{on_ok_more, none_more}
 use Rattle.break_recovery.proofs.walk.step.Goals as goal
 
@@ -11,9 +12,10 @@ returns-in-Some c =
     let w = c.args.walk.now in
     let a = trees_of (drop w.at (closed w.at w.next c.args.list.now)) in
     record {
-      less = c.change_steadily.ensures.less;
-      within = c.change_steadily.ensures.within;
-      row = λ n e. c.change_steadily.ensures.row n
+      known = c.change_held.ensures.known;
+      less = c.change_held.ensures.less;
+      within = c.change_held.ensures.within;
+      row = λ n e. c.change_held.ensures.row n
           (sym c.in-Some.is ∙ c.in_ok-change.ensures ∙ ap (λ i. change_first (count_in c.args.counts.now) i a) e);
     }
 
@@ -22,6 +24,8 @@ returns-in-None c =
     let w = c.args.walk.now in
     let v = c.pass.new.walk in
     record {
+      known = on_ok_more c.pass.result _ _ (λ b. still_held c.args.holds.now.known c.args.list.now c.pass.new.list w.next v.next b.0 b.1 c.requires.known)
+          c.pass.ensures.behind;
       less = c.pass.ensures.less;
       within = c.pass.ensures.within;
       row = λ n e. on_ok_more c.pass.result _ _
@@ -30,5 +34,5 @@ returns-in-None c =
           (c.pass.ensures.row n e (sym c.in-None.is ∙ c.in_ok-change.ensures));
     }
 
-pub change_steadily-requires-clause-found : goal.change_steadily-requires-clause-found
-change_steadily-requires-clause-found c = (c.args.level, sym c.in_ok-change.ensures ∙ c.in-Some.is)
+pub change_held-requires-clause-found : goal.change_held-requires-clause-found
+change_held-requires-clause-found c = (c.args.level, sym c.in_ok-change.ensures ∙ c.in-Some.is)

@@ -8,8 +8,10 @@ pub steps-init : goal.steps-init
 steps-init c =
     let w = c.args.walk.now in
     let s = c.args.counts.now in
-    let a = trees_of (closed w.at w.next c.args.list.now) in
-    (c.requires.place, (c.requires.within, subst (λ gs. RowTo c.args.level s s gs w.at w.at a a) (sym c.new-slots.ensures) (stays c.args.level s w.at a)))
+    let a = trees_of (closed w.at w.next c.args.list.now) in (
+      c.requires.place,
+      (c.requires.within, (c.requires.known, subst (λ gs. RowTo c.args.level s s gs w.at w.at a a) (sym c.new-slots.ensures) (stays c.args.level s w.at a))),
+    )
 
 pub steps-preserved : goal.steps-preserved
 steps-preserved c =
@@ -19,9 +21,12 @@ steps-preserved c =
       c.in_ok-leads_on.ensures.within,
       (
         c.in_ok-leads_on.ensures.less,
-        goes_more c.args.level c.args.counts.now c.steps.counts c.step.new.counts c.steps.slots c.steps.slots c.step.new.slots o.at w.at v.at
-            (trees_of (closed o.at o.next c.args.list.now)) (trees_of (closed w.at w.next c.steps.list)) (trees_of (closed v.at v.next c.step.new.list))
-            c.steps.invariant.1.1 (c.in_ok-leads_on.ensures.row c.args.level c.in_ok-inside.ensures),
+        (
+          c.in_ok-leads_on.ensures.known,
+          goes_more c.args.level c.args.counts.now c.steps.counts c.step.new.counts c.steps.slots c.steps.slots c.step.new.slots o.at w.at v.at
+              (trees_of (closed o.at o.next c.args.list.now)) (trees_of (closed w.at w.next c.steps.list)) (trees_of (closed v.at v.next c.step.new.list))
+              c.steps.invariant.1.1.1 (c.in_ok-leads_on.ensures.row c.args.level c.in_ok-inside.ensures),
+        ),
       ),
     )
 
@@ -34,12 +39,15 @@ returns-then-not-leads_on c =
       within = c.in_ok-leads_on.ensures.within;
       row = goes_more c.args.level c.args.counts.now c.steps.counts c.step.new.counts c.steps.slots c.steps.slots c.step.new.slots o.at
           w.at v.at (trees_of (closed o.at o.next c.args.list.now)) (trees_of (closed w.at w.next c.steps.list))
-          (trees_of (closed v.at v.next c.step.new.list)) c.steps.invariant.1.1
+          (trees_of (closed v.at v.next c.step.new.list)) c.steps.invariant.1.1.1
           (c.in_ok-leads_on.ensures.row c.args.level c.in_ok-inside.ensures);
     }
 
 pub returns : goal.returns
-returns c = record { within = c.steps.invariant.0; row = c.steps.invariant.1.1 }
+returns c = record { within = c.steps.invariant.0; row = c.steps.invariant.1.1.1 }
 
 pub step-requires-clause-within : goal.step-requires-clause-within
 step-requires-clause-within c = c.steps.invariant.1.0
+
+pub step-requires-clause-known : goal.step-requires-clause-known
+step-requires-clause-known c = c.steps.invariant.1.1.0

@@ -1,4 +1,4 @@
-use Rattle.std.proofs.Common.{◌+◌, ◌≢◌, eqb, eqb-true, true, false, sym, ◌∙◌, arith}
+use Rattle.std.proofs.Common.{◌+◌, ◌≢◌, eqb, eqb-true, sym, ◌∙◌, arith}
 use Rattle.std.proofs.lemmas.Bool.{eq-eqb}
 use Rattle.c_tree.specs.Trees.{trees_of}
 use Rattle.tidy_laws.specs.Changes.{are_low}

@@ -1,4 +1,4 @@
-use Rattle.std.proofs.Common.{◌<◌, ◌-◌, false, drop, length, None, Some, option_map, refl, sym, ap, subst, ◌∙◌, ◌≡◌, arith}
+use Rattle.std.proofs.Common.{◌<◌, ◌-◌, drop, length, None, Some, option_map, refl, sym, ap, subst, ◌∙◌, ◌≡◌, arith}
 use Rattle.c_tree.specs.declared.tree.Section.{Section}
 use Rattle.c_tree.specs.Paths.{list_of}
 use Rattle.c_tree.specs.ExpressionTrees.{expression_tree}

@@ -1,19 +1,19 @@
 use Rattle.std.proofs.Common.{◌<◌, length, get_or, sym, ap, subst, ◌∙◌, arith}
 use Rattle.c_tree.specs.Trees.{trees_of}
-use Rattle.break_recovery.specs.InARow.{closed}
-use Rattle.break_recovery.proofs.Walks.{slice_there, stays_more, changed}
-use Rattle.break_recovery.proofs.WithinAfter.{within_after}
 use Rattle.c_tree.specs.Views.{tree_at}
 use Rattle.tidy_loops.specs.Slots.{count_in}
+use Rattle.break_recovery.specs.InARow.{closed}
 use Rattle.break_recovery.specs.Exits.{HoldsAtMost}
-use Rattle.break_recovery.specs.Steady.{item_is_steady}
-use Rattle.break_recovery.proofs.WithinAfter.{walk_holds}
-use Rattle.break_recovery.proofs.walk.change_steadily.Goals as goal
+use Rattle.break_recovery.proofs.HeldLaws.{held_left, still_held}
+use Rattle.break_recovery.proofs.Walks.{slice_there, stays_more, changed}
+use Rattle.break_recovery.proofs.WithinAfter.{within_after, walk_holds, walk_counts}
+use Rattle.break_recovery.proofs.walk.change_held.Goals as goal
 
-pub returns-then-not-leaves_others : goal.returns-then-not-leaves_others
-returns-then-not-leaves_others c =
+pub returns-then-not-held : goal.returns-then-not-held
+returns-then-not-held c =
     let w = c.args.walk.now in
     record {
+      known = c.in_ok-held.ensures.known;
       less = c.requires.within;
       within = c.requires.place;
       row = λ n k. stays_more n c.args.counts.now c.args.slots.now w.at (trees_of (closed w.at w.next c.args.list.now));
@@ -27,18 +27,20 @@ returns c =
     let x = c.index-as_slice-at.result in
     let h : w.at < length xs = omega (arith, c.requires.place) in
     record {
+      known = still_held c.are_held.new.holds.known xs c.make.new.list w.next v.next c.in_ok-make.ensures.behind.0 c.in_ok-make.ensures.behind.1
+          c.in_ok-held.ensures.known;
       less = within_after c.args.counts.now c.args.change c.slot_of-slot.result (closed w.at w.next xs) (closed v.at v.next c.make.new.list) w.at
           c.forget.new.counts c.slot_of-slot.ensures c.forget.ensures c.in_ok-make.ensures.made c.requires.within;
       within = c.in_ok-make.ensures.within;
       row = λ n k. changed n w.at w.next c.args.counts.now xs (closed v.at v.next c.make.new.list) x v.at c.requires.place.0 c.requires.place.1
           (slice_there xs w.at x h (c.index-as_slice-at.is ∙ ap (λ z. get_or z w.at x) c.as_slice.ensures.value)) c.forget.new.counts
           c.args.slots.now c.push.new.self c.slot_of-slot.result c.args.change k c.slot_of-slot.ensures
-          (ap (λ g. item_is_steady g (tree_at x)) c.slot_of-slot.ensures ∙ sym c.leaves_others.ensures ∙ c.if-not-leaves_others.false) c.in_ok-make.ensures.place c.in_ok-make.ensures.made c.forget.ensures
-          c.in_ok-push.ensures.ok;
+          (held_left c.args.change (tree_at x) c.turned_by-turned.result xs w.next c.turned_by-turned.ensures (c.in_ok-held.ensures.held c.if-not-held.false))
+          c.in_ok-make.ensures.place c.in_ok-make.ensures.made c.forget.ensures c.in_ok-push.ensures.ok;
     }
 
-pub leaves_others-requires : goal.leaves_others-requires
-leaves_others-requires c =
+pub turned_by-turned-requires : goal.turned_by-turned-requires
+turned_by-turned-requires c =
     let xs = c.args.list.now in
     let w = c.args.walk.now in
     let x = c.index-as_slice-at.result in
@@ -47,6 +49,11 @@ leaves_others-requires c =
     subst (λ m. HoldsAtMost c.args.change m (tree_at x)) (sym c.exits_of-exits.ensures)
     (walk_holds (count_in c.args.counts.now) c.requires.found.0 w.at w.next xs x c.args.change c.requires.place.0 c.requires.place.1 e c.requires.within
     c.requires.found.1)
+
+pub are_held-requires-clause-most : goal.are_held-requires-clause-most
+are_held-requires-clause-most c =
+    let w = c.args.walk.now in
+    walk_counts (count_in c.args.counts.now) w.at w.next c.args.list.now c.requires.place.0 c.requires.place.1 c.requires.within
 
 pub make-requires-clause-exits : goal.make-requires-clause-exits
 make-requires-clause-exits c = λ x e.
