@@ -1,5 +1,5 @@
--- Lists and items that show the same of all slots but one, or name them otherwise than in exits, and that nothing round them
--- allows more.
+-- Lists and items that show the same of all slots that count but one, or name them otherwise than in exits, and that nothing
+-- round them allows more.
 use mathlib.Core.Path.{ap₂}
 use Rattle.std.proofs.Common.{ℕ, suc, ◌+◌, ◌<◌, ◌≤◌, ◌⊎◌, inl, inr, Bool, true, false, cond, ◌&&◌, eqb, eqb-true, List, Option, Some, None, is_some, ◌≡◌, refl, sym, ap, subst, ◌∙◌, arith}
 use Rattle.std.proofs.lemmas.Bool.{ne_eqb}
@@ -15,7 +15,7 @@ use Rattle.tidy_slots.specs.Counts.{one_if, test_count, list_count, item_count, 
 use Rattle.tidy_loops.specs.Views.{is_it, is_int_kind}
 use Rattle.tidy_loops.specs.Exits.{checks_in, checks_of, checks_within, exits_in, exits_of}
 use Rattle.tidy_loops.proofs.FormLaws.{check_if}
-use Rattle.tidy_loops.specs.Slots.{counts_of, reset_in, reset_slot, first_reset, last_reset, but_last, but_first, stop_slot, allowed, breaks, continues, break_slot, continue_slot, broken, continued}
+use Rattle.tidy_loops.specs.Slots.{Tells, count_in, counts_of, reset_in, reset_slot, first_reset, last_reset, but_last, but_first, stop_slot, allowed, breaks, continues, break_slot, continue_slot, broken, continued}
 use Rattle.break_recovery.specs.Next.{of_slot, next_here}
 use Rattle.break_recovery.specs.Places.{Fewer}
 use Rattle.tidy_loops.specs.Remaining.{IsApart}
@@ -26,6 +26,10 @@ use Rattle.break_recovery.proofs.Less.{broken_less, continued_less}
 use Rattle.break_recovery.proofs.Within.{is_less}
 use Rattle.break_recovery.proofs.Stays.{first_none, second_none, both_none, unslot, slot_none, refused, allowed_still, and_false, counted_none, continue_still}
 use Rattle.break_recovery.proofs.SteadyChanges.{tailed_checks, turned_front, front_checks}
+
+pub or_more : {P Q R : Type 0} → P ⊎ Q → (Q → R) → P ⊎ R
+or_more (inl p) f = inl p
+or_more (inr q) f = inr (f q)
 
 none_some : {A P : Type 0} (x : A) → None ≡ Some x → P
 none_some x e = absurd (by e)
@@ -128,46 +132,54 @@ front_more x (Then y ys) k = refl
 
 -- ---- lists
 
-pub alike_behind : (g : ℕ) (x : Tree) (a b : Forest) → AreAlike g a b → AreAlike g (Then x a) (Then x b)
-alike_behind g x a b q h e = (kept_behind h x a b s, by)
-  where
-    s : IsKept h a b
-    s = (q h e).0
+-- without a last `h = 0;` of the second list too
+abbrev pub IsKeptAll : ℕ → Forest → Forest → Type 0
+IsKeptAll h a b = IsKept h a b × (last_reset b ≡ Some h → (last_reset a ≡ Some h) × IsKept h (but_last a) (but_last b))
 
-    by : last_reset (Then x b) ≡ Some h → (last_reset (Then x a) ≡ Some h) × IsKept h (but_last (Then x a)) (but_last (Then x b))
-    by i =
-        let r = (q h e).1 (sym (last_more x b s.some.1) ∙ i) in (
-          last_more x a s.some.0 ∙ r.0,
-          subst (λ z. IsKept h z (but_last (Then x b))) (sym (front_more x a s.some.0))
-              (subst (IsKept h (Then x (but_last a))) (sym (front_more x b s.some.1)) (kept_behind h x (but_last a) (but_last b) r.1)),
-        )
+pub alike_behind : (counts : List ℕ) (g : ℕ) (x : Tree) (a b : Forest) → AreAlike counts g a b → AreAlike counts g (Then x a) (Then x b)
+alike_behind counts g x a b q h e = or_more (q h e) by
+  where
+    by : IsKeptAll h a b → IsKeptAll h (Then x a) (Then x b)
+    by (s, k) = (
+      kept_behind h x a b s,
+      λ i.
+          let r = k (sym (last_more x b s.some.1) ∙ i) in (
+            last_more x a s.some.0 ∙ r.0,
+            subst (λ z. IsKept h z (but_last (Then x b))) (sym (front_more x a s.some.0))
+                (subst (IsKept h (Then x (but_last a))) (sym (front_more x b s.some.1)) (kept_behind h x (but_last a) (but_last b) r.1)),
+          ),
+    )
 
 -- lists that differ in their first items
-alike_from : (g : ℕ) (x y : Tree) (xs : Forest) →
-    ((h : ℕ) → eqb g h ≡ false → IsKept h (Then x xs) (Then y xs) × IsKept h (Then x (but_last xs)) (Then y (but_last xs))) → reset_slot y ≡ None →
-    AreAlike g (Then x xs) (Then y xs)
-alike_from g x y xs s n h e = ((s h e).0, by xs (s h e).1)
+alike_from : (counts : List ℕ) (g : ℕ) (x y : Tree) (xs : Forest) →
+    ((h : ℕ) → eqb g h ≡ false →
+    (count_in counts h ≡ 0) ⊎ (IsKept h (Then x xs) (Then y xs) × IsKept h (Then x (but_last xs)) (Then y (but_last xs)))) → reset_slot y ≡ None →
+    AreAlike counts g (Then x xs) (Then y xs)
+alike_from counts g x y xs s n h e = or_more (s h e) (λ k. (k.0, by xs k.1))
   where
     by : (zs : Forest) → IsKept h (Then x (but_last zs)) (Then y (but_last zs)) → last_reset (Then y zs) ≡ Some h →
         (last_reset (Then x zs) ≡ Some h) × IsKept h (but_last (Then x zs)) (but_last (Then y zs))
     by Nil k i = none_some h (sym n ∙ i)
     by (Then z zs) k i = (i, k)
 
-pub alike_first : (g : ℕ) (x y : Tree) (xs : Forest) → ((h : ℕ) → eqb g h ≡ false → ItemIsKept h x y) → reset_slot y ≡ None →
-    AreAlike g (Then x xs) (Then y xs)
-alike_first g x y xs s n = alike_from g x y xs (λ h e. (kept_first h x y xs (s h e), kept_first h x y (but_last xs) (s h e))) n
+pub alike_first : (counts : List ℕ) (g : ℕ) (x y : Tree) (xs : Forest) →
+    ((h : ℕ) → eqb g h ≡ false → (count_in counts h ≡ 0) ⊎ ItemIsKept h x y) → reset_slot y ≡ None →
+    AreAlike counts g (Then x xs) (Then y xs)
+alike_first counts g x y xs s n = alike_from counts g x y xs (λ h e. or_more (s h e) (λ k. (kept_first h x y xs k, kept_first h x y (but_last xs) k))) n
 
 either_kept : {P Q R : Type 0} → P ⊎ (Q × R) → (P ⊎ Q) × (P ⊎ R)
 either_kept (inl p) = (inl p, inl p)
 either_kept (inr q) = (inr q.0, inr q.1)
 
-alike_before : (g : ℕ) (x y : Tree) (xs : Forest) → ((h : ℕ) → eqb g h ≡ false → item_count h y ≤ item_count h x) →
-    ((h : ℕ) → eqb g h ≡ false → ItemShowsAlike h x y ⊎ NeedsOtherwise h xs) → reset_slot y ≡ None → AreAlike g (Then x xs) (Then y xs)
-alike_before g x y xs l s n =
-    alike_from g x y xs
-    (λ h e.
-    let p = either_kept (s h e) in
-    (kept_before h x y xs (l h e) p.0, kept_before h x y (but_last xs) (l h e) p.1)) n
+alike_before : (counts : List ℕ) (g : ℕ) (x y : Tree) (xs : Forest) → ((h : ℕ) → eqb g h ≡ false → item_count h y ≤ item_count h x) →
+    ((h : ℕ) → eqb g h ≡ false → (count_in counts h ≡ 0) ⊎ (ItemShowsAlike h x y ⊎ NeedsOtherwise h xs)) → reset_slot y ≡ None →
+    AreAlike counts g (Then x xs) (Then y xs)
+alike_before counts g x y xs l s n =
+    alike_from counts g x y xs
+    (λ h e. or_more (s h e)
+    (λ k.
+    let p = either_kept k in
+    (kept_before h x y xs (l h e) p.0, kept_before h x y (but_last xs) (l h e) p.1))) n
 
 -- ---- a loop, and the `g = 0;` behind it
 
@@ -236,14 +248,12 @@ module _ (h : ℕ) (x y z : Tree) (p : IsPlain h x) (q : IsPlain h y) (r : Shows
       by (inl e) = inl (shows_taken xs e)
       by (inr k) = inr (otherwise_behind h y xs k)
 
-alike_taken : (g : ℕ) (x y z : Tree) (xs : Forest) → ((h : ℕ) → IsPlain h x) → ((h : ℕ) → IsPlain h y) → reset_slot z ≡ Some g → reset_slot y ≡ None
+alike_taken : (counts : List ℕ) (g : ℕ) (x y z : Tree) (xs : Forest) → ((h : ℕ) → IsPlain h x) → ((h : ℕ) → IsPlain h y) → reset_slot z ≡ Some g → reset_slot y ≡ None
     → ((h : ℕ) → eqb g h ≡ false → item_count h y ≤ item_count h x)
-    → ((h : ℕ) → eqb g h ≡ false → (checks_of h y ≡ checks_of h x) ⊎ NeedsOtherwise h xs) → AreAlike g (Then x (Then z xs)) (Then y xs)
-alike_taken g x y z xs p q i n l s h e = (kept xs k.0, by xs k.1)
+    → ((h : ℕ) → eqb g h ≡ false → (count_in counts h ≡ 0) ⊎ ((checks_of h y ≡ checks_of h x) ⊎ NeedsOtherwise h xs)) →
+    AreAlike counts g (Then x (Then z xs)) (Then y xs)
+alike_taken counts g x y z xs p q i n l s h e = or_more (s h e) (λ o. let k = either_kept o in (kept xs k.0, by xs k.1))
   where
-    k : ((checks_of h y ≡ checks_of h x) ⊎ NamesOtherwise h xs) × ((checks_of h y ≡ checks_of h x) ⊎ NamesOtherwise h (but_last xs))
-    k = either_kept (s h e)
-
     kept : (zs : Forest) → (checks_of h y ≡ checks_of h x) ⊎ NamesOtherwise h zs → IsKept h (Then x (Then z zs)) (Then y zs)
     kept = kept_taken h x y z (p h) (q h) (reset_shows g h e z i) (l h e)
 
@@ -283,32 +293,33 @@ either_left : {P Q R : Type 0} → (P → Q) → P ⊎ R → Q ⊎ R
 either_left f (inl p) = inl (f p)
 either_left f (inr r) = inr r
 
--- no check of the slot is made or taken, or the items behind name it otherwise
-abbrev pub IsLeftAlone : ℕ → ℕ → Tree → Forest → Type 0
-IsLeftAlone g h x xs = (is_turned h (item_turned g x) ≡ false) ⊎ NeedsOtherwise h xs
+-- the slot doesn't count, no check of it is made or taken, or the items behind name it otherwise
+abbrev pub IsLeftAlone : List ℕ → ℕ → ℕ → Tree → Forest → Type 0
+IsLeftAlone counts g h x xs = (count_in counts h ≡ 0) ⊎ ((is_turned h (item_turned g x) ≡ false) ⊎ NeedsOtherwise h xs)
 
 -- by `break`
-module _ (c : ℕ → ℕ) (n g : ℕ) where
+module _ (counts : List ℕ) (c : ℕ → ℕ) (n g : ℕ) where
   before_taken : (x y : Tree) (a xs : Forest) (s : Option ℕ) → allowed (breaks c n a xs) s ≡ Some g → ((h : ℕ) → IsPlain h x) →
       ((h : ℕ) → IsPlain h y) → reset_slot y ≡ None → ((h : ℕ) → eqb g h ≡ false → item_count h y ≤ item_count h x)
-      → ((h : ℕ) → eqb g h ≡ false → (checks_of h y ≡ checks_of h x) ⊎ NeedsOtherwise h (but_first xs)) → AreAlike g (Then x xs) (Then y (but_first xs))
+      → ((h : ℕ) → eqb g h ≡ false → (count_in counts h ≡ 0) ⊎ ((checks_of h y ≡ checks_of h x) ⊎ NeedsOtherwise h (but_first xs))) →
+      AreAlike counts g (Then x xs) (Then y (but_first xs))
   before_taken x y a Nil s i p q r l k = absurd (no (found_so (breaks c n a Nil) s g i).1)
     where
       no : breaks c n a Nil g ≡ true → ⊥
       no e = cc
   before_taken x y a (Then z zs) s i p q r l k =
-      alike_taken g x y z zs p q (is_that g (reset_slot z) (first_so (is_it g (reset_slot z)) (are_low g n a && eqb (c g) (3 + exits_in g a))
+      alike_taken counts g x y z zs p q (is_that g (reset_slot z) (first_so (is_it g (reset_slot z)) (are_low g n a && eqb (c g) (3 + exits_in g a))
       (found_so (breaks c n a (Then z zs)) s g i).1)) r l k
 
-  pub broken_alike : (x : Tree) (xs : Forest) → break_slot c n x xs ≡ Some g → ((h : ℕ) → eqb g h ≡ false → IsLeftAlone g h x (but_first xs)) →
-      AreAlike g (Then x xs) (Then (broken g x) (but_first xs))
+  pub broken_alike : (x : Tree) (xs : Forest) → break_slot c n x xs ≡ Some g → ((h : ℕ) → eqb g h ≡ false → IsLeftAlone counts g h x (but_first xs)) →
+      AreAlike counts g (Then x xs) (Then (broken g x) (but_first xs))
   broken_alike (While t a) xs i s =
       before_taken (While t a) (broken g (While t a)) a xs (stop_slot t) i (while_plain t a)
       (λ h. record { exits = refl; low = λ n. refl; check = refl }) refl (λ h e. broken_less g h e (While t a))
-      (λ h e. either_left (tailed_checks g h e Break refl a) (s h e))
+      (λ h e. or_more (s h e) (either_left (tailed_checks g h e Break refl a)))
   broken_alike (Do a t) xs i s =
       before_taken (Do a t) (broken g (Do a t)) a xs (stop_slot t) i (do_plain a t) (λ h. record { exits = refl; low = λ n. refl; check = refl }) refl
-      (λ h e. broken_less g h e (Do a t)) (λ h e. either_left (tailed_checks g h e Break refl a) (s h e))
+      (λ h e. broken_less g h e (Do a t)) (λ h e. or_more (s h e) (either_left (tailed_checks g h e Break refl a)))
   broken_alike _ xs i s = none_some g i
 
   -- by `continue`
@@ -319,23 +330,23 @@ module _ (c : ℕ → ℕ) (n g : ℕ) where
 
   front_kept : (x y : Tree) (a : Forest) → ((h : ℕ) → IsPlain h x) → ((h : ℕ) → IsPlain h y) → ((h : ℕ) → checks_of h x ≡ checks_in h a) →
       ((h : ℕ) → checks_of h y ≡ checks_in h (tailed g Continue (but_last a))) → allowed (continues c n (but_last a)) (last_reset a) ≡ Some g → (xs : Forest) →
-      ((h : ℕ) → eqb g h ≡ false → (is_turned h (turned g a) ≡ false) ⊎ NeedsOtherwise h xs) → (h : ℕ) → eqb g h ≡ false →
-      ItemShowsAlike h x y ⊎ NeedsOtherwise h xs
-  front_kept x y a p q k m i xs s h e = either_left (λ u. plain_alike h x y (p h) (q h) (m h ∙ kept_front a i h e u ∙ sym (k h))) (s h e)
+      ((h : ℕ) → eqb g h ≡ false → (count_in counts h ≡ 0) ⊎ ((is_turned h (turned g a) ≡ false) ⊎ NeedsOtherwise h xs)) → (h : ℕ) → eqb g h ≡ false →
+      (count_in counts h ≡ 0) ⊎ (ItemShowsAlike h x y ⊎ NeedsOtherwise h xs)
+  front_kept x y a p q k m i xs s h e = or_more (s h e) (either_left (λ u. plain_alike h x y (p h) (q h) (m h ∙ kept_front a i h e u ∙ sym (k h))))
 
-  pub continued_alike : (x : Tree) (xs : Forest) → continue_slot c n x ≡ Some g → ((h : ℕ) → eqb g h ≡ false → IsLeftAlone g h x xs) →
-      AreAlike g (Then x xs) (Then (continued g x) xs)
+  pub continued_alike : (x : Tree) (xs : Forest) → continue_slot c n x ≡ Some g → ((h : ℕ) → eqb g h ≡ false → IsLeftAlone counts g h x xs) →
+      AreAlike counts g (Then x xs) (Then (continued g x) xs)
   continued_alike (While t a) xs i s =
       let b = tailed g Continue (but_last a) in
-      alike_before g (While t a) (While t b) xs (λ h e. continued_less g h e (While t a))
+      alike_before counts g (While t a) (While t b) xs (λ h e. continued_less g h e (While t a))
       (front_kept (While t a) (While t b) a (while_plain t a) (while_plain t b) (λ h. refl) (λ h. refl) i xs s) refl
   continued_alike (Do a t) xs i s =
       let b = tailed g Continue (but_last a) in
-      alike_before g (Do a t) (Do b t) xs (λ h e. continued_less g h e (Do a t))
+      alike_before counts g (Do a t) (Do b t) xs (λ h e. continued_less g h e (Do a t))
       (front_kept (Do a t) (Do b t) a (do_plain a t) (do_plain b t) (λ h. refl) (λ h. refl) i xs s) refl
   continued_alike (For f t u a) xs i s =
       let b = tailed g Continue (but_last a) in
-      alike_before g (For f t u a) (For f t u b) xs (λ h e. continued_less g h e (For f t u a))
+      alike_before counts g (For f t u a) (For f t u b) xs (λ h e. continued_less g h e (For f t u a))
       (front_kept (For f t u a) (For f t u b) a (for_plain f t u a) (for_plain f t u b) (λ h. refl) (λ h. refl) i xs s) refl
   continued_alike _ xs i s = none_some g i
 
@@ -359,7 +370,17 @@ none_asked f n x xs (p, q) =
     let G = λ (g : ℕ). Then (continued g x) xs in
     both_none (of_slot F b) (of_slot G c) (slot_none F b p) (slot_none G c q)
 
-module _ (g : ℕ) (a b : Forest) (q : AreAlike g a b) (c d : ℕ → ℕ) (l : Fewer c d) (z : d g ≡ 0) where
+-- a slot that doesn't count never does
+pub still_none : (counts : List ℕ) (f h : FunctionTree) → Tells counts f → Fewer (counts_of f) (counts_of h) → (k : ℕ) → count_in counts k ≡ 0 →
+    counts_of h k ≡ 0
+still_none counts f h t l k e = by (l k)
+  where
+    by : (counts_of h k ≡ counts_of f k) ⊎ (counts_of h k ≡ 0) → counts_of h k ≡ 0
+    by (inl i) = i ∙ sym (t k) ∙ e
+    by (inr i) = i
+
+module _ (counts : List ℕ) (g : ℕ) (a b : Forest) (q : AreAlike counts g a b) (c d : ℕ → ℕ) (l : Fewer c d) (z : d g ≡ 0)
+    (v : (h : ℕ) → count_in counts h ≡ 0 → d h ≡ 0) where
   no_breaks : (n : ℕ) (xs : Forest) (h : ℕ) → d h ≡ 0 → breaks d n b xs h ≡ false
   no_breaks n xs h k =
       ap (λ m. is_it h (first_reset xs) && (are_low h n b && m)) (counted_none (d h) 3 (exits_in h b) k (omega arith))
@@ -406,7 +427,11 @@ module _ (g : ℕ) (a b : Forest) (q : AreAlike g a b) (c d : ℕ → ℕ) (l : 
 
       other : (h : ℕ) → stop_slot t ≡ Some h → (o : Bool) → eqb g h ≡ o → breaks d n b xs h ≡ false
       other h i true o = no_breaks n xs h (zero_too h o)
-      other h i false o = none h i (q h o).0 (l h)
+      other h i false o = counted (q h o)
+        where
+          counted : (count_in counts h ≡ 0) ⊎ IsKeptAll h a b → breaks d n b xs h ≡ false
+          counted (inl k) = no_breaks n xs h (v h k)
+          counted (inr k) = none h i k.0 (l h)
 
       by : (s : Option ℕ) → stop_slot t ≡ s → allowed (breaks d n b xs) (stop_slot t) ≡ None
       by None i = ap (allowed (breaks d n b xs)) i
@@ -439,36 +464,40 @@ module _ (g : ℕ) (a b : Forest) (q : AreAlike g a b) (c d : ℕ → ℕ) (l : 
 
       other : (h : ℕ) → last_reset b ≡ Some h → (o : Bool) → eqb g h ≡ o → continues d n (but_last b) h ≡ false
       other h i true o = no_continues n h (but_last b) (zero_too h o)
-      other h i false o = let r = (q h o).1 i in none h r.0 r.1 (l h)
+      other h i false o = counted (q h o)
+        where
+          counted : (count_in counts h ≡ 0) ⊎ IsKeptAll h a b → continues d n (but_last b) h ≡ false
+          counted (inl k) = no_continues n h (but_last b) (v h k)
+          counted (inr k) = let r = k.1 i in none h r.0 r.1 (l h)
 
       by : (s : Option ℕ) → last_reset b ≡ s → allowed (continues d n (but_last b)) (last_reset b) ≡ None
       by None i = ap (allowed (continues d n (but_last b))) i
       by (Some h) i = ap (allowed (continues d n (but_last b))) i ∙ ap (λ m. cond m (Some h) None) (other h i (eqb g h) refl)
 
-while_asks : (g : ℕ) (t : TestTree) (a b : Forest) → AreAlike g a b → AsksAlike g (While t a) (While t b)
-while_asks g t a b q f h l z n xs w e =
+while_asks : (counts : List ℕ) (g : ℕ) (t : TestTree) (a b : Forest) → AreAlike counts g a b → AsksAlike counts g (While t a) (While t b)
+while_asks counts g t a b q f h v l z n xs w e =
     let r = asked_none f n (While t a) xs e in
     none_asked h n (While t b) xs (
-      break_asked g a b q (counts_of f) (counts_of h) l z n xs t (λ k. w k refl) r.0,
-      continue_asked g a b q (counts_of f) (counts_of h) l z n (λ k. is_less (counts_of f k) _ _ (omega arith) (w k refl)) r.1,
+      break_asked counts g a b q (counts_of f) (counts_of h) l z (still_none counts f h v l) n xs t (λ k. w k refl) r.0,
+      continue_asked counts g a b q (counts_of f) (counts_of h) l z (still_none counts f h v l) n (λ k. is_less (counts_of f k) _ _ (omega arith) (w k refl)) r.1,
     )
 
-do_asks : (g : ℕ) (t : TestTree) (a b : Forest) → AreAlike g a b → AsksAlike g (Do a t) (Do b t)
-do_asks g t a b q f h l z n xs w e =
+do_asks : (counts : List ℕ) (g : ℕ) (t : TestTree) (a b : Forest) → AreAlike counts g a b → AsksAlike counts g (Do a t) (Do b t)
+do_asks counts g t a b q f h v l z n xs w e =
     let r = asked_none f n (Do a t) xs e in
     none_asked h n (Do b t) xs (
-      break_asked g a b q (counts_of f) (counts_of h) l z n xs t (λ k. is_less (counts_of f k) _ _ (omega arith) (w k refl)) r.0,
-      continue_asked g a b q (counts_of f) (counts_of h) l z n (λ k. is_less (counts_of f k) _ _ (omega arith) (w k refl)) r.1,
+      break_asked counts g a b q (counts_of f) (counts_of h) l z (still_none counts f h v l) n xs t (λ k. is_less (counts_of f k) _ _ (omega arith) (w k refl)) r.0,
+      continue_asked counts g a b q (counts_of f) (counts_of h) l z (still_none counts f h v l) n (λ k. is_less (counts_of f k) _ _ (omega arith) (w k refl)) r.1,
     )
 
-for_asks : (g : ℕ) (t u : Option ExpressionTree) (a b c d : Forest) → AreAlikeOf g a b c d → AsksAlike g (For a t u b) (For c t u d)
-for_asks g t u a b c d (inl (q, k)) f h l z n xs w e =
+for_asks : (counts : List ℕ) (g : ℕ) (t u : Option ExpressionTree) (a b c d : Forest) → AreAlikeOf counts g a b c d → AsksAlike counts g (For a t u b) (For c t u d)
+for_asks counts g t u a b c d (inl (q, k)) f h v l z n xs w e =
     subst (λ w. next_here h n (Then (For c t u w) xs) ≡ None) (sym k)
     (none_asked h n (For c t u b) xs (refl, continue_still (counts_of f) (counts_of h) l n (For a t u b) (asked_none f n (For a t u b) xs e).1))
-for_asks g t u a b c d (inr (k, q)) f h l z n xs w e =
+for_asks counts g t u a b c d (inr (k, q)) f h v l z n xs w e =
     none_asked h n (For c t u d) xs (
       refl,
-      continue_asked g b d q (counts_of f) (counts_of h) l z n (λ k. is_less (counts_of f k) _ _ (omega arith) (w k refl))
+      continue_asked counts g b d q (counts_of f) (counts_of h) l z (still_none counts f h v l) n (λ k. is_less (counts_of f k) _ _ (omega arith) (w k refl))
           (asked_none f n (For a t u b) xs e).1,
     )
 
@@ -483,47 +512,54 @@ kept_plain h x y a b m p q c d i j s = record { less = let l = s.less in omega (
     by (inl t) = inl (plain_alike h x y p q (d ∙ t.checks ∙ sym c))
     by (inr u) = let k = checks_otherwise h b u in let e = q.exits in inr (omega (arith, j, k, e, d))
 
-pub while_alike : (g : ℕ) (t : TestTree) (a b : Forest) → AreAlike g a b → IsAlike g (While t a) (While t b)
-while_alike g t a b q = record {
-  shows = λ h e. kept_plain h (While t a) (While t b) a b (test_count h t) (while_plain t a h) (while_plain t b h) refl refl refl refl (q h e).0;
-  asks = while_asks g t a b q;
+pub while_alike : (counts : List ℕ) (g : ℕ) (t : TestTree) (a b : Forest) → AreAlike counts g a b → IsAlike counts g (While t a) (While t b)
+while_alike counts g t a b q = record {
+  shows = λ h e. or_more (q h e) (λ k. kept_plain h (While t a) (While t b) a b (test_count h t) (while_plain t a h) (while_plain t b h) refl refl refl refl k.0);
+  asks = while_asks counts g t a b q;
   none = refl;
 }
 
-pub do_alike : (g : ℕ) (t : TestTree) (a b : Forest) → AreAlike g a b → IsAlike g (Do a t) (Do b t)
-do_alike g t a b q = record {
-  shows = λ h e. kept_plain h (Do a t) (Do b t) a b (test_count h t) (do_plain a t h) (do_plain b t h) refl refl (omega arith) (omega arith) (q h e).0;
-  asks = do_asks g t a b q;
+pub do_alike : (counts : List ℕ) (g : ℕ) (t : TestTree) (a b : Forest) → AreAlike counts g a b → IsAlike counts g (Do a t) (Do b t)
+do_alike counts g t a b q = record {
+  shows = λ h e. or_more (q h e) (λ k. kept_plain h (Do a t) (Do b t) a b (test_count h t) (do_plain a t h) (do_plain b t h) refl refl (omega arith)
+      (omega arith) k.0);
+  asks = do_asks counts g t a b q;
   none = refl;
 }
 
-pub for_alike : (g : ℕ) (t u : Option ExpressionTree) (a b c d : Forest) → AreAlikeOf g a b c d → IsAlike g (For a t u b) (For c t u d)
-for_alike g t u a b c d q = record { shows = by q; asks = for_asks g t u a b c d q; none = refl }
+pub for_alike : (counts : List ℕ) (g : ℕ) (t u : Option ExpressionTree) (a b c d : Forest) → AreAlikeOf counts g a b c d → IsAlike counts g (For a t u b) (For c t u d)
+for_alike counts g t u a b c d q = record { shows = by q; asks = for_asks counts g t u a b c d q; none = refl }
   where
-    by : AreAlikeOf g a b c d → (h : ℕ) → eqb g h ≡ false → ItemIsKept h (For a t u b) (For c t u d)
-    by (inl (p, k)) h e = record {
-      less = let l = (p h e).0.less in let m = ap (list_count h) k in omega (arith, l, m);
+    first : (h : ℕ) → d ≡ b → IsKeptAll h a c → ItemIsKept h (For a t u b) (For c t u d)
+    first h k p = record {
+      less = let l = p.0.less in let m = ap (list_count h) k in omega (arith, l, m);
       shows = inl (plain_alike h (For a t u b) (For c t u d) (for_plain a t u b h) (for_plain c t u d h) (ap (checks_in h) k));
     }
-    by (inr (k, p)) h e =
+
+    second : (h : ℕ) → c ≡ a → IsKeptAll h b d → ItemIsKept h (For a t u b) (For c t u d)
+    second h k p =
         let m = ap (list_count h) k in
         kept_plain h (For a t u b) (For c t u d) b d (item_count h (For a t u Nil)) (for_plain a t u b h) (for_plain c t u d h) refl refl (omega arith)
-        (omega (arith, m)) (p h e).0
+        (omega (arith, m)) p.0
+
+    by : AreAlikeOf counts g a b c d → (h : ℕ) → eqb g h ≡ false → (count_in counts h ≡ 0) ⊎ ItemIsKept h (For a t u b) (For c t u d)
+    by (inl (p, k)) h e = or_more (p h e) (first h k)
+    by (inr (k, p)) h e = or_more (p h e) (second h k)
 
 block_plain : (a : Forest) (h : ℕ) → IsPlain h (Block a)
 block_plain a h = record { exits = refl; low = λ n. refl; check = refl }
 
-pub block_alike : (g : ℕ) (a b : Forest) → AreAlike g a b → IsAlike g (Block a) (Block b)
-block_alike g a b q = record {
-  shows = λ h e. kept_plain h (Block a) (Block b) a b 0 (block_plain a h) (block_plain b h) refl refl (omega arith) (omega arith) (q h e).0;
-  asks = λ f h l z n xs w e. refl;
+pub block_alike : (counts : List ℕ) (g : ℕ) (a b : Forest) → AreAlike counts g a b → IsAlike counts g (Block a) (Block b)
+block_alike counts g a b q = record {
+  shows = λ h e. or_more (q h e) (λ k. kept_plain h (Block a) (Block b) a b 0 (block_plain a h) (block_plain b h) refl refl (omega arith) (omega arith) k.0);
+  asks = λ f h v l z n xs w e. refl;
   none = refl;
 }
 
-pub switch_alike : (g : ℕ) (s : SelectorTree) (c d : Sections) → AreSectionsAlike g c d → IsAlike g (Switch s c) (Switch s d)
-switch_alike g s c d q = record {
-  shows = λ h e. record { less = let l = (q h e).less in omega (arith, l); shows = by h (q h e).shows };
-  asks = λ f h l z n xs w e. refl;
+pub switch_alike : (counts : List ℕ) (g : ℕ) (s : SelectorTree) (c d : Sections) → AreSectionsAlike counts g c d → IsAlike counts g (Switch s c) (Switch s d)
+switch_alike counts g s c d q = record {
+  shows = λ h e. or_more (q h e) (kept h);
+  asks = λ f h v l z n xs w e. refl;
   none = refl;
 }
   where
@@ -531,6 +567,9 @@ switch_alike g s c d q = record {
         ItemShowsAlike h (Switch s c) (Switch s d) ⊎ (exits_of h (Switch s d) < item_count h (Switch s d))
     by h (inl k) = inl (record { checks = k; exits = k; low = λ n. refl; check = refl })
     by h (inr k) = inr (omega (arith, k))
+
+    kept : (h : ℕ) → SectionsKept h c d → ItemIsKept h (Switch s c) (Switch s d)
+    kept h k = record { less = let l = k.less in omega (arith, l); shows = by h k.shows }
 
 -- an else-list that has items makes no check
 no_check : (h : ℕ) (t : TestTree) (b : Forest) → HasItems b → checks h t b ≡ false
@@ -548,8 +587,8 @@ if_shows h t a b c d i p q r s u v = record {
   check = check_if h t c d ∙ i ∙ sym (check_if h t a b);
 }
 
-pub if_alike : (g : ℕ) (t : TestTree) (a b c d : Forest) → AreAlikeOf g a b c d → IsAlike g (If t a b) (If t c d)
-if_alike g t a b c d q = record { shows = by q; asks = λ f h l z n xs w e. refl; none = refl }
+pub if_alike : (counts : List ℕ) (g : ℕ) (t : TestTree) (a b c d : Forest) → AreAlikeOf counts g a b c d → IsAlike counts g (If t a b) (If t c d)
+if_alike counts g t a b c d q = record { shows = by q; asks = λ f h v l z n xs w e. refl; none = refl }
   where
     first : (h : ℕ) → d ≡ b → ShowsAlike h a c ⊎ NamesOtherwise h c → ItemShowsAlike h (If t a b) (If t c d) ⊎ (exits_of h (If t c d) < item_count h (If t c d))
     first h k (inl s) =
@@ -563,13 +602,15 @@ if_alike g t a b c d q = record { shows = by q; asks = λ f h l z n xs w e. refl
         (λ n. ap (are_low h n) k) s.low)
     second h k i (inr s) = let m = check_most h t d in let o = exits_in_most h c in inr (omega (arith, s, m, o))
 
-    by : AreAlikeOf g a b c d → (h : ℕ) → eqb g h ≡ false → ItemIsKept h (If t a b) (If t c d)
-    by (inl (p, k)) h e =
-        let s = (p h e).0 in
-        record { less = let l = s.less in let m = ap (list_count h) k in omega (arith, l, m); shows = first h k s.shows }
-    by (inr (k, p)) h e =
-        let s = (p h e).0 in
-        record { less = let l = s.less in let m = ap (list_count h) k in omega (arith, l, m); shows = second h k s.some s.shows }
+    kept : (h : ℕ) → d ≡ b → IsKeptAll h a c → ItemIsKept h (If t a b) (If t c d)
+    kept h k p = record { less = let l = p.0.less in let m = ap (list_count h) k in omega (arith, l, m); shows = first h k p.0.shows }
+
+    kept_then : (h : ℕ) → c ≡ a → IsKeptAll h b d → ItemIsKept h (If t a b) (If t c d)
+    kept_then h k p = record { less = let l = p.0.less in let m = ap (list_count h) k in omega (arith, l, m); shows = second h k p.0.some p.0.shows }
+
+    by : AreAlikeOf counts g a b c d → (h : ℕ) → eqb g h ≡ false → (count_in counts h ≡ 0) ⊎ ItemIsKept h (If t a b) (If t c d)
+    by (inl (p, k)) h e = or_more (p h e) (kept h k)
+    by (inr (k, p)) h e = or_more (p h e) (kept_then h k)
 
 -- ---- sections
 

@@ -197,7 +197,7 @@ rest_made (g ∷ gs) n start gone counts f p r x y e u d m held (c, next, (like,
     (subst (λ z. Underway (suc n) start (slice_set gone g true) s (record f { body = z })) (sym b.3) w.0)
     (first_undeclared g p d) o
     (λ h t.
-    let l = held_still 1 p r f h (fewer_counted f h counts s g refl u.told t) g (none_counted h counts s g refl t) x c k like (held f u.told) in
+    let l = held_still 1 p r counts f h u.told (fewer_counted f h counts s g refl u.told t) g (none_counted h counts s g refl t) x c k like (held f u.told) in
     (quiet_front h 2 g p (Then c r) d l.0, l.1, l.2)) more in
     record {
       underway =

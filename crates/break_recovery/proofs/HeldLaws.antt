@@ -7,7 +7,7 @@ use Rattle.c_tree.specs.Trees.{Tree, Then, trees_of}
 use Rattle.c_tree.specs.Views.{tree_at}
 use Rattle.c_tree.proofs.Views.{trees-first}
 use Rattle.tidy_slots.specs.Counts.{list_count, item_count}
-use Rattle.tidy_loops.specs.Slots.{but_first, but_last}
+use Rattle.tidy_loops.specs.Slots.{count_in, but_first, but_last}
 use Rattle.break_recovery.specs.Steady.{item_turned, is_turned, HasItems, NamesOtherwise, NeedsOtherwise}
 use Rattle.break_recovery.specs.declared.steady.Turned.{Turned}
 use Rattle.break_recovery.specs.declared.steady.Turned.TheVariants as T
@@ -48,24 +48,26 @@ held_dropped g (x ∷ xs) zero (suc i) l (m, s) = subst (λ a. NeedsOtherwise g 
 held_dropped g (x ∷ xs) (suc k) (suc i) l (m, s) = held_dropped g xs k i (omega (arith, l)) (omega (arith, m), s)
 
 -- a change whose turned slots are held leaves each other slot alone
-pub held_left : (r : Change) (x : Tree) (t : Turned) (xs : List Item) (k : ℕ) → t ≡ item_turned (slot_of r) x → AllHeld t xs k →
-    AreLeftAlone r x (trees_of (drop k xs))
-held_left r x t xs k e a h o = by (a h)
+pub held_left : (counts : List ℕ) (r : Change) (x : Tree) (t : Turned) (xs : List Item) (k : ℕ) → t ≡ item_turned (slot_of r) x → AllHeld counts t xs k →
+    AreLeftAlone counts r x (trees_of (drop k xs))
+held_left counts r x t xs k e a h o = by (a h)
   where
-    by : (is_turned h t ≡ false) ⊎ IsHeldBehind h xs k → IsLeftAlone (slot_of r) h x (but_first (trees_of (drop k xs)))
-    by (inl u) = inl (ap (is_turned h) (sym e) ∙ u)
-    by (inr (i, l, s)) = inr (held_dropped h xs k i l s)
+    by : (is_turned h t ≡ false) ⊎ ((count_in counts h ≡ 0) ⊎ IsHeldBehind h xs k) →
+        IsLeftAlone counts (slot_of r) h x (but_first (trees_of (drop k xs)))
+    by (inl u) = inr (inl (ap (is_turned h) (sym e) ∙ u))
+    by (inr (inl z)) = inl z
+    by (inr (inr (i, l, s))) = inr (inr (held_dropped h xs k i l s))
 
 -- ---- what is held
 
-pub none_turned_held : (xs : List Item) (k : ℕ) → AllHeld T.Nothing xs k
-none_turned_held xs k g = inl refl
+pub none_turned_held : (counts : List ℕ) (xs : List Item) (k : ℕ) → AllHeld counts T.Nothing xs k
+none_turned_held counts xs k g = inl refl
 
-pub one_held : (x : ℕ) (xs : List Item) (k : ℕ) → IsHeldBehind x xs k → AllHeld (T.One x) xs k
-one_held x xs k s g = by (eqb x g) refl
+pub one_held : (counts : List ℕ) (x : ℕ) (xs : List Item) (k : ℕ) → (count_in counts x ≡ 0) ⊎ IsHeldBehind x xs k → AllHeld counts (T.One x) xs k
+one_held counts x xs k s g = by (eqb x g) refl
   where
-    by : (b : Bool) → eqb x g ≡ b → (eqb x g ≡ false) ⊎ IsHeldBehind g xs k
-    by true e = inr (subst (λ y. IsHeldBehind y xs k) (eqb-true x g e) s)
+    by : (b : Bool) → eqb x g ≡ b → (eqb x g ≡ false) ⊎ ((count_in counts g ≡ 0) ⊎ IsHeldBehind g xs k)
+    by true e = inr (subst (λ y. (count_in counts y ≡ 0) ⊎ IsHeldBehind y xs k) (eqb-true x g e) s)
     by false e = inl e
 
 pub known_held : (hs : List Held) (xs : List Item) (k i : ℕ) (h : Held) (g : ℕ) → i < length hs → (get_or hs i h).slot ≡ g → k < (get_or hs i h).place →

@@ -76,7 +76,7 @@ pub without_more : (counts gs hs : List ℕ) → without (without counts gs) hs 
 without_more counts [] hs = refl
 without_more counts (g ∷ gs) hs = without_more (slice_set counts g 0) gs hs
 
-module _ {A : Type 0} (next : FunctionTree → A → Option (ℕ × A)) (like : ℕ → A → A → Type 0) where
+module _ {A : Type 0} (next : FunctionTree → A → Option (ℕ × A)) (like : List ℕ → ℕ → A → A → Type 0) where
   next_more : (counts gs hs : List ℕ) (a b c : A) → AreNext next like counts gs a b → AreNext next like (without counts gs) hs b c →
       AreNext next like counts (gs ++ hs) a c
   next_more counts [] hs a b c e r = subst (λ z. AreNext next like counts hs z c) e r
@@ -100,7 +100,7 @@ module _ {A : Type 0} (next : FunctionTree → A → Option (ℕ × A)) (like : 
     -- one change alone
     pub row_one : (counts after : List ℕ) (g : ℕ) (v w : W) (a b : A) → after ≡ slice_set counts g 0
         → ((f : FunctionTree) → Tells counts f → P f v a → (next f a ≡ Some (g, b)) × ((h : FunctionTree) → Fewer (counts_of f) (counts_of h) →
-        counts_of h g ≡ 0 → P h w b)) → like g a b → IsRow next like P counts after (g ∷ []) v w a b
+        counts_of h g ≡ 0 → P h w b)) → like counts g a b → IsRow next like P counts after (g ∷ []) v w a b
     row_one counts after g v w a b e q l = (
       e,
       λ f t p. (
@@ -112,11 +112,11 @@ module _ {A : Type 0} (next : FunctionTree → A → Option (ℕ × A)) (like : 
 -- ---- a part, and what holds it
 
 module _ {A B : Type 0} (nextA : FunctionTree → A → Option (ℕ × A)) (nextB : FunctionTree → B → Option (ℕ × B))
-    (likeA : ℕ → A → A → Type 0) (likeB : ℕ → B → B → Type 0) (F : A → B) (P : FunctionTree → A → Type 0)
+    (likeA : List ℕ → ℕ → A → A → Type 0) (likeB : List ℕ → ℕ → B → B → Type 0) (F : A → B) (P : FunctionTree → A → Type 0)
     (step : (f : FunctionTree) (g : ℕ) (a c : A) → P f a → nextA f a ≡ Some (g, c) → nextB f (F a) ≡ Some (g, F c))
-    (like : (g : ℕ) (a c : A) → likeA g a c → likeB g (F a) (F c))
-    (keep : (f h : FunctionTree) → Fewer (counts_of f) (counts_of h) → (g : ℕ) → counts_of h g ≡ 0 → (a c : A) → nextA f a ≡ Some (g, c) →
-    likeA g a c → P f a → P h c) where
+    (like : (counts : List ℕ) (g : ℕ) (a c : A) → likeA counts g a c → likeB counts g (F a) (F c))
+    (keep : (counts : List ℕ) (f h : FunctionTree) → Tells counts f → Fewer (counts_of f) (counts_of h) → (g : ℕ) → counts_of h g ≡ 0 →
+    (a c : A) → nextA f a ≡ Some (g, c) → likeA counts g a c → P f a → P h c) where
   lifted : (counts gs : List ℕ) (a b : A) (f : FunctionTree) → Tells counts f → ((h : FunctionTree) → Tells counts h → P h a) →
       AreNext nextA likeA counts gs a b →
       AreNext nextB likeB counts gs (F a) (F b) × ((h : FunctionTree) → Tells (without counts gs) h → P h b)
@@ -124,9 +124,9 @@ module _ {A B : Type 0} (nextA : FunctionTree → A → Option (ℕ × A)) (next
   lifted counts (g ∷ gs) a b f t p (c, n, (l, r)) =
       let s = slice_set counts g 0 in
       let q : (h : FunctionTree) → Tells s h → P h c = λ h u.
-      keep f h (fewer_counted f h counts s g refl t u) g (none_counted h counts s g refl u) a c (n f t) l (p f t) in
+      keep counts f h t (fewer_counted f h counts s g refl t u) g (none_counted h counts s g refl u) a c (n f t) l (p f t) in
       let w = lifted s gs c b (struck f g) (struck_told counts f g t) q r in
-      ((F c, λ h u. step h g a c (p h u) (n h u), (like g a c l, w.0)), w.1)
+      ((F c, λ h u. step h g a c (p h u) (n h u), (like counts g a c l, w.0)), w.1)
 
   pub row_lifted : {V W : Type 0} (PA : FunctionTree → V → A → Type 0) (PB : FunctionTree → W → B → Type 0) (counts after gs : List ℕ)
       (v w : V) (u r : W) (a b : A) → ((h : FunctionTree) → Tells counts h → PB h u (F a) → PA h v a × P h a) →
@@ -141,7 +141,7 @@ module _ {A B : Type 0} (nextA : FunctionTree → A → Option (ℕ × A)) (next
   )
 
 -- the same row, of other ways
-pub row_said : {A V W : Type 0} (next : FunctionTree → A → Option (ℕ × A)) (like : ℕ → A → A → Type 0) (P : FunctionTree → V → A → Type 0)
+pub row_said : {A V W : Type 0} (next : FunctionTree → A → Option (ℕ × A)) (like : List ℕ → ℕ → A → A → Type 0) (P : FunctionTree → V → A → Type 0)
     (Q : FunctionTree → W → A → Type 0) (counts after gs : List ℕ) (v w : V) (u r : W) (a b : A) → ((h : FunctionTree) → Q h u a → P h v a) →
     ((h : FunctionTree) → P h w b → Q h r b) → IsRow next like P counts after gs v w a b → IsRow next like Q counts after gs u r a b
 row_said next like P Q counts after gs v w u r a b i o (e, q) = (

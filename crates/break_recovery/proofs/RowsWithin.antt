@@ -24,14 +24,14 @@ use Rattle.tidy_loops.specs.Slots.{Tells, count_in, counts_of, first_reset}
 use Rattle.tidy_loops.specs.Remaining.{IsApart}
 use Rattle.break_recovery.specs.Next.{or_else, put, next_list, next_item, next_sections, next_either, next_here, next_at}
 use Rattle.break_recovery.specs.Places.{behind, replaced, AreQuiet, Fewer}
-use Rattle.break_recovery.specs.Steady.{AreAlike, AreAlikeOf, AreSectionsAlike, IsAlike}
+use Rattle.break_recovery.specs.Steady.{ItemIsKept, AreAlike, AreAlikeOf, AreSectionsAlike, IsAlike}
 use Rattle.break_recovery.specs.Ways.{IsStep, IsAsked, IsWay, IsWayAt, IsWayIn, IsWayOf, IsWayThrough}
 use Rattle.break_recovery.specs.InARow.{IsRow}
 use Rattle.break_recovery.proofs.Rows.{row_lifted, row_said}
 use Rattle.break_recovery.proofs.Stays.{list_still}
 use Rattle.break_recovery.proofs.NextLaws.{in_if, in_while, in_do, in_for, in_switch, in_block, more_sections}
 use Rattle.break_recovery.proofs.NothingBefore.{found_next}
-use Rattle.break_recovery.proofs.Alike.{alike_behind, alike_first, if_alike, while_alike, do_alike, for_alike, switch_alike, block_alike, first_kept, later_kept}
+use Rattle.break_recovery.proofs.Alike.{or_more, still_none, alike_behind, alike_first, if_alike, while_alike, do_alike, for_alike, switch_alike, block_alike, first_kept, later_kept}
 use Rattle.break_recovery.proofs.Steps.{either_in, set_trees, before_with, entry_is}
 use Rattle.break_recovery.specs.Within.{IsWithin}
 use Rattle.break_recovery.proofs.Within.{apart_told, apart_there, within_apart}
@@ -51,8 +51,8 @@ RowOfSections n = IsRow (λ f. next_sections f n) AreSectionsAlike (λ f. IsWayT
 abbrev pub next_of_two : FunctionTree → ℕ → Forest × Forest → Option (ℕ × (Forest × Forest))
 next_of_two f n c = next_either f n c.0 c.1
 
-abbrev pub AreTwoAlike : ℕ → Forest × Forest → Forest × Forest → Type 0
-AreTwoAlike g c d = AreAlikeOf g c.0 c.1 d.0 d.1
+abbrev pub AreTwoAlike : List ℕ → ℕ → Forest × Forest → Forest × Forest → Type 0
+AreTwoAlike counts g c d = AreAlikeOf counts g c.0 c.1 d.0 d.1
 
 abbrev pub IsWayOfTwo : FunctionTree → ℕ → List ℕ → Forest × Forest → Type 0
 IsWayOfTwo f n w c = IsWayOf true f n w c.0 c.1
@@ -69,21 +69,21 @@ module _ (n : ℕ) (counts after gs v w : List ℕ) where
   while_made : (t : TestTree) (a b : Forest) → RowOfList n counts after gs v w a b → RowOfItem n counts after gs v w (Trees.While t a) (Trees.While t b)
   while_made t a b r =
       row_lifted (λ f. next_list f n) (λ f. next_item f n) AreAlike IsAlike (Trees.While t) Always
-      (λ f g a c p e. in_while f n t a ∙ ap (put (Trees.While t)) e) (λ g a c l. while_alike g t a c l) (λ f h l g z a c e k p. tt)
+      (λ f g a c p e. in_while f n t a ∙ ap (put (Trees.While t)) e) (λ s g a c l. while_alike s g t a c l) (λ s f h t l g z a c e k p. tt)
       (λ f. IsWay true f n) (λ f. IsWayIn true f n) counts after gs v w v w a b
       (λ h d q. (in_while_way true h n v t a q, tt)) (λ h q p. while_way true h n w t b q) r
 
   do_made : (t : TestTree) (a b : Forest) → RowOfList n counts after gs v w a b → RowOfItem n counts after gs v w (Trees.Do a t) (Trees.Do b t)
   do_made t a b r =
       row_lifted (λ f. next_list f n) (λ f. next_item f n) AreAlike IsAlike (λ c. Trees.Do c t) Always
-      (λ f g a c p e. in_do f n a t ∙ ap (put (λ c. Trees.Do c t)) e) (λ g a c l. do_alike g t a c l) (λ f h l g z a c e k p. tt)
+      (λ f g a c p e. in_do f n a t ∙ ap (put (λ c. Trees.Do c t)) e) (λ s g a c l. do_alike s g t a c l) (λ s f h t l g z a c e k p. tt)
       (λ f. IsWay true f n) (λ f. IsWayIn true f n) counts after gs v w v w a b
       (λ h d q. (in_do_way true h n v a t q, tt)) (λ h q p. do_way true h n w b t q) r
 
   block_made : (a b : Forest) → RowOfList n counts after gs v w a b → RowOfItem n counts after gs v w (Trees.Block a) (Trees.Block b)
   block_made a b r =
       row_lifted (λ f. next_list f n) (λ f. next_item f n) AreAlike IsAlike Trees.Block Always
-      (λ f g a c p e. in_block f n a ∙ ap (put Trees.Block) e) (λ g a c l. block_alike g a c l) (λ f h l g z a c e k p. tt)
+      (λ f g a c p e. in_block f n a ∙ ap (put Trees.Block) e) (λ s g a c l. block_alike s g a c l) (λ s f h t l g z a c e k p. tt)
       (λ f. IsWay true f n) (λ f. IsWayIn true f n) counts after gs v w v w a b
       (λ h d q. (in_block_way true h n v a q, tt)) (λ h q p. block_way true h n w b q) r
 
@@ -91,7 +91,7 @@ module _ (n : ℕ) (counts after gs v w : List ℕ) where
       RowOfItem n counts after gs v w (Trees.Switch s c) (Trees.Switch s d)
   switch_made s c d r =
       row_lifted (λ f. next_sections f n) (λ f. next_item f n) AreSectionsAlike IsAlike (Trees.Switch s) Always
-      (λ f g c d p e. in_switch f n s c ∙ ap (put (Trees.Switch s)) e) (λ g c d l. switch_alike g s c d l) (λ f h l g z c d e k p. tt)
+      (λ f g c d p e. in_switch f n s c ∙ ap (put (Trees.Switch s)) e) (λ o g c d l. switch_alike o g s c d l) (λ s f h t l g z c d e k p. tt)
       (λ f. IsWayThrough true f n) (λ f. IsWayIn true f n) counts after gs v w v w c d
       (λ h d q. (in_switch_way true h n v s c q, tt)) (λ h q p. switch_way true h n w s d q) r
 
@@ -101,7 +101,7 @@ module _ (n : ℕ) (counts after gs v w : List ℕ) where
       row_lifted (λ f. next_of_two f n) (λ f. next_item f n) AreTwoAlike IsAlike (λ c. Trees.If t c.0 c.1) Always
       (λ f g c d p e. in_if f n t c.0 c.1 ∙ sym (either_in (λ a b. Trees.If t a b) (next_list f n c.0) (next_list f n c.1) c.0 c.1) ∙
       ap (put (λ (c : Forest × Forest). Trees.If t c.0 c.1)) e)
-      (λ g c d l. if_alike g t c.0 c.1 d.0 d.1 l) (λ f h l g z c d e k p. tt)
+      (λ s g c d l. if_alike s g t c.0 c.1 d.0 d.1 l) (λ s f h t l g z c d e k p. tt)
       (λ f. IsWayOfTwo f n) (λ f. IsWayIn true f n) counts after gs v w v w c d
       (λ h d q. (in_if_way true h n v t c.0 c.1 q, tt)) (λ h q p. if_way true h n w t d.0 d.1 q) r
 
@@ -111,7 +111,7 @@ module _ (n : ℕ) (counts after gs v w : List ℕ) where
       row_lifted (λ f. next_of_two f n) (λ f. next_item f n) AreTwoAlike IsAlike (λ c. Trees.For c.0 t u c.1) Always
       (λ f g c d p e. in_for f n c.0 t u c.1 ∙ sym (either_in (λ a b. Trees.For a t u b) (next_list f n c.0) (next_list f n c.1) c.0 c.1) ∙
       ap (put (λ (c : Forest × Forest). Trees.For c.0 t u c.1)) e)
-      (λ g c d l. for_alike g t u c.0 c.1 d.0 d.1 l) (λ f h l g z c d e k p. tt)
+      (λ s g c d l. for_alike s g t u c.0 c.1 d.0 d.1 l) (λ s f h t l g z c d e k p. tt)
       (λ f. IsWayOfTwo f n) (λ f. IsWayIn true f n) counts after gs v w v w c d
       (λ h d q. (in_for_way true h n v c.0 t u c.1 q, tt)) (λ h q p. for_way true h n w d.0 t u d.1 q) r
 
@@ -164,7 +164,7 @@ module _ (n : ℕ) (counts after gs v w : List ℕ) where
   first_made u a b c i r =
       row_lifted (λ f. next_list f n) (λ f. next_of_two f n) AreAlike AreTwoAlike (λ c. (c, b)) Always
       (λ f g a c p e. ap (λ o. or_else (put (λ c. (c, b)) o) (put (λ d. (a, d)) (next_list f n b))) e)
-      (λ g a c l. inl (l, refl)) (λ f h l g z a c e k p. tt)
+      (λ s g a c l. inl (l, refl)) (λ s f h t l g z a c e k p. tt)
       (λ f. IsWay true f n) (λ f. IsWayOfTwo f n) counts after gs v w u (0 ∷ w) a c
       (λ h d q. (i h q, tt)) (λ h q p. q) r
 
@@ -173,7 +173,7 @@ module _ (n : ℕ) (counts after gs v w : List ℕ) where
   second_made u a b c i r =
       row_lifted (λ f. next_list f n) (λ f. next_of_two f n) AreAlike AreTwoAlike (λ c. (a, c)) (λ f c. next_list f n a ≡ None)
       (λ f g b c p e. ap₂ (λ o z. or_else (put (λ c. (c, b)) o) (put (λ c. (a, c)) z)) p e)
-      (λ g b c l. inr (refl, l)) (λ f h l g z b c e k p. list_still f h l a n p)
+      (λ s g b c l. inr (refl, l)) (λ s f h t l g z b c e k p. list_still f h l a n p)
       (λ f. IsWay true f n) (λ f. IsWayOfTwo f n) counts after gs v w u (1 ∷ w) b c
       (λ h d q. ((i h q).1, (i h q).0)) (λ h q p. (p, q)) r
 
@@ -197,9 +197,9 @@ long_take xs zero h = ap long trees-none
 long_take [] (suc i) h = absurd (omega (arith, h))
 long_take (x ∷ xs) (suc i) h = ap long (trees-first x (take i xs)) ∙ ap suc (long_take xs i (omega (arith, h)))
 
-alike_front : (g : ℕ) (p a b : Forest) → AreAlike g a b → AreAlike g (join p a) (join p b)
-alike_front g Nil a b q = q
-alike_front g (Then x xs) a b q = alike_behind g x (join xs a) (join xs b) (alike_front g xs a b q)
+alike_front : (counts : List ℕ) (g : ℕ) (p a b : Forest) → AreAlike counts g a b → AreAlike counts g (join p a) (join p b)
+alike_front counts g Nil a b q = q
+alike_front counts g (Then x xs) a b q = alike_behind counts g x (join xs a) (join xs b) (alike_front counts g xs a b q)
 
 pub asked_none : (h : FunctionTree) (n : ℕ) (w : List ℕ) (a : Forest) → next_here h n a ≡ None → IsAsked true h n w a
 asked_none h n [] a e = tt
@@ -213,10 +213,10 @@ no_declaration f n (Local x es) c e g = absurd (no e)
     no e = cc
 no_declaration f n _ c e g = refl
 
--- an item that was changed stays apart, since it names each other slot no more often
+-- an item that was changed stays apart, since it names each other slot that counts no more often
 apart_still : (f h : FunctionTree) → Fewer (counts_of f) (counts_of h) → (g : ℕ) → counts_of h g ≡ 0 → (y z : Tree) (r : Forest) →
-    ((j : ℕ) → is_declaration j y ≡ false) → ((j : ℕ) → eqb g j ≡ false → item_count j z ≤ item_count j y) → IsApart (counts_of f) y r →
-    IsApart (counts_of h) z r
+    ((j : ℕ) → is_declaration j y ≡ false) → ((j : ℕ) → eqb g j ≡ false → (counts_of h j ≡ 0) ⊎ (item_count j z ≤ item_count j y)) →
+    IsApart (counts_of f) y r → IsApart (counts_of h) z r
 apart_still f h l g o y z r d m a j i = by (eqb g j) refl
   where
     less : (counts_of f j ≡ 0) ⊎ (item_count j y + one_if (is_it j (first_reset r)) < counts_of f j) → item_count j z ≤ item_count j y →
@@ -226,9 +226,14 @@ apart_still f h l g o y z r d m a j i = by (eqb g j) refl
     less (inl w) k (inl q) = inl (q ∙ w)
     less (inr w) k (inl q) = inr (omega (arith, w, k, q))
 
+    counted : (counts_of h j ≡ 0) ⊎ (item_count j z ≤ item_count j y) →
+        (counts_of h j ≡ 0) ⊎ (item_count j z + one_if (is_it j (first_reset r)) < counts_of h j)
+    counted (inl k) = inl k
+    counted (inr k) = less (a j (d j)) k (l j)
+
     by : (b : Bool) → eqb g j ≡ b → (counts_of h j ≡ 0) ⊎ (item_count j z + one_if (is_it j (first_reset r)) < counts_of h j)
     by true e = inl (sym (ap (counts_of h) (eqb-true g j e)) ∙ o)
-    by false e = less (a j (d j)) (m j e) (l j)
+    by false e = counted (m j e)
 
 module _ (n : ℕ) (p r : Forest) where
   abbrev With : Tree → Forest
@@ -245,17 +250,21 @@ module _ (n : ℕ) (p r : Forest) where
   with_next f g y z (q, k, a) e = found_next f n (long p) (With y) g (Then z r) q (at_it f g y z k e) ∙
       ap (λ z. Some (g, z)) (replaced_long p (Then z r) (Then y r))
 
-  pub held_still : (f h : FunctionTree) → Fewer (counts_of f) (counts_of h) → (g : ℕ) → counts_of h g ≡ 0 → (y z : Tree) →
-      next_item f (suc n) y ≡ Some (g, z) → IsAlike g y z → Held f y → Held h z
-  held_still f h l g o y z e s (q, k, a) = (
+  pub held_still : (counts : List ℕ) (f h : FunctionTree) → Tells counts f → Fewer (counts_of f) (counts_of h) → (g : ℕ) → counts_of h g ≡ 0 →
+      (y z : Tree) → next_item f (suc n) y ≡ Some (g, z) → IsAlike counts g y z → Held f y → Held h z
+  held_still counts f h t l g o y z e s (q, k, a) = (
     subst (AreQuiet h (suc n) (long p)) (replaced_long p (Then z r) (Then y r))
         (still_quiet f h l (suc n) (long p) (With y) g (Then z r) (at_it f g y z k e) q),
-    s.asks f h l o (suc n) r a k,
-    apart_still f h l g o y z r (no_declaration f (suc n) y (g, z) e) (λ j i. (s.shows j i).less) a,
+    s.asks f h t l o (suc n) r a k,
+    apart_still f h l g o y z r (no_declaration f (suc n) y (g, z) e) (λ j i. by j (s.shows j i)) a,
   )
+    where
+      by : (j : ℕ) → (count_in counts j ≡ 0) ⊎ ItemIsKept j y z → (counts_of h j ≡ 0) ⊎ (item_count j z ≤ item_count j y)
+      by j (inl c) = inl (still_none counts f h t l j c)
+      by j (inr c) = inr c.less
 
-  with_alike : (g : ℕ) (y z : Tree) → IsAlike g y z → AreAlike g (With y) (With z)
-  with_alike g y z s = alike_front g p (Then y r) (Then z r) (alike_first g y z r s.shows s.none)
+  with_alike : (counts : List ℕ) (g : ℕ) (y z : Tree) → IsAlike counts g y z → AreAlike counts g (With y) (With z)
+  with_alike counts g y z s = alike_front counts g p (Then y r) (Then z r) (alike_first counts g y z r s.shows s.none)
 
   way_out : (h : FunctionTree) (k : ℕ) (w : List ℕ) (z : Tree) → k ≡ long p → IsWayIn true h (suc n) w z → Held h z → IsWay true h n (k ∷ w) (With z)
   way_out h k w z e q (a, b, c) = subst (λ k. IsWay true h n (k ∷ w) (With z)) (sym e) (
@@ -303,7 +312,7 @@ last_row n counts after gs u v i j a b s e q =
     (λ h p. (step_in_list true h n i u v a s p).0) (λ h p. (p, (tt, tt))) q
 
 -- no changes, and the way given up
-pub no_row : {A : Type 0} (next : FunctionTree → A → Option (ℕ × A)) (like : ℕ → A → A → Type 0) (P : FunctionTree → List ℕ → A → Type 0)
+pub no_row : {A : Type 0} (next : FunctionTree → A → Option (ℕ × A)) (like : List ℕ → ℕ → A → A → Type 0) (P : FunctionTree → List ℕ → A → Type 0)
     (counts v : List ℕ) (a : A) → ((h : FunctionTree) → P h [] a) → IsRow next like P counts counts [] v [] a a
 no_row next like P counts v a p = (refl, λ f t q. (refl, λ h d. p h))
 
@@ -316,7 +325,7 @@ module _ (n : ℕ) (counts after gs v w : List ℕ) (cases : List ExpressionTree
       row_lifted (λ f. next_list f n) (λ f. next_sections f n) AreAlike AreSectionsAlike (λ a. Section cases default a ends c) Always
       (λ f g a d p e. more_sections f n cases default a ends c ∙
       ap (λ o. or_else (put (λ b. Section cases default b ends c) o) (put (Section cases default a ends) (next_sections f n c))) e)
-      (λ g a d l h o. first_kept h cases cases default default ends ends a d c (l h o).0) (λ f h l g z a d e k p. tt)
+      (λ s g a d l h o. or_more (l h o) (λ k. first_kept h cases cases default default ends ends a d c k.0)) (λ s f h t l g z a d e k p. tt)
       (λ f. IsWay true f n) (λ f. IsWayThrough true f n) counts after gs v w (0 ∷ v) (0 ∷ w) a b
       (λ h d q. (q.1, tt)) (λ h q p. (tt, q)) r
 
@@ -327,7 +336,7 @@ module _ (n : ℕ) (counts after gs v w : List ℕ) (cases : List ExpressionTree
       (λ f c. next_list f n a ≡ None)
       (λ f g c d p e. more_sections f n cases default a ends c ∙
       ap₂ (λ o z. or_else (put (λ b. Section cases default b ends c) o) (put (Section cases default a ends) z)) p e)
-      (λ g c d l h o. later_kept h cases default ends a c d (l h o)) (λ f h l g z c d e k p. list_still f h l a n p)
+      (λ s g c d l h o. or_more (l h o) (later_kept h cases default ends a c d)) (λ s f h t l g z c d e k p. list_still f h l a n p)
       (λ f. IsWayThrough true f n) (λ f. IsWayThrough true f n) counts after gs (k ∷ v) (k ∷ w) (suc k ∷ v) (suc k ∷ w) c d
       (λ h d q. ((q.0.1, q.1), q.0.0)) (λ h q p. ((p, q.0), q.1)) r
 

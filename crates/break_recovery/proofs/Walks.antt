@@ -136,12 +136,12 @@ module _ (n : ℕ) (counts : List ℕ) (at : ℕ) (xs : List Item) (x : Item) (h
   RowAt after gs to ys = IsRow (λ f. next_list f n) AreAlike (λ f. AreQuiet f (suc n)) counts after gs at to (trees_of xs) (trees_of ys)
 
   pub change_row : (after : List ℕ) (r : Change) (ys : List Item) → Some r ≡ change_first (count_in counts) (suc n) (trees_of (drop at xs)) →
-      AreLeftAlone r (tree_at x) (trees_of (drop (at + 1) xs)) → trees_of ys ≡ join (trees_of (take at xs)) (list_after r (trees_of (drop at xs))) →
+      AreLeftAlone counts r (tree_at x) (trees_of (drop (at + 1) xs)) → trees_of ys ≡ join (trees_of (take at xs)) (list_after r (trees_of (drop at xs))) →
       after ≡ slice_set counts (slot_of r) 0 → RowAt after (slot_of r ∷ []) at ys
   change_row after r ys k s j q =
       row_one (λ f. next_list f n) AreAlike (λ f. AreQuiet f (suc n)) counts after g at at a b q
       (λ f t p. (sym (list_found f n at a b (Some g) refl (told f t) p), λ i l z. by f i l (one_found f (suc n) at a b (Some g) g (told f t) refl p)))
-      (here_alike (count_in counts) (suc n) xs ys at x r h (entry_is xs at x e) (sym k) s j)
+      (here_alike counts (count_in counts) (suc n) xs ys at x r h (entry_is xs at x e) (sym k) s j)
     where
       g : ℕ
       g = slot_of r
@@ -258,7 +258,7 @@ module _ (n at m : ℕ) (counts : List ℕ) (xs ys : List Item) (x : Item) (to :
       (λ f t. ap (λ i. next_item f i (tree_at x)) (sym j) ∙ q f t)))
 
   pub changed : (after slots late : List ℕ) (g : ℕ) (r : Change) → Some r ≡ change_first (count_in counts) (suc n) (trees_of (drop at (closed at m xs))) →
-      g ≡ slot_of r → AreLeftAlone r (tree_at x) (trees_of (drop m xs)) → to ≡ at →
+      g ≡ slot_of r → AreLeftAlone counts r (tree_at x) (trees_of (drop m xs)) → to ≡ at →
       trees_of ys ≡ join (trees_of (take at (closed at m xs))) (list_after r (trees_of (drop at (closed at m xs)))) → after ≡ slice_set counts g 0 →
       late ≡ slots ++ g ∷ [] → (gs : List ℕ) × (late ≡ slots ++ gs) × RowTo n counts after gs at to (trees_of (closed at m xs)) (trees_of ys)
   changed after slots late g r k i s p j q t = (
@@ -267,7 +267,7 @@ module _ (n at m : ℕ) (counts : List ℕ) (xs ys : List Item) (x : Item) (to :
     subst (λ t. RowTo n counts after (g ∷ []) at t (trees_of (closed at m xs)) (trees_of ys)) (sym p)
         (subst (λ g. RowTo n counts after (g ∷ []) at at (trees_of (closed at m xs)) (trees_of ys)) (sym i)
         (change_row n counts at (closed at m xs) x (long_meant at m xs x h l e) (get_meant at m xs x h l e) after r ys k
-        (subst (λ a. AreLeftAlone r (tree_at x) (trees_of a)) (sym (closed_behind at m xs h l)) s) j (q ∙ ap (λ g. slice_set counts g 0) i))),
+        (subst (λ a. AreLeftAlone counts r (tree_at x) (trees_of a)) (sym (closed_behind at m xs h l)) s) j (q ∙ ap (λ g. slice_set counts g 0) i))),
   )
 
 -- the gap closes

@@ -4,7 +4,7 @@ use Rattle.c_tree.specs.ExpressionTrees.{ExpressionTree}
 use Rattle.c_tree.specs.TestTrees.{TestTree, SelectorTree}
 use Rattle.c_tree.specs.Trees.{Tree, Forest, Then, Sections, NoSection, Section, If, While, Do, For, Switch, Block}
 use Rattle.jump_meaning.specs.Code.{FunctionTree}
-use Rattle.tidy_loops.specs.Slots.{counts_of}
+use Rattle.tidy_loops.specs.Slots.{Tells, counts_of}
 use Rattle.break_recovery.specs.Next.{next_list, next_here, next_at}
 use Rattle.break_recovery.specs.Places.{behind, replaced, removed, AreQuiet, Fewer, IsFoundAt}
 use Rattle.tidy_loops.specs.Remaining.{IsApart}
@@ -161,11 +161,11 @@ when_sure false P e h = cc
 when_sure true P e h = h
 
 -- where an item is like one that allowed no change itself, a way in it is one from it on
-pub goes_in : (sure : Bool) (f h : FunctionTree) (g : ℕ) → Fewer (counts_of f) (counts_of h) → counts_of h g ≡ 0 →
-    (n : ℕ) (w : List ℕ) (x y : Tree) (xs : Forest) → (sure ≡ true → IsAlike g x y) → IsApart (counts_of f) x xs
+pub goes_in : (sure : Bool) (counts : List ℕ) (f h : FunctionTree) → Tells counts f → (g : ℕ) → Fewer (counts_of f) (counts_of h) → counts_of h g ≡ 0 →
+    (n : ℕ) (w : List ℕ) (x y : Tree) (xs : Forest) → (sure ≡ true → IsAlike counts g x y) → IsApart (counts_of f) x xs
     → next_here f n (Then x xs) ≡ None → IsWayIn sure h n w y → IsWayAt sure h n w (Then y xs)
-goes_in sure f h g l z n [] x y xs s a k p = (tt, tt)
-goes_in sure f h g l z n (j ∷ w) x y xs s a k p = (if_sure sure (next_here h n (Then y xs) ≡ None) (λ e. (s e).asks f h l z n xs a k), p)
+goes_in sure counts f h t g l z n [] x y xs s a k p = (tt, tt)
+goes_in sure counts f h t g l z n (j ∷ w) x y xs s a k p = (if_sure sure (next_here h n (Then y xs) ≡ None) (λ e. (s e).asks f h t l z n xs a k), p)
 
 -- an item on a sure way was asked before
 pub asked_before : (sure : Bool) (f : FunctionTree) (n : ℕ) (w : List ℕ) (a : Forest) → sure ≡ true → (w ≡ [] → ⊥) → IsWayAt sure f n w a →

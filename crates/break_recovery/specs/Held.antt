@@ -4,6 +4,7 @@ use Rattle.c_tree.specs.declared.tree.Item.{Item}
 use Rattle.c_tree.specs.Views.{tree_at}
 use Rattle.tidy_slots.specs.Counts.{item_count}
 use Rattle.tidy_loops.specs.Exits.{exits_of}
+use Rattle.tidy_loops.specs.Slots.{count_in}
 use Rattle.break_recovery.specs.declared.held.Held.{Held}
 use Rattle.break_recovery.specs.declared.steady.Turned.{Turned}
 use Rattle.break_recovery.specs.Steady.{is_turned}
@@ -20,9 +21,9 @@ IsHeldBehind g xs k = (i : ℕ) × (k < i) × IsHeldAt g xs i
 abbrev pub AreHeld : List Held → List Item → ℕ → Type 0
 AreHeld hs xs k = All (λ h. k < h.place → IsHeldAt h.slot xs h.place) hs
 
--- each slot is held that may be turned
-abbrev pub AllHeld : Turned → List Item → ℕ → Type 0
-AllHeld t xs k = (g : ℕ) → (is_turned g t ≡ false) ⊎ IsHeldBehind g xs k
+-- each slot is held that may be turned, if it counts
+abbrev pub AllHeld : List ℕ → Turned → List Item → ℕ → Type 0
+AllHeld counts t xs k = (g : ℕ) → (is_turned g t ≡ false) ⊎ ((count_in counts g ≡ 0) ⊎ IsHeldBehind g xs k)
 
 -- two lists are the same behind the place
 pub record SameBehind (k : ℕ) (xs ys : List Item) : Type 0 where

@@ -1,6 +1,6 @@
--- Changes that leave all other slots as they are, or name them otherwise than in exits: then nothing round the loop allows a
--- change that it didn't allow before.
-use Rattle.std.specs.Prelude.{ℕ, ◌≡◌, ◌<◌, ◌≤◌, ◌⊎◌, Bool, true, false, not, cond, ◌&&◌, eqb, is_some, Option, Some, None}
+-- Changes that leave all other slots that count as they are, or name them otherwise than in exits: then nothing round the loop
+-- allows a change that it didn't allow before.
+use Rattle.std.specs.Prelude.{ℕ, List, ◌≡◌, ◌<◌, ◌≤◌, ◌⊎◌, Bool, true, false, not, cond, ◌&&◌, eqb, is_some, Option, Some, None}
 use Rattle.c_tree.specs.ExpressionTrees.{ExpressionTree, PlaceTree, Typed, Assign}
 use Rattle.c_tree.specs.TestTrees.{TestTree, Source}
 use Rattle.c_tree.specs.Trees.{Tree, Forest, Nil, Then, Sections, NoSection, Section, Evaluate, If, While, Do, For, Switch, Block}
@@ -11,7 +11,7 @@ use Rattle.tidy_laws.specs.Changes.{are_low, is_low}
 use Rattle.tidy_slots.specs.Counts.{list_count, item_count, sections_count}
 use Rattle.tidy_loops.specs.Views.{place_slot, off_slot, is_it}
 use Rattle.tidy_loops.specs.Exits.{checks_in, checks_of, checks_within, exits_in, exits_of}
-use Rattle.tidy_loops.specs.Slots.{counts_of, reset_slot, last_reset, but_last}
+use Rattle.tidy_loops.specs.Slots.{Tells, count_in, counts_of, reset_slot, last_reset, but_last}
 use Rattle.tidy_loops.specs.Remaining.{IsApart}
 use Rattle.break_recovery.specs.Next.{next_here}
 use Rattle.break_recovery.specs.Places.{Fewer}
@@ -110,31 +110,32 @@ pub record ItemIsKept (h : ℕ) (x y : Tree) : Type 0 where
   pub less : item_count h y ≤ item_count h x
   pub shows : ItemShowsAlike h x y ⊎ (exits_of h y < item_count h y)
 
--- each slot is kept but this one, and without a last `h = 0;` of the second list too
-abbrev pub AreAlike : ℕ → Forest → Forest → Type 0
-AreAlike g a b = (h : ℕ) → eqb g h ≡ false → IsKept h a b × (last_reset b ≡ Some h → (last_reset a ≡ Some h) × IsKept h (but_last a) (but_last b))
+-- each slot that counts is kept but this one, and without a last `h = 0;` of the second list too
+abbrev pub AreAlike : List ℕ → ℕ → Forest → Forest → Type 0
+AreAlike counts g a b = (h : ℕ) → eqb g h ≡ false →
+    (count_in counts h ≡ 0) ⊎ (IsKept h a b × (last_reset b ≡ Some h → (last_reset a ≡ Some h) × IsKept h (but_last a) (but_last b)))
 
 -- of two pairs of lists, one pair is alike and the other the same
-abbrev pub AreAlikeOf : ℕ → Forest → Forest → Forest → Forest → Type 0
-AreAlikeOf g a b c d = (AreAlike g a c × (d ≡ b)) ⊎ ((c ≡ a) × AreAlike g b d)
+abbrev pub AreAlikeOf : List ℕ → ℕ → Forest → Forest → Forest → Forest → Type 0
+AreAlikeOf counts g a b c d = (AreAlike counts g a c × (d ≡ b)) ⊎ ((c ≡ a) × AreAlike counts g b d)
 
 -- of sections
 pub record SectionsKept (h : ℕ) (c d : Sections) : Type 0 where
   pub less : sections_count h d ≤ sections_count h c
   pub shows : (checks_within h d ≡ checks_within h c) ⊎ (checks_within h d < sections_count h d)
 
-abbrev pub AreSectionsAlike : ℕ → Sections → Sections → Type 0
-AreSectionsAlike g c d = (h : ℕ) → eqb g h ≡ false → SectionsKept h c d
+abbrev pub AreSectionsAlike : List ℕ → ℕ → Sections → Sections → Type 0
+AreSectionsAlike counts g c d = (h : ℕ) → eqb g h ≡ false → (count_in counts h ≡ 0) ⊎ SectionsKept h c d
 
 -- where the one item allows no change itself, neither does the other, once the slot counts no more
-abbrev pub AsksAlike : ℕ → Tree → Tree → Type 0
-AsksAlike g x y = (f h : FunctionTree) → Fewer (counts_of f) (counts_of h) → counts_of h g ≡ 0 → (n : ℕ) (xs : Forest) → IsApart (counts_of f) x xs →
-    next_here f n (Then x xs) ≡ None → next_here h n (Then y xs) ≡ None
+abbrev pub AsksAlike : List ℕ → ℕ → Tree → Tree → Type 0
+AsksAlike counts g x y = (f h : FunctionTree) → Tells counts f → Fewer (counts_of f) (counts_of h) → counts_of h g ≡ 0 → (n : ℕ) (xs : Forest) →
+    IsApart (counts_of f) x xs → next_here f n (Then x xs) ≡ None → next_here h n (Then y xs) ≡ None
 
--- two items are alike but for what they show of this slot
-pub record IsAlike (g : ℕ) (x y : Tree) : Type 0 where
-  pub shows : (h : ℕ) → eqb g h ≡ false → ItemIsKept h x y
-  pub asks : AsksAlike g x y
+-- two items are alike but for what they show of this slot and of those that don't count
+pub record IsAlike (counts : List ℕ) (g : ℕ) (x y : Tree) : Type 0 where
+  pub shows : (h : ℕ) → eqb g h ≡ false → (count_in counts h ≡ 0) ⊎ ItemIsKept h x y
+  pub asks : AsksAlike counts g x y
   pub none : reset_slot y ≡ None
 
 -- where a slot was found, and it is sure, this is said of it

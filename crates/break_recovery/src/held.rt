@@ -1,5 +1,6 @@
 //! Mentions of slots that are no exits. As long as one stands behind the loops of a list that are changed, no loop round
-//! the list allows a change of its slot, whatever checks the changes make.
+//! the list allows a change of its slot, whatever checks the changes make. A slot that doesn't count needs none, since no
+//! loop allows a change of it.
 
 ghost use Rattle.std.specs.Prelude.{◌≡◌, ◌<◌, ◌≤◌, ◌⊎◌, ℕ, List, [], true, length, drop, slice_get, Some, IfSome, IfOk, OnOk};
 ghost use Rattle.c_tree.specs.Trees.{trees_of};
@@ -106,6 +107,7 @@ fn look(
     }
 }
 
+/// Whether a slot is held behind a place, as far as this is known. One that doesn't count needs none.
 fn is_held(
     counts: &List<u64>,
     holds: &mut Holds,
@@ -116,15 +118,19 @@ fn is_held(
     requires most { (count_in counts.now slot ≡ 0) ⊎ (list_count slot (trees_of (drop place list.now)) < count_in counts.now slot) }
     requires known { AreHeld holds.old.known list.now place }
     ensures known { OnOk result (AreHeld holds.new.known list.now place) }
-    ensures held { IfOk result (λ it. it ≡ true → IsHeldBehind slot list.now place) }
+    ensures held { IfOk result (λ it. it ≡ true → (count_in counts.now slot ≡ 0) ⊎ IsHeldBehind slot list.now place) }
 {
+    if count_of(counts, slot) == 0 {
+        return Ok(true);
+    }
     if is_known(&holds.known, slot, place) {
         return Ok(true);
     }
     look(counts, holds, slot, list, place)
 }
 
-/// Whether all slots that are turned are held behind a place, as far as this is known.
+/// Whether all slots that are turned are held behind a place, as far as this is known. A slot that doesn't count needs
+/// none.
 pub fn are_held(
     counts: &List<u64>,
     holds: &mut Holds,
@@ -135,7 +141,7 @@ pub fn are_held(
     requires most { (g : ℕ) → (count_in counts.now g ≡ 0) ⊎ (list_count g (trees_of (drop place list.now)) < count_in counts.now g) }
     requires known { AreHeld holds.old.known list.now place }
     ensures known { OnOk result (AreHeld holds.new.known list.now place) }
-    ensures held { IfOk result (λ it. it ≡ true → AllHeld turned list.now place) }
+    ensures held { IfOk result (λ it. it ≡ true → AllHeld counts.now turned list.now place) }
 {
     match turned {
         Turned::Nothing => Ok(true),
@@ -154,7 +160,7 @@ pub fn are_held_there(
     place: usize,
 ) -> Result<bool, Memory>
     requires { (g : ℕ) → (count_in counts.now g ≡ 0) ⊎ (list_count g (trees_of (drop place list.now)) < count_in counts.now g) }
-    ensures { IfOk result (λ it. it ≡ true → AllHeld turned list.now place) }
+    ensures { IfOk result (λ it. it ≡ true → AllHeld counts.now turned list.now place) }
 {
     forget_holds(alloc, holds);
     are_held(counts, holds, turned, list, place)

@@ -167,7 +167,7 @@ pub fn change_here(
     requires within { IsWithin (count_in counts.now) (trees_of list.old) }
     ensures made { IfOk result (λ it. (f : FunctionTree) → Tells counts.now f → changed_to it (trees_of list.new) ≡ put (join (trees_of (take at list.old))) (next_here f level (trees_of (drop at list.old)))) }
     ensures kept { IfOk result (λ it. it ≡ None → (list.new ≡ list.old) × (sure.new ≡ sure.old)) }
-    ensures alike { IfOk result (λ it. IsSaid it sure.new (λ g. AreAlike g (trees_of list.old) (trees_of list.new))) }
+    ensures alike { IfOk result (λ it. IsSaid it sure.new (λ g. AreAlike counts.now g (trees_of list.old) (trees_of list.new))) }
 {
     match find(counts, level, list, at)? {
         Some(change) => {

@@ -144,7 +144,7 @@ fn change_on_either(
     holds: &mut Holds,
 ) -> Result<List<u32>, Memory>
     requires { IsWithin (count_in counts.old) (trees_of first.old) × IsWithin (count_in counts.old) (trees_of second.old) }
-    ensures { IfOk result (λ gs. IsRow (λ f (c : Forest × Forest). next_either f level c.0 c.1) (λ g (c d : Forest × Forest). AreAlikeOf g c.0 c.1 d.0 d.1) (λ f w (c : Forest × Forest). IsWayOf true f level w c.0 c.1) counts.old counts.new gs (reverse way.old) (reverse way.new) (trees_of first.old, trees_of second.old) (trees_of first.new, trees_of second.new)) }
+    ensures { IfOk result (λ gs. IsRow (λ f (c : Forest × Forest). next_either f level c.0 c.1) (λ s g (c d : Forest × Forest). AreAlikeOf s g c.0 c.1 d.0 d.1) (λ f w (c : Forest × Forest). IsWayOf true f level w c.0 c.1) counts.old counts.new gs (reverse way.old) (reverse way.new) (trees_of first.old, trees_of second.old) (trees_of first.new, trees_of second.new)) }
 {
     if next_step(way) > 0 {
         let slots = change_on(alloc, counts, level, second, way, holds)?;

@@ -51,7 +51,7 @@ fn change_list(
     requires { IsWithin (count_in counts.now) (trees_of list.old) }
     ensures made { IfOk result (λ it. (f : FunctionTree) → Tells counts.now f → IsWay sure.old f level (reverse way.old) (trees_of list.old) → changed_to it (trees_of list.new) ≡ next_list f level (trees_of list.old)) }
     ensures kept { IfOk result (λ it. it ≡ None → list.new ≡ list.old) }
-    ensures alike { IfOk result (λ it. IsSaid it sure.new (λ g. AreAlike g (trees_of list.old) (trees_of list.new))) }
+    ensures alike { IfOk result (λ it. IsSaid it sure.new (λ g. AreAlike counts.now g (trees_of list.old) (trees_of list.new))) }
     ensures way { IfOk result (λ it. LeadsOn counts.now it (λ g. g) (λ f. IsWay sure.old f level (reverse way.old) (trees_of list.old)) (λ (g : ℕ) h. IsWay sure.new h level (reverse way.new) (trees_of list.new))) }
 {
     let inside = deeper(level)?;
@@ -83,7 +83,7 @@ fn change_at(
     requires within { IsWithin (count_in counts.now) (trees_of list.old) }
     ensures made { IfOk result (λ it. (f : FunctionTree) → Tells counts.now f → IsWayAt sure.old f level (reverse way.old) (trees_of (drop at list.old)) → changed_to it (trees_of list.new) ≡ put (join (trees_of (take at list.old))) (next_at f level (trees_of (drop at list.old)))) }
     ensures kept { IfOk result (λ it. it ≡ None → list.new ≡ list.old) }
-    ensures alike { IfOk result (λ it. IsSaid it sure.new (λ g. AreAlike g (trees_of list.old) (trees_of list.new))) }
+    ensures alike { IfOk result (λ it. IsSaid it sure.new (λ g. AreAlike counts.now g (trees_of list.old) (trees_of list.new))) }
     ensures way { IfOk result (λ it. LeadsOn counts.now it (λ g. g) (λ f. IsWayAt sure.old f level (reverse way.old) (trees_of (drop at list.old))) (λ (g : ℕ) h. IsWayAt sure.new h level (reverse way.new) (trees_of (drop at list.new)))) }
 {
     if was_asked(way, *sure) {
@@ -108,7 +108,7 @@ fn change_asked(
     requires within { IsWithin (count_in counts.now) (trees_of list.old) }
     ensures made { IfOk result (λ it. (f : FunctionTree) → Tells counts.now f → IsWayAt sure.old f level (reverse way.old) (trees_of (drop at list.old)) → changed_to it (trees_of list.new) ≡ put (join (trees_of (take at list.old))) (next_at f level (trees_of (drop at list.old)))) }
     ensures kept { IfOk result (λ it. it ≡ None → list.new ≡ list.old) }
-    ensures alike { IfOk result (λ it. IsSaid it sure.new (λ g. AreAlike g (trees_of list.old) (trees_of list.new))) }
+    ensures alike { IfOk result (λ it. IsSaid it sure.new (λ g. AreAlike counts.now g (trees_of list.old) (trees_of list.new))) }
     ensures way { IfOk result (λ it. LeadsOn counts.now it (λ g. g) (λ f. IsWayAt sure.old f level (reverse way.old) (trees_of (drop at list.old))) (λ (g : ℕ) h. IsWayAt sure.new h level (reverse way.new) (trees_of (drop at list.new)))) }
 {
     let here = change_here(alloc, counts, level, list, at, sure, holds)?;
@@ -135,7 +135,7 @@ fn change_within(
     requires within { IsWithin (count_in counts.now) (trees_of list.old) }
     ensures made { IfOk result (λ it. (f : FunctionTree) → Tells counts.now f → next_here f level (trees_of (drop at list.old)) ≡ None → IsWayAt sure.old f level (reverse way.old) (trees_of (drop at list.old)) → changed_to it (trees_of list.new) ≡ put (join (trees_of (take at list.old))) (next_at f level (trees_of (drop at list.old)))) }
     ensures kept { IfOk result (λ it. it ≡ None → list.new ≡ list.old) }
-    ensures alike { IfOk result (λ it. IsSaid it sure.new (λ g. AreAlike g (trees_of list.old) (trees_of list.new))) }
+    ensures alike { IfOk result (λ it. IsSaid it sure.new (λ g. AreAlike counts.now g (trees_of list.old) (trees_of list.new))) }
     ensures way { IfOk result (λ it. LeadsOn counts.now it (λ g. g) (λ f. (next_here f level (trees_of (drop at list.old)) ≡ None) × IsWayAt sure.old f level (reverse way.old) (trees_of (drop at list.old))) (λ (g : ℕ) h. IsWayAt sure.new h level (reverse way.new) (trees_of (drop at list.new)))) }
 {
     change_item(alloc, counts, level, list.at_mut(at), way, sure, holds)
@@ -155,7 +155,7 @@ pub fn change_item(
     requires { AreWithin (count_in counts.now) (tree_at item.old) }
     ensures made { IfOk result (λ it. (f : FunctionTree) → Tells counts.now f → IsWayIn sure.old f level (reverse way.old) (tree_at item.old) → changed_to it (tree_at item.new) ≡ next_item f level (tree_at item.old)) }
     ensures kept { IfOk result (λ it. it ≡ None → item.new ≡ item.old) }
-    ensures alike { IfOk result (λ it. IsSaid it sure.new (λ g. IsAlike g (tree_at item.old) (tree_at item.new))) }
+    ensures alike { IfOk result (λ it. IsSaid it sure.new (λ g. IsAlike counts.now g (tree_at item.old) (tree_at item.new))) }
     ensures way { IfOk result (λ it. LeadsOn counts.now it (λ g. g) (λ f. IsWayIn sure.old f level (reverse way.old) (tree_at item.old)) (λ (g : ℕ) h. IsWayIn sure.new h level (reverse way.new) (tree_at item.new))) }
 {
     match mem::replace(item, Item::Break) {
@@ -211,7 +211,7 @@ fn change_either(
     requires { IsWithin (count_in counts.now) (trees_of first.old) × IsWithin (count_in counts.now) (trees_of second.old) }
     ensures made { IfOk result (λ it. (f : FunctionTree) → Tells counts.now f → IsWayOf sure.old f level (reverse way.old) (trees_of first.old) (trees_of second.old) → changed_to it (trees_of first.new, trees_of second.new) ≡ next_either f level (trees_of first.old) (trees_of second.old)) }
     ensures kept { IfOk result (λ it. it ≡ None → (first.new ≡ first.old) × (second.new ≡ second.old)) }
-    ensures alike { IfOk result (λ it. IsSaid it sure.new (λ g. AreAlikeOf g (trees_of first.old) (trees_of second.old) (trees_of first.new) (trees_of second.new))) }
+    ensures alike { IfOk result (λ it. IsSaid it sure.new (λ g. AreAlikeOf counts.now g (trees_of first.old) (trees_of second.old) (trees_of first.new) (trees_of second.new))) }
     ensures way { IfOk result (λ it. LeadsOn counts.now it (λ g. g) (λ f. IsWayOf sure.old f level (reverse way.old) (trees_of first.old) (trees_of second.old)) (λ (g : ℕ) h. IsWayOf sure.new h level (reverse way.new) (trees_of first.new) (trees_of second.new))) }
 {
     if next_step(way) > 0 {
@@ -240,7 +240,7 @@ fn change_second(
     requires { IsWithin (count_in counts.now) (trees_of second.old) }
     ensures made { IfOk result (λ it. (f : FunctionTree) → Tells counts.now f → IsWay sure.old f level (reverse way.old) (trees_of second.old) → changed_to it (trees_of second.new) ≡ next_list f level (trees_of second.old)) }
     ensures kept { IfOk result (λ it. it ≡ None → second.new ≡ second.old) }
-    ensures alike { IfOk result (λ it. IsSaid it sure.new (λ g. AreAlike g (trees_of second.old) (trees_of second.new))) }
+    ensures alike { IfOk result (λ it. IsSaid it sure.new (λ g. AreAlike counts.now g (trees_of second.old) (trees_of second.new))) }
     ensures way { IfOk result (λ it. LeadsOn counts.now it (λ g. g) (λ f. IsWay sure.old f level (reverse way.old) (trees_of second.old)) (λ (g : ℕ) h. (w : List ℕ) × (reverse way.new ≡ 1 ∷ w) × IsWay sure.new h level w (trees_of second.new))) }
 {
     let change = change_list(alloc, counts, level, second, way, sure, holds)?;
@@ -264,7 +264,7 @@ fn change_sections(
     requires { AreSectionsWithin (count_in counts.now) (sections_of sections.old) }
     ensures made { IfOk result (λ it. (f : FunctionTree) → Tells counts.now f → IsWayThrough sure.old f level (reverse way.old) (sections_of sections.old) → changed_to it (sections_of sections.new) ≡ next_sections f level (sections_of sections.old)) }
     ensures kept { IfOk result (λ it. it ≡ None → sections.new ≡ sections.old) }
-    ensures alike { IfOk result (λ it. IsSaid it sure.new (λ g. AreSectionsAlike g (sections_of sections.old) (sections_of sections.new))) }
+    ensures alike { IfOk result (λ it. IsSaid it sure.new (λ g. AreSectionsAlike counts.now g (sections_of sections.old) (sections_of sections.new))) }
     ensures way { IfOk result (λ it. LeadsOn counts.now it (λ g. g) (λ f. IsWayThrough sure.old f level (reverse way.old) (sections_of sections.old)) (λ (g : ℕ) h. IsWayThrough sure.new h level (reverse way.new) (sections_of sections.new))) }
 {
     let mut i = next_step(way);
@@ -294,7 +294,7 @@ fn change_section(
     ensures made { IfOk result (λ it. (f : FunctionTree) → Tells counts.now f → IsWay sure.old f level (reverse way.old) (trees_of (list_of section.old)) → changed_to it (trees_of (list_of section.new)) ≡ next_list f level (trees_of (list_of section.old))) }
     ensures rest { IfOk result (λ it. section.new ≡ with_list (list_of section.new) section.old) }
     ensures kept { IfOk result (λ it. it ≡ None → section.new ≡ section.old) }
-    ensures alike { IfOk result (λ it. IsSaid it sure.new (λ g. AreAlike g (trees_of (list_of section.old)) (trees_of (list_of section.new)))) }
+    ensures alike { IfOk result (λ it. IsSaid it sure.new (λ g. AreAlike counts.now g (trees_of (list_of section.old)) (trees_of (list_of section.new)))) }
     ensures way { IfOk result (λ it. LeadsOn counts.now it (λ g. g) (λ f. IsWay sure.old f level (reverse way.old) (trees_of (list_of section.old))) (λ (g : ℕ) h. IsWay sure.new h level (reverse way.new) (trees_of (list_of section.new)))) }
 {
     change_list(alloc, counts, level, &mut section.list, way, sure, holds)

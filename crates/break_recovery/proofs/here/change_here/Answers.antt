@@ -30,10 +30,10 @@ returns-in_ok-make-in-Some c =
           ∙ here_changed f c.args.level (trees_of (drop at xs)) (join (trees_of (take at xs))) (count_in c.args.counts.now) (fun_ext h)
           _ c.in_ok-change.ensures r (trees_of ys) c.in-Some.is c.in_ok-make-in-Some.ensures;
       kept = λ e. some_none g e;
-      alike = said_here g c.in_ok-held-in-Some.held (λ g. AreAlike g (trees_of xs) (trees_of ys))
-          (λ i. subst (λ g. AreAlike g (trees_of xs) (trees_of ys)) (sym c.slot_of.ensures)
-          (here_alike (count_in c.args.counts.now) c.args.level xs ys at x r c.requires.place e (sym c.in_ok-change.ensures ∙ c.in-Some.is)
-          (held_left r (tree_at x) c.turned_by-turned.result xs (at + 1) c.turned_by-turned.ensures (c.in_ok-held-in-Some.ensures i))
+      alike = said_here g c.in_ok-held-in-Some.held (λ g. AreAlike c.args.counts.now g (trees_of xs) (trees_of ys))
+          (λ i. subst (λ g. AreAlike c.args.counts.now g (trees_of xs) (trees_of ys)) (sym c.slot_of.ensures)
+          (here_alike c.args.counts.now (count_in c.args.counts.now) c.args.level xs ys at x r c.requires.place e (sym c.in_ok-change.ensures ∙ c.in-Some.is)
+          (held_left c.args.counts.now r (tree_at x) c.turned_by-turned.result xs (at + 1) c.turned_by-turned.ensures (c.in_ok-held-in-Some.ensures i))
           c.in_ok-make-in-Some.ensures));
     }
 

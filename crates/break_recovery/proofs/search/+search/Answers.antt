@@ -73,8 +73,8 @@ change_list-returns-then-is_some t c =
           (at_told f n m i xs c.loop-i.list s (trees_of ys) e q
           (c.in_ok-change.ensures.made f h (premise_at c.loop-i.sure f n m i xs c.loop-i.list (reverse c.loop-i.way) e q v.1))) v.0;
       kept = an_answer s o;
-      alike = said_more s c.change_at.new.sure (λ g. AreAlike g (trees_of c.loop-i.list) (trees_of ys)) (λ g. AreAlike g (trees_of xs) (trees_of ys))
-          (λ g. subst (λ zs. AreAlike g (trees_of zs) (trees_of ys)) q) c.in_ok-change.ensures.alike;
+      alike = said_more s c.change_at.new.sure (λ g. AreAlike c.args.counts.now g (trees_of c.loop-i.list) (trees_of ys)) (λ g. AreAlike c.args.counts.now g (trees_of xs) (trees_of ys))
+          (λ g. subst (λ zs. AreAlike c.args.counts.now g (trees_of zs) (trees_of ys)) q) c.in_ok-change.ensures.alike;
       way = λ g r f h d l z p.
           let v = c.loop-i.invariant.1 f d
           (list_stepped c.args.sure.now f n c.next_step-i.result (reverse c.args.way.now) (reverse c.next_step-i.new.way) xs c.next_step-i.ensures p) in
@@ -163,8 +163,8 @@ change_asked-returns t c =
           c.change_within.ensures.made;
       kept = if_ok_more c.change_within.result _ _ (λ it k e. k e ∙ q.0) c.change_within.ensures.kept;
       alike = if_ok_more c.change_within.result _ _
-          (λ it k. said_more it c.change_within.new.sure (λ g. AreAlike g (trees_of ys) r) (λ g. AreAlike g (trees_of xs) r)
-          (λ g. subst (λ zs. AreAlike g (trees_of zs) r) q.0) k)
+          (λ it k. said_more it c.change_within.new.sure (λ g. AreAlike c.args.counts.now g (trees_of ys) r) (λ g. AreAlike c.args.counts.now g (trees_of xs) r)
+          (λ g. subst (λ zs. AreAlike c.args.counts.now g (trees_of zs) r) q.0) k)
           c.change_within.ensures.alike;
       way = if_ok_more c.change_within.result _ _ (λ it k g e f h d l z p. k g e f h d l z (u f d, v f p)) c.change_within.ensures.way;
     }
@@ -196,11 +196,11 @@ change_within-returns t c =
           c.change_item.ensures.made;
       kept = if_ok_more c.change_item.result _ _ (λ it k i. ap (slice_set xs at) (k i) ∙ set_same xs at x c.at_mut.ensures.value) c.change_item.ensures.kept;
       alike = if_ok_more c.change_item.result _ _
-          (λ it k. said_more it sure (λ g. IsAlike g (tree_at x) (tree_at y)) (λ g. AreAlike g (trees_of xs) (trees_of (slice_set xs at y)))
-          (λ g. alike_set g xs at x y c.requires.place e) k)
+          (λ it k. said_more it sure (λ g. IsAlike c.args.counts.now g (tree_at x) (tree_at y)) (λ g. AreAlike c.args.counts.now g (trees_of xs) (trees_of (slice_set xs at y)))
+          (λ g. alike_set c.args.counts.now g xs at x y c.requires.place e) k)
           c.change_item.ensures.alike;
       way = if_ok_both c.change_item.result _ _ _
-          (λ it a k g r f h d l z p. item_goes_in sure f h g l z n at w xs x y c.requires.place e (a g r) c.args.counts.now d
+          (λ it a k g r f h d l z p. item_goes_in sure f h g l z n at w xs x y c.requires.place e c.args.counts.now (a g r) d
           (within_apart (count_in c.args.counts.now) (trees_of xs) c.requires.within) p.0
           (k g r f h d l z (i f n at v xs xs x c.requires.place e refl p.1)))
           c.change_item.ensures.alike c.change_item.ensures.way;
@@ -233,7 +233,7 @@ change_either-returns-then-next_step-gt0 t c =
           second_alone f n a b r it u.0 (m f h u.1)) c.change_second.ensures.made;
       kept = if_ok_more c.change_second.result _ _ (λ it m e. (refl, m e)) c.change_second.ensures.kept;
       alike = if_ok_more c.change_second.result _ _
-          (λ it m. said_more it c.change_second.new.sure (λ g. AreAlike g b r) (λ g. AreAlikeOf g a b a r) (λ g q. inr (refl, q)) m)
+          (λ it m. said_more it c.change_second.new.sure (λ g. AreAlike c.args.counts.now g b r) (λ g. AreAlikeOf c.args.counts.now g a b a r) (λ g q. inr (refl, q)) m)
           c.change_second.ensures.alike;
       way = if_ok_more c.change_second.result _ _
           (λ it m g e f h d l y p.
@@ -257,7 +257,7 @@ change_either-returns-then-is_some t c =
     record {
       made = λ f h p. first_changed f n a b r s (c.in_ok-change.ensures.made f h (step_in_first c.args.sure.now f n k v w a b z c.next_step.ensures p)) o;
       kept = an_answer s o;
-      alike = said_more s u (λ g. AreAlike g a r) (λ g. AreAlikeOf g a b r b) (λ g q. inl (q, refl)) c.in_ok-change.ensures.alike;
+      alike = said_more s u (λ g. AreAlike c.args.counts.now g a r) (λ g. AreAlikeOf c.args.counts.now g a b r b) (λ g q. inl (q, refl)) c.in_ok-change.ensures.alike;
       way = λ g e f h d l y p. first_out u h n c.push.new.self c.change_list.new.way r b c.in_ok-push.ensures.ok
           (c.in_ok-change.ensures.way g e f h d l y (step_in_first c.args.sure.now f n k v w a b z c.next_step.ensures p));
     }
@@ -285,7 +285,7 @@ change_either-returns t c =
           c.change_second-2.ensures.made;
       kept = if_ok_more c.change_second-2.result _ _ (λ it m e. (q, m e)) c.change_second-2.ensures.kept;
       alike = if_ok_more c.change_second-2.result _ _
-          (λ it m. said_more it c.change_second-2.new.sure (λ g. AreAlike g b r) (λ g. AreAlikeOf g a b (trees_of c.change_list.new.list) r)
+          (λ it m. said_more it c.change_second-2.new.sure (λ g. AreAlike c.args.counts.now g b r) (λ g. AreAlikeOf c.args.counts.now g a b (trees_of c.change_list.new.list) r)
           (λ g p. inr (ap trees_of q, p)) m) c.change_second-2.ensures.alike;
       way = if_ok_more c.change_second-2.result _ _
           (λ it m g e f h d l y p. subst (λ xs. IsWayOf c.change_second-2.new.sure h n u (trees_of xs) r) (sym q)
@@ -383,10 +383,10 @@ change_sections-returns-then-is_some t c =
           (c.in_ok-change.ensures.made f h (subst (IsWay c.loop-i.sure f n (reverse c.loop-i.way)) (list_there_is i cs s l (entry_is cs i s found)) v.1)))
           (a_slot c.in_ok-change.change (sections_of (slice_set cs i r)) o) (quiet_go f n i cs v.0);
       kept = an_answer c.in_ok-change.change o;
-      alike = said_more k u (λ g. AreAlike g (trees_of (list_of s)) (trees_of (list_of r)))
-          (λ g. AreSectionsAlike g (sections_of cs) (sections_of (slice_set c.loop-i.sections i r)))
-          (λ g p. subst (λ ys. AreSectionsAlike g (sections_of cs) (sections_of (slice_set ys i r))) (sym q)
-          (sections_alike g cs i s r l (entry_is cs i s found) p)) c.in_ok-change.ensures.alike;
+      alike = said_more k u (λ g. AreAlike c.args.counts.now g (trees_of (list_of s)) (trees_of (list_of r)))
+          (λ g. AreSectionsAlike c.args.counts.now g (sections_of cs) (sections_of (slice_set c.loop-i.sections i r)))
+          (λ g p. subst (λ ys. AreSectionsAlike c.args.counts.now g (sections_of cs) (sections_of (slice_set ys i r))) (sym q)
+          (sections_alike c.args.counts.now g cs i s r l (entry_is cs i s found) p)) c.in_ok-change.ensures.alike;
       way = λ x e f h d m y p.
           let v = c.loop-i.invariant.1 f d
           (step_in_sections c.args.sure.now f n c.next_step-i.result (reverse c.args.way.now) (reverse c.next_step-i.new.way) (sections_of cs)
@@ -471,10 +471,10 @@ change_item-returns-in-If t c =
           c.change_either-change.ensures.kept;
       alike = if_ok_more c.change_either-change.result _ _
           (λ it k. said_more it c.change_either-change.new.sure
-          (λ g. AreAlikeOf g (trees_of c.in-If.a) (trees_of c.in-If.b) (trees_of c.change_either-change.new.first)
+          (λ g. AreAlikeOf c.args.counts.now g (trees_of c.in-If.a) (trees_of c.in-If.b) (trees_of c.change_either-change.new.first)
           (trees_of c.change_either-change.new.second))
-          (λ g. IsAlike g (tree_at x) (tree_at (If c.in-If.test c.change_either-change.new.first c.change_either-change.new.second)))
-          (λ g. if_is_alike g x c.in-If.test c.in-If.a c.in-If.b c.change_either-change.new.first c.change_either-change.new.second e) k)
+          (λ g. IsAlike c.args.counts.now g (tree_at x) (tree_at (If c.in-If.test c.change_either-change.new.first c.change_either-change.new.second)))
+          (λ g. if_is_alike c.args.counts.now g x c.in-If.test c.in-If.a c.in-If.b c.change_either-change.new.first c.change_either-change.new.second e) k)
           c.change_either-change.ensures.alike;
       way = if_ok_more c.change_either-change.result _ _
           (λ it k g r f h d l z p. if_out c.change_either-change.new.sure h n w c.in-If.test c.change_either-change.new.first
@@ -496,9 +496,9 @@ change_item-returns-in-While t c =
           c.change_list-change.ensures.made;
       kept = if_ok_more c.change_list-change.result _ _ (λ it k d. ap (While c.in-While.test) (k d) ∙ sym e) c.change_list-change.ensures.kept;
       alike = if_ok_more c.change_list-change.result _ _
-          (λ it k. said_more it c.change_list-change.new.sure (λ g. AreAlike g (trees_of c.in-While.a) (trees_of c.change_list-change.new.list))
-          (λ g. IsAlike g (tree_at x) (tree_at (While c.in-While.test c.change_list-change.new.list)))
-          (λ g. while_is_alike g x c.in-While.test c.in-While.a c.change_list-change.new.list e) k)
+          (λ it k. said_more it c.change_list-change.new.sure (λ g. AreAlike c.args.counts.now g (trees_of c.in-While.a) (trees_of c.change_list-change.new.list))
+          (λ g. IsAlike c.args.counts.now g (tree_at x) (tree_at (While c.in-While.test c.change_list-change.new.list)))
+          (λ g. while_is_alike c.args.counts.now g x c.in-While.test c.in-While.a c.change_list-change.new.list e) k)
           c.change_list-change.ensures.alike;
       way = if_ok_more c.change_list-change.result _ _
           (λ it k g r f h d l z p. while_out c.change_list-change.new.sure h n w c.in-While.test c.change_list-change.new.list
@@ -523,9 +523,9 @@ change_item-returns-in-Do t c =
           c.change_list-change-in-Do.ensures.kept;
       alike = if_ok_more c.change_list-change-in-Do.result _ _
           (λ it k. said_more it c.change_list-change-in-Do.new.sure
-          (λ g. AreAlike g (trees_of c.in-Do.a) (trees_of c.change_list-change-in-Do.new.list))
-          (λ g. IsAlike g (tree_at x) (tree_at (Do c.change_list-change-in-Do.new.list c.in-Do.test)))
-          (λ g. do_is_alike g x c.in-Do.test c.in-Do.a c.change_list-change-in-Do.new.list e) k)
+          (λ g. AreAlike c.args.counts.now g (trees_of c.in-Do.a) (trees_of c.change_list-change-in-Do.new.list))
+          (λ g. IsAlike c.args.counts.now g (tree_at x) (tree_at (Do c.change_list-change-in-Do.new.list c.in-Do.test)))
+          (λ g. do_is_alike c.args.counts.now g x c.in-Do.test c.in-Do.a c.change_list-change-in-Do.new.list e) k)
           c.change_list-change-in-Do.ensures.alike;
       way = if_ok_more c.change_list-change-in-Do.result _ _
           (λ it k g r f h d l z p. do_out c.change_list-change-in-Do.new.sure h n w c.in-Do.test c.change_list-change-in-Do.new.list
@@ -550,11 +550,11 @@ change_item-returns-in-For t c =
           c.change_either-change-in-For.ensures.kept;
       alike = if_ok_more c.change_either-change-in-For.result _ _
           (λ it k. said_more it c.change_either-change-in-For.new.sure
-          (λ g. AreAlikeOf g (trees_of c.in-For.first) (trees_of c.in-For.a) (trees_of c.change_either-change-in-For.new.first)
+          (λ g. AreAlikeOf c.args.counts.now g (trees_of c.in-For.first) (trees_of c.in-For.a) (trees_of c.change_either-change-in-For.new.first)
           (trees_of c.change_either-change-in-For.new.second))
-          (λ g. IsAlike g (tree_at x)
+          (λ g. IsAlike c.args.counts.now g (tree_at x)
           (tree_at (For c.change_either-change-in-For.new.first c.in-For.test c.in-For.third c.change_either-change-in-For.new.second)))
-          (λ g. for_is_alike g x c.in-For.first c.in-For.test c.in-For.third c.in-For.a c.change_either-change-in-For.new.first
+          (λ g. for_is_alike c.args.counts.now g x c.in-For.first c.in-For.test c.in-For.third c.in-For.a c.change_either-change-in-For.new.first
           c.change_either-change-in-For.new.second e) k)
           c.change_either-change-in-For.ensures.alike;
       way = if_ok_more c.change_either-change-in-For.result _ _
@@ -581,8 +581,8 @@ change_item-returns-in-Switch t c =
           (λ it k d. ap (Switch c.in-Switch.selector) (k d) ∙ sym e)
           c.change_sections-change.ensures.kept;
       alike = if_ok_more c.change_sections-change.result _ _
-          (λ it k. said_more it c.change_sections-change.new.sure (λ g. AreSectionsAlike g (sections_of c.in-Switch.sections) (sections_of r))
-          (λ g. IsAlike g (tree_at x) (tree_at (Switch c.in-Switch.selector r))) (λ g. switch_is_alike g x c.in-Switch.selector c.in-Switch.sections r e) k)
+          (λ it k. said_more it c.change_sections-change.new.sure (λ g. AreSectionsAlike c.args.counts.now g (sections_of c.in-Switch.sections) (sections_of r))
+          (λ g. IsAlike c.args.counts.now g (tree_at x) (tree_at (Switch c.in-Switch.selector r))) (λ g. switch_is_alike c.args.counts.now g x c.in-Switch.selector c.in-Switch.sections r e) k)
           c.change_sections-change.ensures.alike;
       way = if_ok_more c.change_sections-change.result _ _
           (λ it k g u f h d l z p. switch_out c.change_sections-change.new.sure h n w c.in-Switch.selector r
@@ -605,9 +605,9 @@ change_item-returns-in-Block t c =
       kept = if_ok_more c.change_list-change-in-Block.result _ _ (λ it k d. ap Block (k d) ∙ sym e) c.change_list-change-in-Block.ensures.kept;
       alike = if_ok_more c.change_list-change-in-Block.result _ _
           (λ it k. said_more it c.change_list-change-in-Block.new.sure
-          (λ g. AreAlike g (trees_of c.in-Block.a) (trees_of c.change_list-change-in-Block.new.list))
-          (λ g. IsAlike g (tree_at x) (tree_at (Block c.change_list-change-in-Block.new.list)))
-          (λ g. block_is_alike g x c.in-Block.a c.change_list-change-in-Block.new.list e) k)
+          (λ g. AreAlike c.args.counts.now g (trees_of c.in-Block.a) (trees_of c.change_list-change-in-Block.new.list))
+          (λ g. IsAlike c.args.counts.now g (tree_at x) (tree_at (Block c.change_list-change-in-Block.new.list)))
+          (λ g. block_is_alike c.args.counts.now g x c.in-Block.a c.change_list-change-in-Block.new.list e) k)
           c.change_list-change-in-Block.ensures.alike;
       way = if_ok_more c.change_list-change-in-Block.result _ _
           (λ it k g r f h d l z p. block_out c.change_list-change-in-Block.new.sure h n w c.change_list-change-in-Block.new.list
