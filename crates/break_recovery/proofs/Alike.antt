@@ -8,6 +8,7 @@ use Rattle.c_tree.specs.ExpressionTrees.{ExpressionTree, Typed, Var, Assign}
 use Rattle.c_tree.specs.TestTrees.{TestTree, SelectorTree, Source}
 use Rattle.c_tree.specs.Trees.{Tree, Forest, Nil, Then, Sections, Section, Evaluate, If, While, Do, For, Switch, Block, Break, Continue}
 use Rattle.jump_meaning.specs.Code.{FunctionTree}
+use Rattle.plain_laws.proofs.PlainShown.{first_true}
 use Rattle.tidy_laws.specs.Tails.{is_check, is_end}
 use Rattle.tidy_laws.specs.Mentions.{lacks}
 use Rattle.tidy_laws.specs.Changes.{is_narrow_expression, set_value, low_set, checks, are_low, is_low, is_number, tailed}
@@ -23,9 +24,10 @@ use Rattle.tidy_loops.proofs.ExitCounts.{check_most, checks_in_most, checks_of_m
 use Rattle.tidy_loops.proofs.Outside.{stop_one, last_one, outside_test, outside_reset}
 use Rattle.break_recovery.specs.Steady.{turned, item_turned, is_turned, HasItems, ShowsAlike, ItemShowsAlike, NamesOtherwise, NeedsOtherwise, IsKept, ItemIsKept, AreAlike, AreAlikeOf, SectionsKept, AreSectionsAlike, AsksAlike, IsAlike}
 use Rattle.break_recovery.proofs.Less.{broken_less, continued_less}
-use Rattle.break_recovery.proofs.Within.{is_less}
+use Rattle.break_recovery.proofs.Within.{is_less, is_some_slot}
 use Rattle.break_recovery.proofs.Stays.{first_none, second_none, both_none, unslot, slot_none, refused, allowed_still, and_false, counted_none, continue_still}
 use Rattle.break_recovery.proofs.SteadyChanges.{tailed_checks, turned_front, front_checks}
+use Rattle.break_recovery.proofs.ExitsTold.{allowed_so}
 
 pub or_more : {P Q R : Type 0} → P ⊎ Q → (Q → R) → P ⊎ R
 or_more (inl p) f = inl p
@@ -248,7 +250,8 @@ module _ (h : ℕ) (x y z : Tree) (p : IsPlain h x) (q : IsPlain h y) (r : Shows
       by (inl e) = inl (shows_taken xs e)
       by (inr k) = inr (otherwise_behind h y xs k)
 
-alike_taken : (counts : List ℕ) (g : ℕ) (x y z : Tree) (xs : Forest) → ((h : ℕ) → IsPlain h x) → ((h : ℕ) → IsPlain h y) → reset_slot z ≡ Some g → reset_slot y ≡ None
+alike_taken : (counts : List ℕ) (g : ℕ) (x y z : Tree) (xs : Forest) → ((h : ℕ) → IsPlain h x) → ((h : ℕ) → IsPlain h y) → reset_slot z ≡ Some g →
+    reset_slot y ≡ None
     → ((h : ℕ) → eqb g h ≡ false → item_count h y ≤ item_count h x)
     → ((h : ℕ) → eqb g h ≡ false → (count_in counts h ≡ 0) ⊎ ((checks_of h y ≡ checks_of h x) ⊎ NeedsOtherwise h xs)) →
     AreAlike counts g (Then x (Then z xs)) (Then y xs)
@@ -263,22 +266,6 @@ alike_taken counts g x y z xs p q i n l s h e = or_more (s h e) (λ o. let k = e
     by (Then w ws) m o = (o, kept (but_last (Then w ws)) m)
 
 -- ---- the change at a loop
-
-found_so : (p : ℕ → Bool) (s : Option ℕ) (g : ℕ) → allowed p s ≡ Some g → (s ≡ Some g) × (p g ≡ true)
-found_so p None g e = none_some g e
-found_so p (Some x) g e = by (p x) refl
-  where
-    by : (b : Bool) → p x ≡ b → (Some x ≡ Some g) × (p g ≡ true)
-    by true k = let r : Some x ≡ Some g = sym (ap (λ b. cond b (Some x) None) k) ∙ e in (r, sym (ap p (it_is true x g r)) ∙ k)
-    by false k = none_some g (sym (ap (λ b. cond b (Some x) None) k) ∙ e)
-
-first_so : (a b : Bool) → (a && b) ≡ true → a ≡ true
-first_so true b e = refl
-first_so false b e = e
-
-is_that : (g : ℕ) (s : Option ℕ) → is_it g s ≡ true → s ≡ Some g
-is_that g None e = cc
-is_that g (Some x) e = ap Some (eqb-true x g e)
 
 while_plain : (t : TestTree) (a : Forest) (h : ℕ) → IsPlain h (While t a)
 while_plain t a h = record { exits = refl; low = λ n. refl; check = refl }
@@ -303,13 +290,13 @@ module _ (counts : List ℕ) (c : ℕ → ℕ) (n g : ℕ) where
       ((h : ℕ) → IsPlain h y) → reset_slot y ≡ None → ((h : ℕ) → eqb g h ≡ false → item_count h y ≤ item_count h x)
       → ((h : ℕ) → eqb g h ≡ false → (count_in counts h ≡ 0) ⊎ ((checks_of h y ≡ checks_of h x) ⊎ NeedsOtherwise h (but_first xs))) →
       AreAlike counts g (Then x xs) (Then y (but_first xs))
-  before_taken x y a Nil s i p q r l k = absurd (no (found_so (breaks c n a Nil) s g i).1)
+  before_taken x y a Nil s i p q r l k = absurd (no (allowed_so (breaks c n a Nil) s g i).1)
     where
       no : breaks c n a Nil g ≡ true → ⊥
       no e = cc
   before_taken x y a (Then z zs) s i p q r l k =
-      alike_taken counts g x y z zs p q (is_that g (reset_slot z) (first_so (is_it g (reset_slot z)) (are_low g n a && eqb (c g) (3 + exits_in g a))
-      (found_so (breaks c n a (Then z zs)) s g i).1)) r l k
+      alike_taken counts g x y z zs p q (is_some_slot g (reset_slot z) (first_true (is_it g (reset_slot z)) (are_low g n a && eqb (c g) (3 + exits_in g a))
+      (allowed_so (breaks c n a (Then z zs)) s g i).1)) r l k
 
   pub broken_alike : (x : Tree) (xs : Forest) → break_slot c n x xs ≡ Some g → ((h : ℕ) → eqb g h ≡ false → IsLeftAlone counts g h x (but_first xs)) →
       AreAlike counts g (Then x xs) (Then (broken g x) (but_first xs))
@@ -326,7 +313,7 @@ module _ (counts : List ℕ) (c : ℕ → ℕ) (n g : ℕ) where
   kept_front : (a : Forest) → allowed (continues c n (but_last a)) (last_reset a) ≡ Some g → (h : ℕ) → eqb g h ≡ false →
       is_turned h (turned g a) ≡ false → checks_in h (tailed g Continue (but_last a)) ≡ checks_in h a
   kept_front a i h e u = tailed_checks g h e Continue refl (but_last a) (turned_front g h a u) ∙
-      front_checks h g a (found_so (continues c n (but_last a)) (last_reset a) g i).0
+      front_checks h g a (allowed_so (continues c n (but_last a)) (last_reset a) g i).0
 
   front_kept : (x y : Tree) (a : Forest) → ((h : ℕ) → IsPlain h x) → ((h : ℕ) → IsPlain h y) → ((h : ℕ) → checks_of h x ≡ checks_in h a) →
       ((h : ℕ) → checks_of h y ≡ checks_in h (tailed g Continue (but_last a))) → allowed (continues c n (but_last a)) (last_reset a) ≡ Some g → (xs : Forest) →
@@ -479,18 +466,22 @@ while_asks counts g t a b q f h v l z n xs w e =
     let r = asked_none f n (While t a) xs e in
     none_asked h n (While t b) xs (
       break_asked counts g a b q (counts_of f) (counts_of h) l z (still_none counts f h v l) n xs t (λ k. w k refl) r.0,
-      continue_asked counts g a b q (counts_of f) (counts_of h) l z (still_none counts f h v l) n (λ k. is_less (counts_of f k) _ _ (omega arith) (w k refl)) r.1,
+      continue_asked counts g a b q (counts_of f) (counts_of h) l z (still_none counts f h v l) n
+          (λ k. is_less (counts_of f k) _ _ (omega arith) (w k refl)) r.1,
     )
 
 do_asks : (counts : List ℕ) (g : ℕ) (t : TestTree) (a b : Forest) → AreAlike counts g a b → AsksAlike counts g (Do a t) (Do b t)
 do_asks counts g t a b q f h v l z n xs w e =
     let r = asked_none f n (Do a t) xs e in
     none_asked h n (Do b t) xs (
-      break_asked counts g a b q (counts_of f) (counts_of h) l z (still_none counts f h v l) n xs t (λ k. is_less (counts_of f k) _ _ (omega arith) (w k refl)) r.0,
-      continue_asked counts g a b q (counts_of f) (counts_of h) l z (still_none counts f h v l) n (λ k. is_less (counts_of f k) _ _ (omega arith) (w k refl)) r.1,
+      break_asked counts g a b q (counts_of f) (counts_of h) l z (still_none counts f h v l) n xs t
+          (λ k. is_less (counts_of f k) _ _ (omega arith) (w k refl)) r.0,
+      continue_asked counts g a b q (counts_of f) (counts_of h) l z (still_none counts f h v l) n
+          (λ k. is_less (counts_of f k) _ _ (omega arith) (w k refl)) r.1,
     )
 
-for_asks : (counts : List ℕ) (g : ℕ) (t u : Option ExpressionTree) (a b c d : Forest) → AreAlikeOf counts g a b c d → AsksAlike counts g (For a t u b) (For c t u d)
+for_asks : (counts : List ℕ) (g : ℕ) (t u : Option ExpressionTree) (a b c d : Forest) → AreAlikeOf counts g a b c d →
+    AsksAlike counts g (For a t u b) (For c t u d)
 for_asks counts g t u a b c d (inl (q, k)) f h v l z n xs w e =
     subst (λ w. next_here h n (Then (For c t u w) xs) ≡ None) (sym k)
     (none_asked h n (For c t u b) xs (refl, continue_still (counts_of f) (counts_of h) l n (For a t u b) (asked_none f n (For a t u b) xs e).1))
@@ -514,7 +505,8 @@ kept_plain h x y a b m p q c d i j s = record { less = let l = s.less in omega (
 
 pub while_alike : (counts : List ℕ) (g : ℕ) (t : TestTree) (a b : Forest) → AreAlike counts g a b → IsAlike counts g (While t a) (While t b)
 while_alike counts g t a b q = record {
-  shows = λ h e. or_more (q h e) (λ k. kept_plain h (While t a) (While t b) a b (test_count h t) (while_plain t a h) (while_plain t b h) refl refl refl refl k.0);
+  shows = λ h e. or_more (q h e) (λ k. kept_plain h (While t a) (While t b) a b (test_count h t) (while_plain t a h)
+      (while_plain t b h) refl refl refl refl k.0);
   asks = while_asks counts g t a b q;
   none = refl;
 }
@@ -527,7 +519,8 @@ do_alike counts g t a b q = record {
   none = refl;
 }
 
-pub for_alike : (counts : List ℕ) (g : ℕ) (t u : Option ExpressionTree) (a b c d : Forest) → AreAlikeOf counts g a b c d → IsAlike counts g (For a t u b) (For c t u d)
+pub for_alike : (counts : List ℕ) (g : ℕ) (t u : Option ExpressionTree) (a b c d : Forest) → AreAlikeOf counts g a b c d →
+    IsAlike counts g (For a t u b) (For c t u d)
 for_alike counts g t u a b c d q = record { shows = by q; asks = for_asks counts g t u a b c d q; none = refl }
   where
     first : (h : ℕ) → d ≡ b → IsKeptAll h a c → ItemIsKept h (For a t u b) (For c t u d)

@@ -1,20 +1,20 @@
 -- In the whole body: the changes that fit are those that are allowed.
 use mathlib.Core.Path.{ap₂}
 use Rattle.std.proofs.Common.{ℕ, zero, suc, ◌+◌, ◌-◌, Bool, true, false, cond, ◌&&◌, ◌||◌, eqb, List, [], ◌∷◌, ◌++◌, length, Option, Some, None, option_map, ◌≡◌, refl, sym, ap, ◌∙◌, arith}
-use Rattle.std.specs.Prelude.{filter, pos}
+use Rattle.std.specs.Prelude.{filter}
 use Rattle.std.specs.Option.{option_map_or}
-use Rattle.c_types.specs.declared.kinds.IntKind.TheVariants.{Int}
-use Rattle.c_tree.specs.ExpressionTrees.{ExpressionTree, Typed, Number}
+use Rattle.c_tree.specs.ExpressionTrees.{ExpressionTree}
 use Rattle.c_tree.specs.TestTrees.{TestTree}
 use Rattle.c_tree.specs.Trees.{Tree, Forest, Nil, Then, If, While, Do, For, Switch, Block, Local, Sections, Break, Continue}
 use Rattle.jump_meaning.specs.Code.{FunctionTree, items_of, entry_or}
 use Rattle.jump_meaning.specs.World.{no_slot}
 use Rattle.tidy_laws.specs.Mentions.{list_lacks}
-use Rattle.tidy_laws.specs.Changes.{tailed, are_low, changed_sections, is_reset, with_breaks, second_test, broken_loop, after_reset, both_there, with_continues, before_reset, continued_loop, listed, changed_for, around, changed_lists, changed_items, is_flag, is_number, is_zero_value, is_declaration, undeclared, declares, is_allowed, changes}
-use Rattle.tidy_slots.specs.Counts.{one_if, expression_count, values_count, list_count, item_count}
+use Rattle.tidy_laws.specs.Changes.{tailed, are_low, changed_sections, is_reset, with_breaks, second_test, broken_loop, after_reset, both_there, with_continues, before_reset, continued_loop, listed, changed_for, around, changed_lists, changed_items, is_flag, is_zero_value, is_declaration, undeclared, declares, is_allowed, changes}
+use Rattle.tidy_slots.specs.Counts.{one_if, values_count, list_count, item_count}
 use Rattle.tidy_slots.proofs.CountLemmas.{count_laws_hold}
 use Rattle.tidy_loops.specs.Fits.{fits}
 use Rattle.tidy_loops.proofs.Single.{eqb_same}
+use Rattle.tidy_loops.proofs.AtLoop.{number_count}
 use Rattle.break_recovery.specs.Next.{first, next_list}
 use Rattle.break_recovery.specs.Laws.{SearchLaws}
 use Rattle.break_recovery.proofs.NextLaws.{more, in_if, in_while, in_do, in_for, in_switch, in_block, more_sections}
@@ -149,13 +149,8 @@ lists_keep p k n (Then x xs) =
 
 -- ---- the declaration names it once
 
--- its value names no slot
-zero_count : (g : ℕ) (e : ExpressionTree) → is_number 0 e ≡ true → expression_count g e ≡ 0
-zero_count g (Typed (Some Int) (Number (pos m))) h = refl
-zero_count g _ h = cc
-
 pub zero_values : (g : ℕ) (es : Option (List ExpressionTree)) → is_zero_value es ≡ true → values_count g es ≡ 0
-zero_values g (Some (e ∷ [])) h = let k = zero_count g e h in omega (arith, k)
+zero_values g (Some (e ∷ [])) h = let k = number_count g e h in omega (arith, k)
 zero_values g _ h = cc
 
 pub both_so : (a b : Bool) → (a && b) ≡ true → (a ≡ true) × (b ≡ true)

@@ -1,12 +1,12 @@
 -- Changes one after another: of a function, of what stands at file scope, of a program.
 use mathlib.Core.Path.{ap₂}
-use Rattle.std.proofs.Common.{ℕ, false, if◌then◌else◌, zero, suc, ◌+◌, ◌<◌, ◌≤◌, ◌≡◌, inl, inr, List, [], ◌∷◌, length, Option, Some, None, slice_get, slice_set, refl, sym, ap, subst, ◌∙◌, arith}
+use Rattle.std.proofs.Common.{ℕ, false, if◌then◌else◌, zero, suc, ◌+◌, ◌<◌, ◌≤◌, ◌≡◌, inl, inr, List, [], ◌∷◌, length, Option, Some, None, slice_get, slice_set, refl, sym, ap, subst, ◌∙◌, arith, set-set}
 use Rattle.std.specs.Prelude.{All, map}
 use Rattle.c_tree.specs.declared.tree.Item.{Item}
 use Rattle.c_tree.specs.declared.tree.Function.{Function}
 use Rattle.c_tree.specs.declared.tree.Top.{Top}
 use Rattle.c_tree.specs.declared.tree.Top.TheVariants as T
-use Rattle.c_tree.proofs.PathLemmas.{get_set, set_same, set_set}
+use Rattle.c_tree.proofs.PathLemmas.{get_set, set_same}
 use Rattle.c_tree.specs.declared.tree.Program.{Program}
 use Rattle.jump_meaning.specs.Laws.{IsTopUnflat}
 use Rattle.guard_vars.specs.GuardNames.{guard_names}
@@ -53,7 +53,7 @@ times_at zero us i t u e s c = ap (slice_set us i) c ∙ set_same us i t e
 times_at (suc n) us i t u e s (z, first, rest) = (
   slice_set us i z,
   first_at us i t z e s first,
-  subst (AreChangedTimes n (slice_set us i z)) (set_set us i z u) (times_at n (slice_set us i z) i z u (get_set us i t z e) (settled_set us i z s) rest),
+  subst (AreChangedTimes n (slice_set us i z)) (set-set us i z u) (times_at n (slice_set us i z) i z u (get_set us i t z e) (settled_set us i z s) rest),
 )
 
 pub and_then : (n m : ℕ) (ts us vs : List Top) → AreChangedTimes n ts us → AreChangedTimes m us vs → AreChangedTimes (n + m) ts vs

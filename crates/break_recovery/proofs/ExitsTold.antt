@@ -18,8 +18,9 @@ use Rattle.break_recovery.specs.Exits.{loop_body, exits_of, NamesAtMost, HoldsAt
 use Rattle.break_recovery.specs.declared.steady.Turned.TheVariants as T
 use Rattle.break_recovery.specs.Steady.{item_turned}
 use Rattle.break_recovery.proofs.Lacking.{loop_turned_uncounted, loop_turned_reset}
+use Rattle.break_recovery.proofs.Within.{is_less}
 
-allowed_so : (p : ℕ → Bool) (s : Option ℕ) (g : ℕ) → allowed p s ≡ Some g → (s ≡ Some g) × (p g ≡ true)
+pub allowed_so : (p : ℕ → Bool) (s : Option ℕ) (g : ℕ) → allowed p s ≡ Some g → (s ≡ Some g) × (p g ≡ true)
 allowed_so p None g e = cc
 allowed_so p (Some h) g e = by (p h) refl e
   where
@@ -35,10 +36,6 @@ few_continue : (c i l f e : ℕ) → c ≡ 2 + e → (c ≡ 0) ⊎ (i < c) → l
 few_continue c i l f e q (inl z) h k = absurd (omega (arith, q, z))
 few_continue c i l f e q (inr m) h k = omega (arith, q, m, h, k)
 
-less_too : (c m n : ℕ) → m ≤ n → (c ≡ 0) ⊎ (n < c) → (c ≡ 0) ⊎ (m < c)
-less_too c m n h (inl z) = inl z
-less_too c m n h (inr k) = inr (omega (arith, h, k))
-
 module _ (c : ℕ → ℕ) (n : ℕ) (xs : Forest) (g : ℕ) where
   break_few : (t : TestTree) (a : Forest) → allowed (breaks c n a xs) (stop_slot t) ≡ Some g →
       (c g ≡ 0) ⊎ (test_count g t + list_count g a + one_if (is_it g (first_reset xs)) < c g) → list_count g a ≤ c g - 3
@@ -50,7 +47,7 @@ module _ (c : ℕ → ℕ) (n : ℕ) (xs : Forest) (g : ℕ) where
 
   break_holds : (x : Tree) → IsApart c x xs → break_slot c n x xs ≡ Some g → HoldsAtMost (V.Break g) (c g - 3) x
   break_holds (While t a) w e = (a, refl, break_few t a e (w g refl))
-  break_holds (Do a t) w e = (a, refl, break_few t a e (less_too (c g) _ _ (omega arith) (w g refl)))
+  break_holds (Do a t) w e = (a, refl, break_few t a e (is_less (c g) _ _ (omega arith) (w g refl)))
   break_holds _ w e = cc
 
   continue_few : (a : Forest) (i : ℕ) → allowed (continues c n (but_last a)) (last_reset a) ≡ Some g → (c g ≡ 0) ⊎ (i < c g) → list_count g a ≤ i →

@@ -3,6 +3,7 @@
 use mathlib.Core.Path.{ap₂}
 use Rattle.std.proofs.Common.{ℕ, zero, suc, ◌+◌, ◌-◌, ◌<◌, ◌≤◌, ◌⊎◌, inl, inr, arith, Bool, true, false, cond, ◌||◌, List, [], ◌∷◌, length, drop, get_or, slice_set, Some, None, ◌≡◌, refl, sym, ap, subst, ◌∙◌}
 use Rattle.std.specs.Prelude.{filter}
+use Rattle.std.proofs.lemmas.Bool.{or_parts}
 use Rattle.c_tree.specs.declared.tree.Item.{Item}
 use Rattle.c_tree.specs.Views.{tree_at}
 use Rattle.c_tree.proofs.Views.{trees-at, trees-end}
@@ -42,10 +43,6 @@ true_false : {P : Type 0} (b : Bool) → b ≡ true → b ≡ false → P
 true_false true e k = cc
 true_false false e k = cc
 
-or_none : (a b : Bool) → (a || b) ≡ false → (a ≡ false) × (b ≡ false)
-or_none true b e = cc
-or_none false b e = (refl, e)
-
 declares_join : (g : ℕ) (a b : Forest) → declares g (join a b) ≡ (declares g a || declares g b)
 declares_join g Nil b = refl
 declares_join g (Then x xs) b = ap (λ z. is_declaration g x || z) (declares_join g xs b) ∙ by (is_declaration g x)
@@ -56,20 +53,17 @@ declares_join g (Then x xs) b = ap (λ z. is_declaration g x || z) (declares_joi
 
 none_joined : (a b : Forest) → DeclaresNone (join a b) → DeclaresNone a × DeclaresNone b
 none_joined a b n = (
-  λ g. (or_none (declares g a) (declares g b) (sym (declares_join g a b) ∙ n g)).0,
-  λ g. (or_none (declares g a) (declares g b) (sym (declares_join g a b) ∙ n g)).1,
+  λ g. (or_parts (declares g a) (declares g b) (sym (declares_join g a b) ∙ n g)).0,
+  λ g. (or_parts (declares g a) (declares g b) (sym (declares_join g a b) ∙ n g)).1,
 )
 
 join_none : (a b : Forest) → DeclaresNone a → DeclaresNone b → DeclaresNone (join a b)
 join_none a b n m g = declares_join g a b ∙ ap₂ (λ x y. x || y) (n g) (m g)
 
-none_behind : (x : Tree) (xs : Forest) → DeclaresNone (Then x xs) → DeclaresNone xs
-none_behind x xs n g = (or_none (is_declaration g x) (declares g xs) (n g)).1
-
 undeclared_none : (g : ℕ) (a : Forest) → declares g a ≡ false → undeclared g a ≡ a
 undeclared_none g Nil e = refl
 undeclared_none g (Then x xs) e =
-    let o = or_none (is_declaration g x) (declares g xs) e in
+    let o = or_parts (is_declaration g x) (declares g xs) e in
     ap (λ b. cond b xs (Then x (undeclared g xs))) o.0 ∙ ap (Then x) (undeclared_none g xs o.1)
 
 pub undeclared_join : (g : ℕ) (p r : Forest) → declares g r ≡ false → undeclared g (join p r) ≡ join (undeclared g p) r
@@ -202,7 +196,8 @@ rest_made (g ∷ gs) n start gone counts f p r x y e u d m held (c, next, (like,
     record {
       underway =
           let z : suc n + length gs ≡ n + suc (length gs) = omega arith in
-          subst (λ k. Underway k start (all_marked gone (g ∷ gs)) (without counts (g ∷ gs)) (record f { body = Some (join (all_undeclared gs q) (Then y r)) })) z
+          subst (λ k. Underway k start (all_marked gone (g ∷ gs)) (without counts (g ∷ gs))
+          (record f { body = Some (join (all_undeclared gs q) (Then y r)) })) z
           j.underway;
       fewer = let a = j.fewer in let b = w.1 in omega (arith, a, b);
       front = j.front;

@@ -1,6 +1,5 @@
 -- Slots that the items behind a place of a list name otherwise than in exits.
-use Rattle.std.proofs.Common.{ℕ, zero, suc, ◌+◌, ◌<◌, ◌≤◌, ◌⊎◌, inl, inr, arith, Bool, true, false, eqb, eqb-true, List, [], ◌∷◌, length, drop, get_or, slice_get, slice_set, Some, ◌≡◌, refl, sym, ap, subst, ◌∙◌}
-use Rattle.std.specs.Prelude.{All}
+use Rattle.std.proofs.Common.{ℕ, zero, suc, ◌<◌, ◌≤◌, ◌⊎◌, inl, inr, arith, false, List, [], ◌∷◌, length, drop, get_or, slice_get, slice_set, Some, ◌≡◌, refl, sym, ap, subst, ◌∙◌}
 use Rattle.std.proofs.lemmas.List.{length-set}
 use Rattle.c_tree.specs.declared.tree.Item.{Item}
 use Rattle.c_tree.specs.Trees.{Tree, Then, trees_of}
@@ -59,16 +58,6 @@ held_left counts r x t xs k e a h o = by (a h)
     by (inr (inr (i, l, s))) = inr (inr (held_dropped h xs k i l s))
 
 -- ---- what is held
-
-pub none_turned_held : (counts : List ℕ) (xs : List Item) (k : ℕ) → AllHeld counts T.Nothing xs k
-none_turned_held counts xs k g = inl refl
-
-pub one_held : (counts : List ℕ) (x : ℕ) (xs : List Item) (k : ℕ) → (count_in counts x ≡ 0) ⊎ IsHeldBehind x xs k → AllHeld counts (T.One x) xs k
-one_held counts x xs k s g = by (eqb x g) refl
-  where
-    by : (b : Bool) → eqb x g ≡ b → (eqb x g ≡ false) ⊎ ((count_in counts g ≡ 0) ⊎ IsHeldBehind g xs k)
-    by true e = inr (subst (λ y. (count_in counts y ≡ 0) ⊎ IsHeldBehind y xs k) (eqb-true x g e) s)
-    by false e = inl e
 
 pub known_held : (hs : List Held) (xs : List Item) (k i : ℕ) (h : Held) (g : ℕ) → i < length hs → (get_or hs i h).slot ≡ g → k < (get_or hs i h).place →
     AreHeld hs xs k → IsHeldBehind g xs k

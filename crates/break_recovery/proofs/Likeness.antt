@@ -1,5 +1,5 @@
 -- Lists of items that show the same of all slots that count but one, and the steps of a way to what was changed.
-use Rattle.std.proofs.Common.{ℕ, zero, suc, ◌+◌, ◌<◌, ◌⊎◌, inl, inr, arith, Bool, true, false, eqb, List, [], ◌∷◌, length, take, drop, get_or, slice_set, reverse, option_map, Option, Some, None, Result, Ok, Err, IfOk, ◌≡◌, refl, sym, ap, subst, ◌∙◌}
+use Rattle.std.proofs.Common.{ℕ, zero, suc, ◌+◌, ◌<◌, inl, inr, arith, Bool, true, false, eqb, List, [], ◌∷◌, length, take, drop, get_or, slice_set, reverse, option_map, Option, Some, None, Result, Ok, Err, IfOk, ◌≡◌, refl, sym, ap, subst, ◌∙◌}
 use Rattle.std.proofs.lemmas.List.{reverse-reverse}
 use Rattle.c_tree.specs.declared.tree.Item.{Item, If, While, Do, For, Switch, Block}
 use Rattle.c_tree.specs.declared.tree.Expression.{Expression}
@@ -18,7 +18,7 @@ use Rattle.jump_meaning.specs.Code.{FunctionTree}
 use Rattle.tidy_loops.specs.Slots.{Tells, count_in, counts_of, break_slot, continue_slot, but_first, but_last}
 use Rattle.break_recovery.specs.Next.{or_else, next_here}
 use Rattle.break_recovery.specs.Places.{Fewer}
-use Rattle.break_recovery.specs.Steady.{item_turned, is_turned, NeedsOtherwise, SectionsKept, AreAlike, AreAlikeOf, AreSectionsAlike, IsAlike, IsSaid}
+use Rattle.break_recovery.specs.Steady.{NeedsOtherwise, SectionsKept, AreAlike, AreAlikeOf, AreSectionsAlike, IsAlike, IsSaid}
 use Rattle.break_recovery.specs.declared.steady.Turned.TheVariants as T
 use Rattle.break_recovery.specs.Within.{AreApart}
 use Rattle.break_recovery.specs.Ways.{IsWayIn, IsWayAt}
@@ -45,7 +45,8 @@ alike_set counts g (z ∷ zs) (suc i) x y h e s =
     (subst (AreAlike counts g (Then (tree_at z) (trees_of zs))) (sym (trees-first z (slice_set zs i y)))
     (alike_behind counts g (tree_at z) (trees_of zs) (trees_of (slice_set zs i y)) (alike_set counts g zs i x y (omega (arith, h)) e s)))
 
-pub alike_join : (counts : List ℕ) (g : ℕ) (xs : List Item) (i : ℕ) (b : Forest) → AreAlike counts g (trees_of (drop i xs)) b → AreAlike counts g (trees_of xs) (join (trees_of (take i xs)) b)
+pub alike_join : (counts : List ℕ) (g : ℕ) (xs : List Item) (i : ℕ) (b : Forest) → AreAlike counts g (trees_of (drop i xs)) b →
+    AreAlike counts g (trees_of xs) (join (trees_of (take i xs)) b)
 alike_join counts g xs zero b q = subst (λ z. AreAlike counts g (trees_of xs) (join z b)) (sym trees-none) q
 alike_join counts g [] (suc i) b q = subst (λ z. AreAlike counts g (trees_of []) (join z b)) (sym trees-none) q
 alike_join counts g (x ∷ xs) (suc i) b q =
@@ -89,9 +90,6 @@ left_behind counts g h x xs (inr (inr s)) = inr (inr (needs_behind h xs s))
 abbrev pub AreLeftAlone : List ℕ → Change → Tree → Forest → Type 0
 AreLeftAlone counts r x xs = (h : ℕ) → eqb (slot_of r) h ≡ false → IsLeftAlone counts (slot_of r) h x (but_first xs)
 
-pub nothing_turned : (counts : List ℕ) (r : Change) (x : Tree) (xs : Forest) → item_turned (slot_of r) x ≡ T.Nothing → AreLeftAlone counts r x xs
-nothing_turned counts r x xs e h o = inr (inl (ap (is_turned h) e))
-
 change_alike : (counts : List ℕ) (c : ℕ → ℕ) (n : ℕ) (x : Tree) (xs : Forest) (r : Change) → change_there c n x xs ≡ Some r → AreLeftAlone counts r x xs →
     AreAlike counts (slot_of r) (Then x xs) (list_after r (Then x xs))
 change_alike counts c n x xs r e s = by (break_slot c n x xs) (continue_slot c n x) refl refl
@@ -102,11 +100,13 @@ change_alike counts c n x xs r e s = by (break_slot c n x xs) (continue_slot c n
     by : (o p : Option ℕ) → break_slot c n x xs ≡ o → continue_slot c n x ≡ p → AreAlike counts (slot_of r) (Then x xs) (list_after r (Then x xs))
     by (Some g) p h k =
         let i = it_is (V.Break g) (sym (ap (λ o. or_else (option_map V.Break o) (continue_there c n x)) h) ∙ e) in
-        subst (λ r. AreAlike counts (slot_of r) (Then x xs) (list_after r (Then x xs))) i (broken_alike counts c n g x xs h (subst (λ r. AreLeftAlone counts r x xs) (sym i) s))
+        subst (λ r. AreAlike counts (slot_of r) (Then x xs) (list_after r (Then x xs))) i
+        (broken_alike counts c n g x xs h (subst (λ r. AreLeftAlone counts r x xs) (sym i) s))
     by None (Some g) h k =
         let i = it_is (V.Continue g) (sym (ap (λ o. or_else (option_map V.Break o) (continue_there c n x)) h ∙ ap (option_map V.Continue) k) ∙ e) in
         let l = subst (λ r. AreLeftAlone counts r x xs) (sym i) s in
-        subst (λ r. AreAlike counts (slot_of r) (Then x xs) (list_after r (Then x xs))) i (continued_alike counts c n g x xs k (λ j o. left_behind counts g j x xs (l j o)))
+        subst (λ r. AreAlike counts (slot_of r) (Then x xs) (list_after r (Then x xs))) i
+        (continued_alike counts c n g x xs k (λ j o. left_behind counts g j x xs (l j o)))
     by None None h k = absurd (no (sym (ap (λ o. or_else (option_map V.Break o) (continue_there c n x)) h ∙ ap (option_map V.Continue) k) ∙ e))
       where
         no : None ≡ Some r → ⊥
@@ -161,7 +161,8 @@ module _ (counts : List ℕ) (g : ℕ) (x : Item) where
       (subst (IsAlike counts g (Trees.If (test_tree t) (trees_of a) (trees_of b))) (sym (at-If t c d))
       (if_alike counts g (test_tree t) (trees_of a) (trees_of b) (trees_of c) (trees_of d) q))
 
-  pub while_is_alike : (t : Test) (a c : List Item) → x ≡ While t a → AreAlike counts g (trees_of a) (trees_of c) → IsAlike counts g (tree_at x) (tree_at (While t c))
+  pub while_is_alike : (t : Test) (a c : List Item) → x ≡ While t a → AreAlike counts g (trees_of a) (trees_of c) →
+      IsAlike counts g (tree_at x) (tree_at (While t c))
   while_is_alike t a c e q =
       subst (λ y. IsAlike counts g y (tree_at (While t c))) (sym (ap tree_at e ∙ at-While t a))
       (subst (IsAlike counts g (Trees.While (test_tree t) (trees_of a))) (sym (at-While t c)) (while_alike counts g (test_tree t) (trees_of a) (trees_of c) q))

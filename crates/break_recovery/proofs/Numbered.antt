@@ -1,5 +1,5 @@
 -- A function changed with the old numbers, which then gets the new ones.
-use Rattle.std.proofs.Common.{ℕ, zero, suc, ◌+◌, ◌<◌, ◌≤◌, arith, Bool, true, false, List, [], ◌∷◌, ◌++◌, length, replicate, slice_set, Option, Some, None, option_map, ◌≡◌, refl, sym, ap, subst, ◌∙◌}
+use Rattle.std.proofs.Common.{ℕ, zero, suc, ◌+◌, ◌<◌, ◌≤◌, arith, Bool, true, false, List, [], ◌∷◌, length, replicate, slice_set, Option, Some, None, option_map, ◌≡◌, refl, sym, ap, subst, ◌∙◌}
 use Rattle.c_tree.specs.declared.tree.Item.{Item}
 use Rattle.c_tree.specs.declared.tree.Function.{Function}
 use Rattle.c_tree.specs.Trees.{trees_of}
@@ -17,10 +17,6 @@ pub set_past : {A : Type 0} (xs : List A) (i : ℕ) (x : A) → length xs ≤ i 
 set_past [] i x h = refl
 set_past (y ∷ ys) zero x h = absurd (omega (arith, h))
 set_past (y ∷ ys) (suc i) x h = ap (λ z. y ∷ z) (set_past ys i x (omega (arith, h)))
-
-pub false_more : (n : ℕ) → replicate n false ++ false ∷ [] ≡ replicate (n + 1) false
-false_more zero = refl
-false_more (suc n) = let j : suc n + 1 ≡ suc (n + 1) = omega arith in ap (λ z. false ∷ z) (false_more n) ∙ sym (ap (λ m. replicate m false) j)
 
 -- ---- one change
 

@@ -9,6 +9,7 @@ use Rattle.c_tree.specs.ExpressionTrees.{ExpressionTree, Typed, Var, Number, Rea
 use Rattle.c_tree.specs.TestTrees.{TestTree, Source}
 use Rattle.c_tree.specs.Trees.{Tree, Forest, Nil, Then, Sections, NoSection, Section, Evaluate, If, While, Do, For, Switch, Block, Local, join}
 use Rattle.c_tree.specs.Changed.{one}
+use Rattle.plain_laws.proofs.SignaturesSame.{some_mapped}
 use Rattle.tidy_laws.specs.Tails.{reads, is_off, is_check, is_end}
 use Rattle.tidy_laws.specs.Mentions.{lacks}
 use Rattle.tidy_laws.specs.Changes.{is_narrow_expression, set_value, is_number, leaving, has_local, given_way, checks, unchecked, set_or, inner, inner_item, inner_sections, tailed, tailed_item, low_set, are_low, is_low}
@@ -20,10 +21,6 @@ use Rattle.break_recovery.proofs.RenamedCounts.{three_same, lacks_same}
 pub map_cond : {A B : Type 0} (f : A → B) (b : Bool) (o : Option A) → cond b (option_map f o) None ≡ option_map f (cond b o None)
 map_cond f true o = refl
 map_cond f false o = refl
-
-is_some_map : {A B : Type 0} (f : A → B) (o : Option A) → is_some (option_map f o) ≡ is_some o
-is_some_map f None = refl
-is_some_map f (Some a) = refl
 
 module _ (s : ℕ → ℕ) (same : (x y : ℕ) → eqb (s x) (s y) ≡ eqb x y) where
   pub number_same : (n : ℕ) (e : ExpressionTree) → is_number n (renamed s e) ≡ is_number n e
@@ -168,7 +165,7 @@ module _ (s : ℕ → ℕ) (same : (x y : ℕ) → eqb (s x) (s y) ≡ eqb x y) 
         ap₂ (λ m n. m + n) (three_same (λ (b : Bool) (m n : ℕ). cond b m n) (end_same g xs) (exits_of_same g x) (checks_of_same g x)) (exits_same g xs)
 
     exits_of_same : (g : ℕ) (x : Tree) → exits_of (s g) (renamed_item s x) ≡ exits_of g x
-    exits_of_same g (Evaluate e) = ap one_if (ap is_some (set_same g e) ∙ is_some_map (renamed s) (set_value g e))
+    exits_of_same g (Evaluate e) = ap one_if (ap is_some (set_same g e) ∙ some_mapped (renamed s) (set_value g e))
     exits_of_same g (If t a b) = three_same (λ l m n. one_if l + (m + n)) (checks_same g t b) (exits_same g a) (exits_same g b)
     exits_of_same g x = checks_of_same g x
 

@@ -14,8 +14,7 @@ use Rattle.c_tree.proofs.TreeLaws.{trees-none}
 use Rattle.c_tree.proofs.Views.{trees-first, trees-at, sections-at, at-If}
 use Rattle.tidy_laws.specs.Mentions.{list_lacks}
 use Rattle.tidy_loops.specs.Views.{expression_at, test_at, off_slot}
-use Rattle.tidy_loops.proofs.FormLaws.{expression_same, test_same}
-use Rattle.tidy_loops.proofs.Read.{at_source}
+use Rattle.tidy_loops.proofs.FormLaws.{expression_same, test_same, at_source}
 use Rattle.break_recovery.specs.declared.steady.Turned.{Turned}
 use Rattle.break_recovery.specs.declared.steady.Turned.TheVariants as T
 use Rattle.break_recovery.specs.Steady.{both, is_turned, has_else, turned, item_turned, sections_turned}

@@ -8,10 +8,9 @@ use Rattle.c_tree.specs.declared.tree.Item.{Item}
 use Rattle.jump_meaning.specs.Code.{FunctionTree}
 use Rattle.c_tree.specs.Trees.{Forest, Then, trees_of, join}
 use Rattle.c_tree.specs.Changed.{one}
-use Rattle.c_tree.proofs.TreeLaws.{trees-none}
+use Rattle.c_tree.proofs.TreeLaws.{trees-none, join-join, join-nil}
 use Rattle.c_tree.specs.Views.{tree_at}
 use Rattle.c_tree.proofs.Views.{trees-first, trees-at, trees-end, trees-push}
-use Rattle.tidy_loops.proofs.Made.{join_join, join_nil}
 use Rattle.tidy_laws.specs.Changes.{undeclared, is_declaration, changes, changes_of}
 use Rattle.break_recovery.specs.Next.{first, next_list}
 use Rattle.break_recovery.specs.Ends.{IsBodyChanged}
@@ -36,7 +35,7 @@ one_passed g i old xs x h e n p =
           p.rest ∙ ap (λ z. join (trees_of (take i xs)) (undeclared g z)) (trees-at xs i x h e)
           ∙ ap (λ b. join (trees_of (take i xs)) (cond b rest (Then (tree_at x) (undeclared g rest)))) n
           ∙ sym (ap (λ z. join z (undeclared g rest)) (ap trees_of (take_more xs i x h ∙ ap (λ z. take i xs ++ z ∷ []) (sym e)) ∙
-          trees-push (take i xs) x) ∙ join_join (trees_of (take i xs)) (one (tree_at x)) (undeclared g rest));
+          trees-push (take i xs) x) ∙ join-join (trees_of (take i xs)) (one (tree_at x)) (undeclared g rest));
     }
 
 removed : (xs : List Item) (i : ℕ) → i < length xs → trees_of (remove xs i) ≡ join (trees_of (take i xs)) (trees_of (drop (i + 1) xs))
@@ -59,7 +58,7 @@ declaration_gone g i old xs new x h e d r p =
 pub none_declared : (g i : ℕ) (old xs : List Item) → length xs ≤ i → Passed g i old xs → trees_of xs ≡ undeclared g (trees_of old)
 none_declared g i old xs h p =
     sym (ap (λ z. undeclared g (trees_of z)) (sym p.same) ∙ p.rest
-    ∙ ap₂ join (ap trees_of (take_all i xs h)) (ap (undeclared g) (trees-end xs i h)) ∙ join_nil (trees_of xs))
+    ∙ ap₂ join (ap trees_of (take_all i xs h)) (ap (undeclared g) (trees-end xs i h)) ∙ join-nil (trees_of xs))
 
 -- ---- the next change of a function
 

@@ -1,6 +1,6 @@
 -- Changes made with the old numbers lead to what they lead to with new numbers after each.
 use mathlib.Core.Path.{ap₂}
-use Rattle.std.proofs.Common.{ℕ, zero, suc, ◌-◌, ◌<◌, ◌≢◌, arith, Bool, true, false, cond, ◌&&◌, eqb, eqb-true, leb, ltb, List, [], ◌∷◌, length, get_or, replicate, slice_set, Option, Some, None, option_map, ◌≡◌, refl, sym, ap, subst, ◌∙◌}
+use Rattle.std.proofs.Common.{ℕ, zero, suc, ◌-◌, ◌<◌, ◌≢◌, arith, Bool, true, false, cond, ◌&&◌, eqb, eqb-true, leb, ltb, List, [], ◌∷◌, length, replicate, slice_set, Option, Some, None, option_map, ◌≡◌, refl, sym, ap, subst, ◌∙◌}
 use Rattle.std.specs.Prelude.{filter, Contains}
 use Rattle.std.specs.Option.{option_map_or}
 use Rattle.std.proofs.lemmas.Bool.{eqb-false}
@@ -25,6 +25,7 @@ use Rattle.break_recovery.proofs.RenamedCounts.{count_list}
 use Rattle.break_recovery.proofs.RenamedDeclared.{declares_same, undeclared_same}
 use Rattle.break_recovery.proofs.RenamedNext.{moved, next_same}
 use Rattle.break_recovery.proofs.Others.{KeepsOthers, lists_others, undeclared_other, declares_other}
+use Rattle.break_recovery.proofs.Outermost.{set_zero}
 
 -- ---- the next change of both
 
@@ -112,11 +113,6 @@ cond_same : (b : Bool) (n : ℕ) → n ≡ 0 → cond b n 0 ≡ 0
 cond_same true n e = e
 cond_same false n e = refl
 
-none_past : (xs : List ℕ) (g : ℕ) → get_or (slice_set xs g 0) g 0 ≡ 0
-none_past [] g = refl
-none_past (x ∷ xs) zero = refl
-none_past (x ∷ xs) (suc g) = none_past xs g
-
 told_after : (counts : List ℕ) (f : FunctionTree) (c : ℕ × Forest) (later : List (ℕ × Forest)) → changes_of f ≡ c ∷ later → Tells counts f →
     Tells (slice_set counts c.0 0) (record f { body = Some (undeclared c.0 c.1) })
 told_after counts f c later e t g = at (eqb c.0 g) refl
@@ -129,7 +125,7 @@ told_after counts f c later e t g = at (eqb c.0 g) refl
         let q : c.0 ≡ g = eqb-true c.0 g i in
         let n : list_count c.0 (undeclared c.0 c.1) ≡ 0 = eqb-true (list_count c.0 (undeclared c.0 c.1)) 0
         (sym (count_laws_hold.none c.0 (undeclared c.0 c.1)) ∙ lacked f c k.1) in
-        ap (count_in (slice_set counts c.0 0)) (sym q) ∙ none_past counts c.0
+        ap (count_in (slice_set counts c.0 0)) (sym q) ∙ set_zero counts c.0
         ∙ sym (ap (counts_of (record f { body = Some (undeclared c.0 c.1) })) (sym q) ∙
         cond_same (may_go (record f { body = Some (undeclared c.0 c.1) }) c.0) (list_count c.0 (undeclared c.0 c.1)) n)
     at false i =

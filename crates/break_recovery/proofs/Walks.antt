@@ -26,7 +26,7 @@ use Rattle.break_recovery.proofs.NextLaws.{in_if, in_while, in_do, in_for, in_sw
 use Rattle.break_recovery.proofs.Rows.{row_none, row_more, row_one}
 use Rattle.break_recovery.proofs.Loops.{here_changed, here_none, next_kept, next_taken, none_next as next_last, before_rest}
 use Rattle.break_recovery.proofs.Likeness.{AreLeftAlone, here_alike}
-use Rattle.break_recovery.proofs.Steps.{entry_is, here_found, no_here}
+use Rattle.break_recovery.proofs.Steps.{entry_is, here_found, no_here, some_none}
 use Rattle.break_recovery.proofs.Ways.{at_told, list_found}
 use Rattle.break_recovery.proofs.WaysSearched.{still_quiet}
 use Rattle.break_recovery.proofs.Outermost.{behind_is, one_found, more_quiet}
@@ -115,9 +115,6 @@ closed_moved (suc at) (suc m) (x ∷ xs) z b h e =
     ap₂ (λ i k. closed i k (slice_set (x ∷ slice_set xs m b) i z)) i j ∙ ap (λ w. x ∷ w) (closed_moved at m xs z b (omega (arith, h)) e)
 
 -- ---- one step
-
-some_none : {A : Type 0} (x : A) → Some x ≡ None → ⊥
-some_none x e = cc
 
 -- nothing applies where the item allows none itself, nor in it
 pub none_at : (f : FunctionTree) (m : ℕ) (counts : List ℕ) (at : ℕ) (xs : List Item) (x : Item) → at < length xs → x ≡ get_or xs at x →

@@ -147,9 +147,6 @@ keeps_behind k d i p sure f n w a q = by k refl
 pub keeps_none : (k d from : ℕ) → k < d → KeepsWay k (Some d) from
 keeps_none k d from i p = absurd (omega (arith, i, p))
 
-pub keeps_all : (k : ℕ) → KeepsWay k None k
-keeps_all k p sure f n w a q = q
-
 -- ---- a way that goes on in an item
 
 if_sure : (sure : Bool) (P : Type 0) → (sure ≡ true → P) → IfSure sure P

@@ -25,7 +25,7 @@ is_less c m n h (inr k) = inr (omega (arith, h, k))
 pub within_less : (c : ℕ → ℕ) (a b : Forest) → ((g : ℕ) → list_count g b ≤ list_count g a) → IsWithin c a → IsWithin c b
 within_less c a b h w g = is_less (c g) (list_count g b) (list_count g a) (h g) (w g)
 
-is_some_slot : (g : ℕ) (s : Option ℕ) → is_it g s ≡ true → s ≡ Some g
+pub is_some_slot : (g : ℕ) (s : Option ℕ) → is_it g s ≡ true → s ≡ Some g
 is_some_slot g None e = cc
 is_some_slot g (Some x) e = ap Some (eqb-true x g e)
 

@@ -14,6 +14,7 @@ use Rattle.tidy_slots.specs.Counts.{test_count, list_count, item_count}
 use Rattle.tidy_slots.proofs.CountLemmas.{count_join}
 use Rattle.tidy_loops.specs.Slots.{count_in, rest_test, broken, continued, but_first, but_last}
 use Rattle.tidy_loops.specs.Remaining.{IsApart}
+use Rattle.tidy_loops.proofs.Outside.{not_so}
 use Rattle.break_recovery.specs.Loops.{slot_of, list_after, change_first}
 use Rattle.break_recovery.specs.declared.here.Change.{Change}
 use Rattle.break_recovery.specs.declared.here.Change.TheVariants as V
@@ -30,12 +31,8 @@ forgotten [] s = refl
 forgotten (x ∷ xs) zero = refl
 forgotten (x ∷ xs) (suc s) = forgotten xs s
 
-not_both : (b : Bool) → b ≡ true → b ≡ false → ⊥
-not_both true t f = cc
-not_both false t f = cc
-
 self : (g : ℕ) → eqb g g ≡ false → ⊥
-self g e = not_both (eqb g g) (eq-eqb g g refl) e
+self g e = not_so (eqb g g) (eq-eqb g g refl) e
 
 none_of : (h : ℕ) → list_count h (trees_of []) ≡ 0
 none_of h = ap (list_count h) trees-none

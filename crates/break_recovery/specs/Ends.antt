@@ -63,7 +63,7 @@ pub record IsFunctionTidied (n : ℕ) (f h : Function) : Type 0 where
   pub changed : FunctionChangedTimes n f h
   pub settled : changes_of (function_tree h) ≡ []
 
--- the same of what stands at file scope
+-- the first changes of what stands at file scope, so many
 abbrev pub TopChangedTimes : ℕ → Top → Top → Type 0
 TopChangedTimes zero x y = y ≡ x
 TopChangedTimes (suc n) x y = (z : Top) × TopIsChangedFirst x z × TopChangedTimes n z y

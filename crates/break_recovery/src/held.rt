@@ -150,7 +150,7 @@ pub fn are_held(
     }
 }
 
-/// The same in a list of which nothing is known.
+/// Whether all slots that are turned are held behind a place of a list of which nothing is known yet.
 pub fn are_held_there(
     alloc: Global,
     counts: &List<u64>,

@@ -1,10 +1,10 @@
 -- The item of a construct, from what was read of its parts.
 use Rattle.std.proofs.Common.{◌≡◌, ◌∙◌, false, List, [], ◌∷◌, ◌++◌, Option, option_map, ap}
+use Rattle.c_tree.specs.SectionLabels.{labels_passed}
 use Rattle.c_grammar.specs.Terms.{Term}
 use Rattle.c_grammar.specs.Items.{Start, Body, If, While, For, Switch}
 use Rattle.c_statements.specs.Context.{Context, Walk, env_at, enter}
 use Rattle.c_statements.specs.Declarations.{value_at}
-use Rattle.c_statements.specs.Sections.{passed_on}
 use Rattle.c_statements.specs.Statements.{behind_start, start_items, dropped_at, body_items, switch_sections, statement_items}
 use Rattle.c_tree.specs.declared.tree.Expression.{Expression}
 use Rattle.c_tree.specs.declared.tree.Item as tree
@@ -31,6 +31,6 @@ for_items ctx start t u b v w out new ss xs e f h es ee ef ex same = h ∙ (λ i
 
 pub switch_items : (ctx : Context) (t : Term) (b : Body) (v w : Walk) (out new : List tree.Item) (e : Expression) (ss : List Section) →
     new ≡ out ++ tree.Switch (selector.Source e) ss ∷ []
-    → e ≡ value_at (env_at ctx v) t → ss ≡ passed_on [] false (switch_sections ctx b w) → w ≡ v → new ≡ out ++ statement_items ctx (Switch t b) v
+    → e ≡ value_at (env_at ctx v) t → ss ≡ labels_passed (switch_sections ctx b w) → w ≡ v → new ≡ out ++ statement_items ctx (Switch t b) v
 switch_items ctx t b v w out new e ss h ev ex same = h ∙ (λ i. out ++ tree.Switch (selector.Source (ev i))
-    ((ex ∙ ap (λ x. passed_on [] false (switch_sections ctx b x)) same) i) ∷ [])
+    ((ex ∙ ap (λ x. labels_passed (switch_sections ctx b x)) same) i) ∷ [])

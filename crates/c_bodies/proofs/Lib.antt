@@ -2,7 +2,6 @@ pub mod Constructs
 pub mod Endings
 pub mod FirstTokens
 pub mod Insides
-pub mod PassedOn
 pub mod Scopes
 pub mod SwitchSteps
 pub mod Walks

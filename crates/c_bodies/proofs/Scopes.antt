@@ -1,21 +1,16 @@
 -- What is declared in a list is gone behind it.
 use Rattle.std.proofs.Common.{◌≡◌, ◌∙◌, ℕ, List, [], ◌∷◌, drop, refl, ap}
 use Rattle.c_bodies.specs.Views.{left}
-use Rattle.c_kinds.specs.Scopes.{Scope, bind}
-use Rattle.c_kinds.specs.declared.binding.Binding.{Binding}
+use Rattle.c_kinds.proofs.ScopeLaws.{drop_bind}
 use Rattle.c_grammar.specs.Items.{Declarator, Start, NoStart, StartValue, StartNames, Item, Declares, States, From, Statement, If, IfElse, While, DoWhile, For, Switch, Block, Body, Braces, Lone, Items, NoItem, Then}
 use Rattle.c_statements.specs.declared.extents.Kinded.{Kinded}
 use Rattle.c_statements.specs.Context.{Context, Walk, enter, leave, env_at}
 use Rattle.c_statements.specs.Declarations.{declared, all_declared}
 use Rattle.c_statements.specs.Statements.{behind_start, behind_item, behind_statement, behind_body, behind_items}
 
-bind-rest : (name : List ℕ) (b : Binding) (ss : List Scope) → drop 1 (bind name b ss) ≡ drop 1 ss
-bind-rest name b [] = refl
-bind-rest name b (s ∷ ss) = refl
-
 declared-rest : (word : ℕ → List ℕ) (k : Kinded) (ds : List Declarator) (w : Walk) → drop 1 (all_declared word k ds w).scopes ≡ drop 1 w.scopes
 declared-rest word k [] w = refl
-declared-rest word k (d ∷ ds) w = declared-rest word k ds (declared word k d w) ∙ bind-rest _ _ w.scopes
+declared-rest word k (d ∷ ds) w = declared-rest word k ds (declared word k d w) ∙ drop_bind _ _ w.scopes
 
 pub body_scopes : (ctx : Context) (b : Body) (w : Walk) → (behind_body ctx b w).scopes ≡ w.scopes
 body_scopes ctx (Braces first after xs) w = refl

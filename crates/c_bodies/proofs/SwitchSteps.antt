@@ -1,5 +1,5 @@
 -- The sections of a switch, one item at a time.
-use Rattle.std.proofs.Common.{◌≡◌, ◌∙◌, ◌<◌, ◌+◌, ◌||◌, ◌&&◌, not, ℕ, suc, Bool, true, false, cond, List, [], ◌∷◌, ◌++◌, Option, Some, None, append_assoc, length, get_or, drop, refl, ap, sym, true≢false}
+use Rattle.std.proofs.Common.{◌≡◌, ◌∙◌, ◌<◌, ◌+◌, ◌||◌, ◌&&◌, not, ℕ, Bool, true, false, cond, List, [], ◌∷◌, ◌++◌, Option, Some, None, append_assoc, length, get_or, drop, refl, ap, sym, true≢false}
 use Rattle.std.proofs.lemmas.List.{append-nil}
 use Rattle.c_bodies.specs.declared.reading.Reading as declared
 use Rattle.c_bodies.specs.Steps.{begins, reading_of, closed_now, closed_before, reading_behind, outside_of, outside_behind, sections_behind, section_item_faults, section_faults, is_outside, is_element, with_node}
@@ -19,8 +19,9 @@ use Rattle.c_grammar.specs.Parts.{is_token}
 use Rattle.c_statements.specs.Nodes.{items_of}
 use Rattle.std.specs.declared.result.Result.{Result}
 use Rattle.std.specs.Prelude.{Ok, Err, OnOk}
+use Rattle.std.proofs.lemmas.Bool.{or_parts}
 use Rattle.c_statements.proofs.Lists.{items-token, items-item}
-use Rattle.c_bodies.proofs.Scopes.{left_items, left_item}
+use Rattle.c_bodies.proofs.Scopes.{left_item}
 use Rattle.c_tree.specs.declared.tree.Expression.{Expression}
 use Rattle.c_tree.specs.declared.tree.Item as tree
 use Rattle.c_tree.specs.declared.tree.Test as test
@@ -76,30 +77,19 @@ outside_extended ctx r s x w b l q h = (λ i. cond (b i) [] (l i)) ∙ go r.begu
     go true h = refl
     go false h = ap (λ l. r.list ++ l) (sym (stands ctx x w q h)) ∙ ap (λ c. cond c [] (r.list ++ outside_item ctx x w)) (sym q)
 
-pub outside_begun : (ctx : Context) (r s : declared.Reading) (x : Item) (w : Walk) → s.begun ≡ true → begins x ≡ true → outside_of s ≡ outside_behind ctx r x w
-outside_begun ctx r s x w b q = ap (λ c. cond c [] s.list) b ∙ go r.begun
-  where
-    go : (c : Bool) → [] ≡ cond (c || begins x) [] (r.list ++ outside_item ctx x w)
-    go true = refl
-    go false = ap (λ c. cond c [] (r.list ++ outside_item ctx x w)) (sym q)
-
 -- ---- a null statement in front of the first section
-
-not_begun : (b e : Bool) → (b || e) ≡ false → (b ≡ false) × (e ≡ false)
-not_begun true e h = absurd (true≢false h)
-not_begun false e h = (refl, h)
 
 pub outside_passed : (ctx : Context) (r : declared.Reading) (x : Item) (w : Walk) → begins x ≡ false → (r.begun || is_element x) ≡ false →
     outside_of r ≡ outside_behind ctx r x w
 outside_passed ctx r x w q h =
-    let k = not_begun r.begun (is_element x) h in
+    let k = or_parts r.begun (is_element x) h in
     ap (λ c. cond c [] r.list) k.0 ∙ sym (append-nil r.list) ∙ ap (λ l. r.list ++ l) (sym (absent ctx x w k.1)) ∙
     (λ i. cond (sym k.0 i || sym q i) [] (r.list ++ outside_item ctx x w))
 
 pub reading_passed : (ctx : Context) (r : declared.Reading) (x : Item) (w : Walk) → begins x ≡ false → (r.begun || is_element x) ≡ false →
     reading_of r ≡ reading_behind ctx (reading_of r) x w
 reading_passed ctx r x w q h =
-    let k = not_begun r.begun (is_element x) h in
+    let k = or_parts r.begun (is_element x) h in
     let none : reading_of r ≡ None = ap (λ c. cond c (Some (record { cases = r.cases; default = r.default; list = r.list })) None) k.0 in
     none ∙ sym (read_on ctx None x w q) ∙ ap (λ o. reading_behind ctx o x w) (sym none)
 
@@ -116,7 +106,7 @@ done_passed r x done q = sym (append-nil done) ∙ ap (λ l. done ++ l) (sym (no
 pub faults_passed : (ctx : Context) (around : Around) (r : declared.Reading) (x : Item) (w : Walk) (vs : Faults) → (r.begun || is_element x) ≡ false →
     item_faults ctx around x w vs ≡ section_item_faults ctx around r.begun x w vs
 faults_passed ctx around r x w vs h =
-    let k = not_begun r.begun (is_element x) h in
+    let k = or_parts r.begun (is_element x) h in
     let out : is_outside r.begun x ≡ false = ap (λ e. not r.begun && not (begins x) && e) k.1 ∙ none (not r.begun) (not (begins x)) in
     sym (ap (λ c. fault_if c (item_first x) 29 (item_faults ctx around x w vs)) out)
   where

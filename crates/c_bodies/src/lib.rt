@@ -7,7 +7,6 @@ mod items;
 mod labels;
 mod notes;
 mod outermost;
-mod passing;
 mod reading;
 mod sections;
 mod simple;

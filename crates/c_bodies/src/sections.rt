@@ -70,7 +70,7 @@ fn cut_last(list: &mut List<Item>)
 }
 
 /// The section with these cases, default and items, of which a last `break` is its end.
-fn ended(cases: List<Expression>, default: bool, list: List<Item>) -> Section
+fn ended_section(cases: List<Expression>, default: bool, list: List<Item>) -> Section
     ensures { result ≡ spec.ended (record { cases = cases; default = default; list = list }) }
 {
     let mut list = list;
@@ -121,7 +121,7 @@ fn add_ended(alloc: Global, read: Reading, done: &mut List<Section>) -> Result<(
         list,
     } = read;
     if begun {
-        return done.push(ended(cases, default, list));
+        return done.push(ended_section(cases, default, list));
     }
     drop(cases);
     add_front(alloc, list, done)

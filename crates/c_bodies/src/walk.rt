@@ -5,6 +5,7 @@ ghost use Rattle.c_bodies.specs.Steps as steps;
 ghost use Rattle.c_bodies.specs.Views as views;
 ghost use Rattle.c_kinds.specs.Typing.{typed};
 ghost use Rattle.c_kinds.specs.Values.{value_of};
+ghost use Rattle.c_tree.specs.SectionLabels.{labels_passed as the_labels_passed};
 ghost use Rattle.c_grammar.specs.ItemViews.{body_of, item_of, labels_of, plain_of, start_form, statement_form};
 ghost use Rattle.c_grammar.specs.Items as items;
 ghost use Rattle.c_grammar.specs.Parts.{term_of};
@@ -23,7 +24,6 @@ use crate::items::{
 };
 use crate::labels::{add_labels, begin, has_case};
 use crate::notes::add_notes;
-use crate::passing::passed_on;
 use crate::sections::{Sections, close, finish, no_sections};
 use crate::simple::{add_break, add_continue, add_evaluation, add_goto, add_return, read_heads};
 use crate::state::{
@@ -35,7 +35,7 @@ use c_grammar::{
     statement_layer,
 };
 use c_statements::Anchor;
-use c_tree::{Item, Section};
+use c_tree::{Item, Section, labels_passed};
 use c_types::{IntKind, List, Memory, reasons};
 use std::alloc::Global;
 
@@ -458,7 +458,7 @@ fn switch_of<'n, 'a>(
     b: &SyntaxNode,
 ) -> Result<List<Section>, Memory>
     ensures walk { OnOk result (views.walk_of state.new ≡ spec.behind_body (views.context_of ctx.now) (body_of (words_of ctx.now.words) b.now) (views.walk_of state.old)) }
-    ensures value { IfOk result (λ ss. ss ≡ the_sections.passed_on [] false (spec.switch_sections (views.context_of ctx.now) (body_of (words_of ctx.now.words) b.now) (views.walk_of state.old))) }
+    ensures value { IfOk result (λ ss. ss ≡ the_labels_passed (spec.switch_sections (views.context_of ctx.now) (body_of (words_of ctx.now.words) b.now) (views.walk_of state.old))) }
     ensures cases { OnOk result (state.new.cases ≡ state.old.cases) }
     ensures faults { OnOk result (state.new.faults ≡ cases.switch_faults kind (cases.body_entries (views.context_of ctx.now) (body_of (words_of ctx.now.words) b.now) (views.walk_of state.old) []) (violations.switch_body_faults (views.context_of ctx.now) (views.around_of around) (body_of (words_of ctx.now.words) b.now) (views.walk_of state.old) state.old.faults)) }
 {
@@ -466,10 +466,10 @@ fn switch_of<'n, 'a>(
     let ss = switch_body(alloc, ctx, around, state, b)?;
     report_switch(alloc, state, kind)?;
     put_cases(state, outer);
-    passed_on(alloc, ss)
+    labels_passed(alloc, ss)
 }
 
-/// The sections in the list of a switch, before empty ones are passed on.
+/// The sections in the list of a switch, before empty ones pass their labels on.
 #[cycle(walk)]
 fn switch_body<'n, 'a>(
     alloc: Global,

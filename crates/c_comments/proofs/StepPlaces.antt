@@ -2,6 +2,7 @@
 use Rattle.std.proofs.Common.{◌≡◌, ◌<◌, ◌≤◌, ◌+◌, ◌&&◌, ◌||◌, ℕ, nat_le, nat_lt, not, Bool, true, false, List, [], ◌∷◌, length, get_or, drop, Option, Some, None, refl, ap, sym, subst, ◌∙◌, arith}
 use Rattle.std.proofs.lemmas.Bool.{lt-ltb, le-ltb, le-leb, lt-leb, ltb-true, ltb-false, false≢true}
 use Rattle.std.proofs.lemmas.List.{drop_all}
+use Rattle.c_lexer.proofs.OpenComments.{or_none}
 use Rattle.c_grammar.specs.declared.syntax.Syntax.{Syntax, out-Syntax}
 use Rattle.c_grammar.specs.Items.{Label, Named, Case, Default, Item, States, Plain, From, Statement, Items, Then, Body, Braces, Lone, first_label, label_first}
 use Rattle.c_grammar.specs.ItemViews.{item_of, labels_of}
@@ -134,10 +135,6 @@ members_step word begun other switch first xs i x t bound step h e n b p k =
     (subst (λ m. t < m) (sym b) (ends_item word x t n).1)
     (λ s l u. sym (p s l) ∙ switch_here word begun switch first xs i x t h e n s l (subst (λ m. s < m) b u)) k
 
-or-false : (b : Bool) → (b || false) ≡ b
-or-false true = refl
-or-false false = refl
-
 -- whether a section has begun behind a node
 abbrev has-begun : (ℕ → List ℕ) → Bool → Syntax → Bool
 has-begun word begun x = begun || (not (is_token (out-Syntax x).rule) && begins_section (item_of word x))
@@ -161,7 +158,7 @@ switch_past word begun switch first xs i x t h e n s l = ap (λ z. members_place
     by : (b : Bool) → is_token (out-Syntax y).rule ≡ b → members_place (has-begun word begun y) switch first rest s ≡ members_place begun switch first
         (items_of word (drop i xs)) s
     by true k =
-        ap (λ b. members_place b switch first rest s) (ap begun-by k ∙ or-false begun)
+        ap (λ b. members_place b switch first rest s) (ap begun-by k ∙ or_none begun)
         ∙ ap (λ ys. members_place begun switch first ys s) (sym (items-token word xs i x h k))
     by false k =
         ap (λ b. members_place b switch first rest s) (ap begun-by k)

@@ -1,5 +1,5 @@
 -- Where a name stands in a rising list, or would stand.
-use Rattle.std.proofs.Common.{◌≡◌, ℕ, zero, suc, ◌+◌, ◌≤◌, ◌<◌, Bool, true, false, ◌||◌, List, [], ◌∷◌, length, take, drop, get_or, add-one, refl, sym, ap, subst, ◌∙◌, arith}
+use Rattle.std.proofs.Common.{◌≡◌, ℕ, zero, suc, ◌+◌, ◌≤◌, ◌<◌, true, false, ◌||◌, List, [], ◌∷◌, length, take, drop, get_or, add-one, refl, sym, ap, subst, ◌∙◌, arith}
 use Rattle.std.specs.declared.cmp.Ordering.{Ordering}
 use Rattle.std.specs.declared.cmp.Ordering.TheVariants.{Less, Equal, Greater}
 use Rattle.std.specs.Ordering.{match_ordering, ordering_reverse, is_eq}
@@ -8,6 +8,7 @@ use Rattle.std.specs.List.Sorted.{IsStrictlySortedBy}
 use Rattle.std.specs.Str.{bytes_eq}
 use Rattle.std.proofs.lemmas.Cmp.{nat_list_cmp_total}
 use Rattle.std.proofs.lemmas.Map.Text.{is_eq-slice_cmp}
+use Rattle.std.proofs.lemmas.Bool.{or_right}
 use Rattle.c_types.specs.Words.{name_cmp}
 use Rattle.c_copies.specs.Names.{with_name, has_name}
 use Rattle.c_copies.proofs.Rising.{below_more, turned, same_name}
@@ -84,14 +85,10 @@ with_name-at n (x ∷ xs) (suc m) d s h e =
     let above : name_cmp n x ≡ Greater = back n x (ap (name_cmp x) (same_name n (get_or xs m d) e) ∙ less) in
     with_by Greater x xs n above ∙ ap (λ z. x ∷ z) (with_name-at n xs m d s.1 (omega (arith, h)) e)
 
-or_true : (a b : Bool) → b ≡ true → (a || b) ≡ true
-or_true true b h = refl
-or_true false b h = h
-
 pub has_name-at : (n : List ℕ) (xs : List (List ℕ)) (m : ℕ) (d : List ℕ) → m < length xs → name_cmp n (get_or xs m d) ≡ Equal → has_name xs n ≡ true
 has_name-at n [] m d h e = absurd (omega (arith, h))
 has_name-at n (x ∷ xs) zero d h e = ap (λ z. z || has_name xs n) (unlike n x Equal e)
-has_name-at n (x ∷ xs) (suc m) d h e = or_true (bytes_eq n x) (has_name xs n) (has_name-at n xs m d (omega (arith, h)) e)
+has_name-at n (x ∷ xs) (suc m) d h e = or_right (bytes_eq n x) (has_name xs n) (has_name-at n xs m d (omega (arith, h)) e)
 
 -- ---- a list with one more name
 

@@ -65,11 +65,11 @@ or_swap true true c = refl
 or_swap true false c = refl
 or_swap false b c = refl
 
-or_none : (a : Bool) → a ≡ (a || false)
+pub or_none : (a : Bool) → a ≡ (a || false)
 or_none true = refl
 or_none false = refl
 
-or_turn : (a b c : Bool) → ((a || b) || c) ≡ (b || (a || c))
+pub or_turn : (a b c : Bool) → ((a || b) || c) ≡ (b || (a || c))
 or_turn true true c = refl
 or_turn true false c = refl
 or_turn false b c = refl

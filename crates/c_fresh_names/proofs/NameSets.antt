@@ -2,21 +2,16 @@
 use Rattle.std.proofs.Common.{◌≡◌, ℕ, zero, suc, ◌+◌, ◌≤◌, ◌<◌, ◌^◌, Bool, true, false, cond, ◌||◌, List, [], ◌∷◌, length, refl, sym, ap, ◌∙◌, arith}
 use Rattle.std.specs.declared.cmp.Ordering.{Ordering}
 use Rattle.std.specs.declared.cmp.Ordering.TheVariants.{Less, Equal, Greater}
-use Rattle.std.specs.Ordering.{match_ordering, ordering_reverse, is_eq}
+use Rattle.std.specs.Ordering.{match_ordering, ordering_reverse}
 use Rattle.std.specs.Str.{bytes_eq}
 use Rattle.std.proofs.lemmas.Cmp.{nat_list_cmp_total}
-use Rattle.std.proofs.lemmas.Map.Text.{is_eq-slice_cmp}
-use Rattle.std.proofs.lemmas.Slice.Eq.{bytes_eq-Decides}
 use Rattle.c_types.specs.Words.{name_cmp}
 use Rattle.c_copies.specs.Names.{with_name, with_names, has_name}
-use Rattle.c_copies.proofs.Rising.{has_name-with_name}
+use Rattle.c_copies.proofs.Rising.{has_name-with_name, or_turn, or_none, same_name}
 use Rattle.c_fresh_names.specs.Fresh.{numbered, first_free}
 use Rattle.c_fresh_names.proofs.FreshFound.{first_free_unused}
 
 -- ---- order
-
-same_name : (n x : List ℕ) → name_cmp n x ≡ Equal → n ≡ x
-same_name n x e = (bytes_eq-Decides n x).0 (sym (is_eq-slice_cmp n x) ∙ ap is_eq e)
 
 turned : (n x : List ℕ) (o : Ordering) → name_cmp n x ≡ o → name_cmp x n ≡ ordering_reverse o
 turned n x o h = nat_list_cmp_total.antisymm x n ∙ ap ordering_reverse h
@@ -122,15 +117,6 @@ pub more_names : (ks own ns : List (List ℕ)) → with_names ks (with_names own
 more_names ks own [] = refl
 more_names ks own (n ∷ ns) = more_names ks (with_name own n) ns ∙ ap (λ z. with_names z ns) (more_own ks own n)
 
-or_turn : (a b c : Bool) → ((a || b) || c) ≡ (b || (a || c))
-or_turn true true c = refl
-or_turn true false c = refl
-or_turn false b c = refl
-
-or_none : (a : Bool) → a ≡ (a || false)
-or_none true = refl
-or_none false = refl
-
 -- what stands in one of two lists
 pub in_either : (ks ns : List (List ℕ)) (q : List ℕ) → has_name (with_names ks ns) q ≡ (has_name ks q || has_name ns q)
 in_either ks [] q = or_none (has_name ks q)
@@ -144,7 +130,7 @@ one_at Less x xs n h = omega arith
 one_at Equal x xs n h = omega arith
 one_at Greater x xs n h = omega (arith, h)
 
-one_more : (ks : List (List ℕ)) (n : List ℕ) → length (with_name ks n) ≤ length ks + 1
+pub one_more : (ks : List (List ℕ)) (n : List ℕ) → length (with_name ks n) ≤ length ks + 1
 one_more [] n = omega arith
 one_more (x ∷ xs) n = one_at (name_cmp n x) x xs n (one_more xs n)
 

@@ -1,15 +1,12 @@
 -- The search passes over names that are used.
-use Rattle.std.proofs.Common.{◌≡◌, ℕ, zero, suc, ◌+◌, ◌-◌, ◌≤◌, ◌<◌, Bool, true, false, ◌||◌, List, refl, sym, ap, subst, ◌∙◌, arith}
+use Rattle.std.proofs.Common.{◌≡◌, ℕ, zero, suc, ◌+◌, ◌-◌, ◌≤◌, ◌<◌, Bool, true, false, List, refl, sym, ap, subst, ◌∙◌, arith}
 use Rattle.std.specs.Prelude.{nat_lt}
-use Rattle.std.proofs.lemmas.Bool.{ltb-true, ltb-false}
+use Rattle.std.proofs.lemmas.Bool.{ltb-true, ltb-false, or_left}
 use Rattle.c_copies.specs.Names.{has_name, with_names}
 use Rattle.c_fresh_names.specs.Fresh.{numbered, first_free}
 use Rattle.c_fresh_names.specs.Runs.{AreUsedFrom}
 use Rattle.c_fresh_names.proofs.FreshLemmas.{first_free_used}
 use Rattle.c_fresh_names.proofs.NameSets.{in_either}
-
-pub none_from : (used : List (List ℕ)) (base : List ℕ) (n : ℕ) → AreUsedFrom used base n n
-none_from used base n i a b = absurd (omega (arith, a, b))
 
 pub fewer_from : (used : List (List ℕ)) (base : List ℕ) (k m n : ℕ) → m ≤ n → AreUsedFrom used base k n → AreUsedFrom used base k m
 fewer_from used base k m n le h i a b = h i a (omega (arith, le, b))
@@ -25,12 +22,8 @@ joined_from used base k m n h w i a b = at (nat_lt i m) refl
 pub one_from : (used : List (List ℕ)) (base : List ℕ) (n : ℕ) → has_name used (numbered base n) ≡ true → AreUsedFrom used base n (n + 1)
 one_from used base n h i a b = let q : i ≡ n = omega (arith, a, b) in ap (λ j. has_name used (numbered base j)) q ∙ h
 
--- the names of one of two lists
-or_true : (a b : Bool) → a ≡ true → (a || b) ≡ true
-or_true a b h = ap (λ c. c || b) h
-
 pub in_file : (file own : List (List ℕ)) (q : List ℕ) → has_name file q ≡ true → has_name (with_names file own) q ≡ true
-in_file file own q h = in_either file own q ∙ or_true (has_name file q) (has_name own q) h
+in_file file own q h = in_either file own q ∙ or_left (has_name file q) (has_name own q) h
 
 pub all_in_file : (file own : List (List ℕ)) (base : List ℕ) (m n : ℕ) → AreUsedFrom file base m n → AreUsedFrom (with_names file own) base m n
 all_in_file file own base m n h i a b = in_file file own (numbered base i) (h i a b)

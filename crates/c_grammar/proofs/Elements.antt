@@ -1,14 +1,15 @@
 -- A character constant or a text writes the values of the characters that the lexer sees in it.
-use Rattle.std.proofs.Common.{◌≡◌, ◌-◌, ◌==◌, ℕ, zero, suc, Bool, true, false, cond, ◌||◌, List, [], ◌∷◌, ◌++◌, length, take, map, refl, ap, sym, ◌∙◌, subst, arith, length-append, append_assoc}
+use Rattle.std.proofs.Common.{◌≡◌, ◌-◌, ◌==◌, ℕ, zero, suc, Bool, true, false, cond, ◌||◌, List, [], ◌∷◌, ◌++◌, length, take, map, refl, ap, sym, ◌∙◌, subst, arith, length-append}
 use Rattle.std.specs.List.{take_while, list_all}
 use Rattle.std.proofs.lemmas.Bool.{eqb-true}
-use Rattle.c_lexer.specs.Bytes.{is_octal_digit, is_hexadecimal_digit, is_simple_escape, is_text_byte, is_character_byte, NotFirst}
+use Rattle.c_lexer.specs.Bytes.{is_octal_digit, is_hexadecimal_digit, is_simple_escape, is_text_byte, NotFirst}
 use Rattle.c_lexer.specs.Characters.{Character, IsCharacter, TakesDigits, AreCharacters, written_all}
 use Rattle.c_lexer.specs.Characters as ch
 use Rattle.c_lexer.specs.Pieces as l
 use Rattle.c_lexer.proofs.Truths.{both_true}
-use Rattle.c_grammar.specs.Words.{Element, Itself, Simple, Octal, Hexadecimal, escape, first_element, written, value, Writes, nothing, element, within_quotes, character}
-use Rattle.c_grammar.proofs.DecodedSteps.{run_more, run_ends, first_written}
+use Rattle.c_lexer.proofs.PieceLemmas.{written_all_split}
+use Rattle.c_grammar.specs.Words.{Element, Itself, Simple, Octal, Hexadecimal, escape, first_element, written, value, Writes, nothing, element, within_quotes}
+use Rattle.c_grammar.proofs.DecodedSteps.{run_more, run_ends}
 
 abbrev pub element_of : Character → Element
 element_of (ch.Plain b) = Itself b
@@ -99,18 +100,6 @@ first_is f z (ch.Hexadecimal a ds) r bs h t k =
 
 -- ---- characters
 
-written_front : (c : Character) (w r : List ℕ) → ch.written c (w ++ r) ≡ ch.written c w ++ r
-written_front (ch.Plain b) w r = refl
-written_front (ch.Simple b) w r = refl
-written_front (ch.OneDigit a) w r = refl
-written_front (ch.TwoDigits a b) w r = refl
-written_front (ch.ThreeDigits a b c) w r = refl
-written_front (ch.Hexadecimal a ds) w r = ap (λ v. 92 ∷ 120 ∷ a ∷ v) (sym (append_assoc ds w r))
-
-all_front : (cs : List Character) (r : List ℕ) → written_all cs r ≡ written_all cs [] ++ r
-all_front [] r = refl
-all_front (c ∷ cs) r = ap (ch.written c) (all_front cs r) ∙ written_front c (written_all cs []) r
-
 not_first : (f : ℕ → Bool) (w r : List ℕ) → NotFirst f (w ++ r) → NotFirst f w
 not_first f [] r n = tt
 not_first f (b ∷ w) r n = n
@@ -127,7 +116,7 @@ all_are : (f : ℕ → Bool) → f 92 ≡ false → (cs : List Character) (r : L
 all_are f z [] r h = nothing
 all_are f z (c ∷ cs) r h =
     let w = written_all cs [] in
-    let d = takes_front c w r (subst (TakesDigits c) (all_front cs r) (h.1)) in
+    let d = takes_front c w r (subst (TakesDigits c) (written_all_split cs r) (h.1)) in
     first_is f z c w (map value (map element_of cs)) (h.0) d (all_are f z cs r (h.2))
 
 -- ---- in quotes
@@ -144,22 +133,10 @@ quoted q w =
 writes : (f : ℕ → Bool) → f 92 ≡ false → (q : ℕ) (cs : List Character) → AreCharacters f cs (q ∷ [])
     → Writes (within_quotes (q ∷ written_all cs (q ∷ []))) (map value (map element_of cs))
 writes f z q cs t =
-    let e = ap (λ w. within_quotes (q ∷ w)) (all_front cs (q ∷ [])) ∙ quoted q (written_all cs []) in
+    let e = ap (λ w. within_quotes (q ∷ w)) (written_all_split cs (q ∷ [])) ∙ quoted q (written_all cs []) in
     subst (λ v. Writes v (map value (map element_of cs))) (sym e) (all_are f z cs (q ∷ []) t)
 
 -- a text writes the values of its characters
 pub text_writes : (cs : List Character) → AreCharacters is_text_byte cs (34 ∷ [])
     → Writes (within_quotes (l.spelled (l.Text cs) [])) (map value (map element_of cs))
 text_writes cs t = writes is_text_byte refl 34 cs t
-
-quote_ends : (c : Character) → TakesDigits c (39 ∷ [])
-quote_ends (ch.Plain b) = tt
-quote_ends (ch.Simple b) = tt
-quote_ends (ch.OneDigit a) = refl
-quote_ends (ch.TwoDigits a b) = refl
-quote_ends (ch.ThreeDigits a b c) = tt
-quote_ends (ch.Hexadecimal a ds) = refl
-
--- a character constant writes the value of its character
-pub character_writes : (c : Character) → IsCharacter is_character_byte c → character (l.spelled (l.Char c) []) ≡ value (element_of c)
-character_writes c h = sym (first_written (writes is_character_byte refl 39 (c ∷ []) (h, quote_ends c, tt)))

@@ -3,6 +3,7 @@ use Rattle.std.proofs.Common.{◌≡◌, ◌≤◌, ◌<◌, ◌-◌, ◌||◌, 
 use Rattle.std.proofs.lemmas.List.{length-map, drop-map}
 use Rattle.std.specs.List.{list_any}
 use Rattle.std.specs.Prelude.{is_some}
+use Rattle.c_lexer.proofs.Truths.{or_first, or_second}
 use Rattle.c_grammar.specs.TokenClasses.{keyword_class}
 use Rattle.c_grammar.specs.declared.syntax.Production.{Production}
 use Rattle.c_grammar.specs.declared.syntax.Production.TheVariants as p
@@ -172,14 +173,6 @@ other-statement word (x ∷ xs) d h t =
 
 -- ---- labels
 
-or-left : (a b : Bool) → (a || b) ≡ false → a ≡ false
-or-left true b h = h
-or-left false b h = refl
-
-or-right : (a b : Bool) → (a || b) ≡ false → b ≡ false
-or-right true b h = cc
-or-right false b h = h
-
 without : (o : Option Label) (rest : List Label) → is_some o ≡ false → (elim o [ Some l ↦ l ∷ rest | None ↦ rest ]) ≡ rest
 without None rest h = refl
 without (Some l) rest h = cc
@@ -187,8 +180,8 @@ without (Some l) rest h = cc
 pub any_label : (word : ℕ → List ℕ) (xs : List Syntax) → list_any (λ x. is_some (label_of word x)) xs ≡ false → labels_of word xs ≡ []
 any_label word [] h = refl
 any_label word (x ∷ xs) h = without (label_of word x) (labels_of word xs)
-    (or-left (is_some (label_of word x)) (list_any (λ y. is_some (label_of word y)) xs) h) ∙
-    any_label word xs (or-right (is_some (label_of word x)) (list_any (λ y. is_some (label_of word y)) xs) h)
+    (or_first (is_some (label_of word x)) (list_any (λ y. is_some (label_of word y)) xs) h) ∙
+    any_label word xs (or_second (is_some (label_of word x)) (list_any (λ y. is_some (label_of word y)) xs) h)
 
 -- ---- the list of a construct
 

@@ -36,7 +36,7 @@ at-map word [] i d h = absurd (omega arith)
 at-map word (x ∷ xs) zero d h = refl
 at-map word (x ∷ xs) (suc i) d h = at-map word xs i d (omega arith)
 
-form-content : (word : ℕ → List ℕ) (rule : Production) (first after : ℕ) (ps : List Part) → form_in (content word rule first after ps) ≡ form_by rule ps
+pub form-content : (word : ℕ → List ℕ) (rule : Production) (first after : ℕ) (ps : List Part) → form_in (content word rule first after ps) ≡ form_by rule ps
 form-content word p.Token first after ps = refl
 form-content word _ first after ps = refl
 

@@ -77,7 +77,7 @@ pub fn first_at(words: &Words, parts: &[SyntaxNode], at: usize) -> u32
 }
 
 #[tactic(auto, using(crate::proofs::Items::parts))]
-fn declared<'a>(
+fn declarator_of<'a>(
     words: &Words,
     parts: &'a [SyntaxNode],
     size: SizeLayer<'a>,
@@ -99,23 +99,23 @@ fn declarator_by<'a>(words: &Words, parts: &'a [SyntaxNode]) -> DeclaratorLayer<
     let none = InitialiserLayer::NoValue;
     if parts.len() == 3 {
         if is_token(parts[2].rule()) {
-            return declared(words, parts, SizeLayer::Unsized, none);
+            return declarator_of(words, parts, SizeLayer::Unsized, none);
         }
         let value = initialiser_layer(words, &parts[2]);
-        return declared(words, parts, SizeLayer::NoSize, value);
+        return declarator_of(words, parts, SizeLayer::NoSize, value);
     }
     if parts.len() == 4 {
-        return declared(words, parts, SizeLayer::Sized(&parts[2]), none);
+        return declarator_of(words, parts, SizeLayer::Sized(&parts[2]), none);
     }
     if parts.len() == 5 {
         let value = initialiser_layer(words, &parts[4]);
-        return declared(words, parts, SizeLayer::Unsized, value);
+        return declarator_of(words, parts, SizeLayer::Unsized, value);
     }
     if parts.len() == 6 {
         let value = initialiser_layer(words, &parts[5]);
-        return declared(words, parts, SizeLayer::Sized(&parts[2]), value);
+        return declarator_of(words, parts, SizeLayer::Sized(&parts[2]), value);
     }
-    declared(words, parts, SizeLayer::NoSize, none)
+    declarator_of(words, parts, SizeLayer::NoSize, none)
 }
 
 /// The declarator that a syntax writes, and none where it writes something else.

@@ -246,7 +246,7 @@ pub has_number : (name : List ℕ) (before : ℕ) (b : Binding) (l : List Step) 
 has_number name before b l table h = some_number (get name_cmp table name) (length l)
     (h name ∙ ap (λ t. cond t (suc (length l)) (last_bound name l)) (itself name))
 
-drop_bind : (name : List ℕ) (b : Binding) (ss : List Scope) → drop 1 (bind name b ss) ≡ drop 1 ss
+pub drop_bind : (name : List ℕ) (b : Binding) (ss : List Scope) → drop 1 (bind name b ss) ≡ drop 1 ss
 drop_bind name b [] = refl
 drop_bind name b (s ∷ ss) = refl
 

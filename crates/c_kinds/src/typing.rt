@@ -186,7 +186,7 @@ fn prefix(
 
 /// Two operands and the mark between them.
 #[cycle(typed)]
-fn joined(
+fn typed_binary(
     alloc: Global,
     known: &Known,
     faults: &mut Stack<Fault>,
@@ -210,7 +210,7 @@ fn joined(
 
 /// `a ? b : c`.
 #[cycle(typed)]
-fn chosen(
+fn typed_choice(
     alloc: Global,
     known: &Known,
     faults: &mut Stack<Fault>,
@@ -356,7 +356,7 @@ fn give(
 /// The arguments of a call, between the commas.
 #[cycle(typed)]
 #[tactic(auto, using(crate::proofs::Walks::arguments))]
-fn given(
+fn arguments_given(
     alloc: Global,
     known: &Known,
     faults: &mut Stack<Fault>,
@@ -402,14 +402,14 @@ pub fn typed_of(
             let a = dropped_value(alloc, known, faults, a)?;
             cast_void(alloc, a)
         }
-        Layer::Binary(m, a, b) => joined(alloc, known, faults, m, a, b),
-        Layer::Choice(a, b, c) => chosen(alloc, known, faults, a, b, c),
+        Layer::Binary(m, a, b) => typed_binary(alloc, known, faults, m, a, b),
+        Layer::Choice(a, b, c) => typed_choice(alloc, known, faults, a, b, c),
         Layer::Assign(m, t, a) => assigned(alloc, known, faults, m, t, a),
         Layer::Texts(ts) => texts(alloc, &known.words, ts),
         Layer::Unknown => Ok(Typed::Wrong),
         Layer::Commas(a, bs) => sequence(alloc, known, faults, a, bs),
         Layer::Call(at, xs) => {
-            let xs = given(alloc, known, faults, xs)?;
+            let xs = arguments_given(alloc, known, faults, xs)?;
             call(
                 alloc,
                 faults,

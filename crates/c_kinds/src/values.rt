@@ -257,7 +257,7 @@ pub fn cast_void(alloc: Global, a: Option<Expression>) -> Result<Typed, Memory>
     Ok(Typed::Void(Node::Cast(a)))
 }
 
-fn joined(alloc: Global, op: BinaryOp, a: Valued, b: Valued) -> Result<Typed, Memory>
+fn binary_of(alloc: Global, op: BinaryOp, a: Valued, b: Valued) -> Result<Typed, Memory>
     ensures { IfOk result (λ t. t ≡ spec.binary op (Some a) (Some b)) }
 {
     let kind = binary_kind(op, a.kind, b.kind);
@@ -290,7 +290,7 @@ pub fn binary(
         drop(a);
         return Ok(Typed::Wrong);
     };
-    joined(alloc, op, a, b)
+    binary_of(alloc, op, a, b)
 }
 
 fn conditional(alloc: Global, a: Boxed<Expression>, b: Valued, c: Valued) -> Result<Typed, Memory>
@@ -309,7 +309,7 @@ fn conditional(alloc: Global, a: Boxed<Expression>, b: Valued, c: Valued) -> Res
     }
 }
 
-fn chosen(alloc: Global, a: Valued, b: Valued, c: Valued) -> Result<Typed, Memory>
+fn choice_of(alloc: Global, a: Valued, b: Valued, c: Valued) -> Result<Typed, Memory>
     ensures { IfOk result (λ t. t ≡ spec.choice (Some a) (Some b) (Some c)) }
 {
     match boxed(alloc, a) {
@@ -322,7 +322,7 @@ fn chosen(alloc: Global, a: Valued, b: Valued, c: Valued) -> Result<Typed, Memor
     }
 }
 
-fn chosen_with(
+fn choice_with(
     alloc: Global,
     a: Valued,
     b: Option<Valued>,
@@ -340,7 +340,7 @@ fn chosen_with(
         drop(b);
         return Ok(Typed::Wrong);
     };
-    chosen(alloc, a, b, c)
+    choice_of(alloc, a, b, c)
 }
 
 /// `a ? b : c` (6.5.15).
@@ -357,7 +357,7 @@ pub fn choice(
         drop(c);
         return Ok(Typed::Wrong);
     };
-    chosen_with(alloc, a, b, c)
+    choice_with(alloc, a, b, c)
 }
 
 fn stored(alloc: Global, op: Option<ArithOp>, t: Target, a: Valued) -> Result<Typed, Memory>

@@ -10,11 +10,10 @@ use Rattle.c_lexer.specs.declared.token.TokenKind.{TokenKind}
 use Rattle.c_lexer.specs.declared.token.TokenKind.TheVariants as k
 use Rattle.c_lexer.specs.declared.token.Span.{Span}
 use Rattle.c_lexer.specs.declared.token.Scanned.{Scanned}
-use Rattle.c_lexer.specs.Pieces.{Piece, Space, Word, Number, Char, Text, Sign, Directive, Line, Block, spelled, text, Fits, behind, onto_bare, bare, word_kind, token, span, token_of, comment_of, scanned_of, IsWithin}
+use Rattle.c_lexer.specs.Pieces.{Piece, Space, Word, Number, Char, Text, Sign, Directive, Line, Block, text, Fits, behind, onto_bare, bare, word_kind, token, span, token_of, comment_of, scanned_of, IsWithin}
 use Rattle.c_lexer.specs.PieceSteps.{Good, first_behind, all_of}
 use Rattle.c_lexer.specs.Answers.{scanning, IsReading}
-use Rattle.c_lexer.proofs.PieceLemmas.{spelled_split}
-use Rattle.c_lexer.proofs.PieceWalks.{spells_walked, tokens_are, comments_are}
+use Rattle.c_lexer.proofs.PieceWalks.{spells_walked, tokens_are, comments_are, length_on}
 use Rattle.c_lexer.proofs.Later.{has_byte}
 use Rattle.c_lexer.proofs.Theorem.{scan_reading}
 
@@ -66,16 +65,13 @@ comments_inside first (Line w) at total f h = let l = line_length w in comment_o
 comments_inside first (Block w) at total f h = comment_one at (behind (Block w) at) total (further at _ (has_byte first (Block w) f)) h
 comments_inside first _ at total f h = All-nil (λ (x : Span). (x.start < x.end) × (x.end ≤ total))
 
-split_length : (p : Piece) (r : List ℕ) → length (spelled p r) ≡ length (spelled p []) + length r
-split_length p r = ap length (spelled_split p r) ∙ length-append (spelled p []) r
-
 all_inside : {X : Type 0} (start end : X → ℕ) (f : Piece → ℕ → List X)
     → ((first : Bool) (p : Piece) (at total : ℕ) → Fits first p → behind p at ≤ total → All (λ (x : X). (start x < end x) × (end x ≤ total)) (f p at))
     → (first : Bool) (ps : List Piece) (at total : ℕ) → Good first ps [] → at + length (text ps []) ≤ total →
     All (λ (x : X). (start x < end x) × (end x ≤ total)) (all_of f ps at)
 all_inside {X} start end f inside first [] at total g h = All-nil (λ (x : X). (start x < end x) × (end x ≤ total))
 all_inside {X} start end f inside first (p ∷ ps) at total g h =
-    let e = split_length p (text ps []) in
+    let e = length_on p (text ps []) in
     All-append (λ (x : X). (start x < end x) × (end x ≤ total)) (f p at) (all_of f ps (behind p at)) (inside first p at total g.0 (omega arith))
     (all_inside start end f inside (first_behind first p) ps (behind p at) total g.2 (omega arith))
 

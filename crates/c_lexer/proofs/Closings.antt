@@ -1,6 +1,6 @@
 -- What may close a comment `/*`.
 use Rattle.std.proofs.Common.{◌≡◌, ℕ, Bool, true, false, not, ◌&&◌, ◌||◌, ◌==◌, cond, List, [], ◌∷◌, refl, ap, sym, ◌∙◌, subst}
-use Rattle.std.proofs.lemmas.Bool.{eqb-true}
+use Rattle.std.proofs.lemmas.Bool.{eqb-true, not-false}
 use Rattle.c_lexer.specs.declared.state.Closing.{Closing}
 use Rattle.c_lexer.specs.declared.state.Closing.TheVariants.{Open, Starred, Continued, Returned, Joined}
 use Rattle.c_lexer.specs.declared.state.State.TheVariants.{InComment}
@@ -9,7 +9,8 @@ use Rattle.c_lexer.specs.declared.state.Taken.TheVariants.{Go}
 use Rattle.c_lexer.specs.Bytes.{is_space}
 use Rattle.c_lexer.specs.PieceSteps.{slash_follows, is_single, closes}
 use Rattle.c_lexer.specs.Machine.{continued_step, closing_else, closing_step, in_comment}
-use Rattle.c_lexer.proofs.Truths.{not_true, not_false}
+use Rattle.c_lexer.proofs.Truths.{not_true}
+use Rattle.c_lexer.proofs.OpenComments.{or_none}
 
 -- these bytes close a comment that stands so
 abbrev pub closes_from : Closing → List ℕ → Bool
@@ -54,10 +55,6 @@ starred_backslash w = go (slash_follows true w) refl
     go : (c : Bool) → slash_follows true w ≡ c → cond (slash_follows true w) (is_single (92 ∷ w)) (closes w) ≡ cond (slash_follows true w) false (closes w)
     go true e = let x = single_more 92 w e in rw (e, x)
     go false e = rw e
-
-or_none : (a : Bool) → (a || false) ≡ a
-or_none true = refl
-or_none false = refl
 
 -- behind a carriage return too a `/` may follow at once
 no_return : (a : Bool) (b : ℕ) (c : Bool) → (b == 13) ≡ false → (a || (b == 13 && c)) ≡ a
@@ -120,11 +117,11 @@ nothing_more (b ∷ w) h = absurd cc
 pub last_slash : (c : Closing) (b : ℕ) (w : List ℕ) → goes_on c b ≡ false → closes_from c (b ∷ w) ≡ true → (c ≡ Starred) × (b ≡ 47) × (w ≡ [])
 last_slash Open b w g h = absurd cc
 last_slash Continued b w g h = absurd cc
-last_slash Starred b w g h = let x = eqb-true b 47 (not_false (b == 47) g) in
+last_slash Starred b w g h = let x = eqb-true b 47 (not-false (b == 47) g) in
     (refl, x, nothing_more w (subst (λ (i : ℕ). closes_from Starred (i ∷ w) ≡ true) x h))
-last_slash Returned b w g h = let x = eqb-true b 47 (not_false (b == 47) g) in
+last_slash Returned b w g h = let x = eqb-true b 47 (not-false (b == 47) g) in
     absurd (let y : false ≡ true = subst (λ (i : ℕ). closes_from Returned (i ∷ w) ≡ true) x h in cc)
-last_slash Joined b w g h = let x = eqb-true b 47 (not_false (b == 47) g) in
+last_slash Joined b w g h = let x = eqb-true b 47 (not-false (b == 47) g) in
     absurd (let y : false ≡ true = subst (λ (i : ℕ). closes_from Joined (i ∷ w) ≡ true) x h in cc)
 
 pub comment_on : (s : ℕ) (c : Closing) (b at : ℕ) → goes_on c b ≡ true → in_comment s c b at ≡ Go (InComment s (closing_step c b)) ended.Nothing

@@ -1,7 +1,7 @@
 -- Bytes close a comment just where going along them finds so.
 use Rattle.std.proofs.Common.{◌≡◌, ◌⊎◌, inl, inr, ℕ, Bool, true, false, not, ◌&&◌, ◌||◌, ◌==◌, cond, List, [], ◌∷◌, ◌++◌, length, refl, ap, sym, ◌∙◌, subst, arith, length-append}
 use Rattle.std.specs.List.{list_all}
-use Rattle.std.proofs.lemmas.Bool.{eqb-true}
+use Rattle.std.proofs.lemmas.Bool.{eqb-true, or_cases, or_right}
 use Rattle.c_lexer.specs.Bytes.{is_space, is_white, is_newline, is_return}
 use Rattle.c_lexer.specs.Pieces.{SlashFollows, slash_next, line_end_next, Closes}
 use Rattle.c_lexer.specs.PieceSteps.{slash_follows, is_single, closes}
@@ -27,14 +27,6 @@ white_more b r n s k =
 at_end : (b : ℕ) (r : List ℕ) → (is_newline b || is_return b) ≡ true → SlashFollows r → InLineEnd (b ∷ r)
 at_end b r e s = record { white = []; byte = b; behind = r; bytes = refl; all = refl; ends = e; slash = s }
 
-or_right : (a b : Bool) → b ≡ true → (a || b) ≡ true
-or_right true b h = refl
-or_right false b h = h
-
-either : (a b : Bool) → (a || b) ≡ true → (a ≡ true) ⊎ (b ≡ true)
-either true b h = inl refl
-either false b h = inr h
-
 by_line_end : (b : ℕ) (r : List ℕ) → (b == 92) ≡ true → InLineEnd r → SlashFollows (b ∷ r)
 by_line_end b r e k =
     subst (λ i. SlashFollows (i ∷ r)) (sym (eqb-true b 92 e))
@@ -56,12 +48,12 @@ line_end_at : (b : ℕ) (r : List ℕ) (c : Bool) → is_newline b ≡ c → (sl
 line_end_at b r true n f g h = at_end b r (ap (λ c. c || is_return b) n) (f h)
 line_end_at b r false n f g h =
     let q = both_true (is_space b) (slash_follows true r || (b == 13 && slash_follows false r)) h in
-    in_line_end b r n q.0 f g (either (slash_follows true r) (b == 13 && slash_follows false r) q.1)
+    in_line_end b r n q.0 f g (or_cases (slash_follows true r) (b == 13 && slash_follows false r) q.1)
 
 mutual
   pub slash_there : (r : List ℕ) → slash_follows false r ≡ true → SlashFollows r
   slash_there [] h = absurd cc
-  slash_there (b ∷ r) h = slash_at b r (λ k. line_end_there r k) (either (b == 47) (b == 92 && slash_follows true r) h)
+  slash_there (b ∷ r) h = slash_at b r (λ k. line_end_there r k) (or_cases (b == 47) (b == 92 && slash_follows true r) h)
 
   line_end_there : (r : List ℕ) → slash_follows true r ≡ true → InLineEnd r
   line_end_there [] h = absurd cc
@@ -97,7 +89,7 @@ slash_found _ (line_end_next white b r a e s) = through white b r a e (slash_fou
 
 single_slash : (w : List ℕ) → is_single w ≡ true → slash_follows false w ≡ true → w ≡ 47 ∷ []
 single_slash [] h s = absurd cc
-single_slash (x ∷ []) h s = here (either (x == 47) (x == 92 && false) s)
+single_slash (x ∷ []) h s = here (or_cases (x == 47) (x == 92 && false) s)
   where
     here : ((x == 47) ≡ true) ⊎ ((x == 92 && false) ≡ true) → x ∷ [] ≡ 47 ∷ []
     here (inl e) = ap (λ (i : ℕ). i ∷ []) (eqb-true x 47 e)

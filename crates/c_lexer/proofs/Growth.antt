@@ -2,7 +2,7 @@
 use Rattle.std.proofs.Common.{◌≡◌, inr, ◌+◌, ℕ, Bool, true, false, not, ◌&&◌, ◌||◌, ◌==◌, cond, List, [], ◌∷◌, ◌++◌, length, Option, Some, None, refl, arith, ap, sym, ◌∙◌, subst, append_assoc, take}
 use Rattle.std.specs.Prelude.{slice_range, is_some}
 use Rattle.std.specs.List.{list_all}
-use Rattle.std.proofs.lemmas.Bool.{eqb-true}
+use Rattle.std.proofs.lemmas.Bool.{eqb-true, or_from, and_from}
 use Rattle.std.proofs.lemmas.List.{take_at}
 use Rattle.std.proofs.lemmas.Bool.Decides.{nat_tests}
 use Rattle.c_lexer.specs.declared.mark.Mark.{Mark}
@@ -163,15 +163,12 @@ line_ended p s b at P ps w i k n f l h =
 
 -- ---- words and numbers
 
-both : (a b : Bool) → a ≡ true → b ≡ true → (a && b) ≡ true
-both a b h k = rw (h, k)
-
 continues_more : (power : Bool) (w : List ℕ) (b : ℕ) → continues_from power w ≡ true → is_run_byte (power_from power w) b ≡ true →
     continues_from power (w ++ b ∷ []) ≡ true
 continues_more power [] b h k = rw k
 continues_more power (x ∷ w) b h k =
     let q = both_true (is_run_byte power x) (continues_from (is_power x) w) h in
-    both (is_run_byte power x) (continues_from (is_power x) (w ++ b ∷ [])) q.0 (continues_more (is_power x) w b q.1 k)
+    and_from (is_run_byte power x) (continues_from (is_power x) (w ++ b ∷ [])) q.0 (continues_more (is_power x) w b q.1 k)
 
 power_more : (power : Bool) (w : List ℕ) (b : ℕ) → power_from power (w ++ b ∷ []) ≡ is_power b
 power_more power [] b = refl
@@ -191,12 +188,9 @@ dot_grown Dot s at b P ps i h = part_along s (at + 1) ps (46 ∷ b ∷ []) (46 �
     (grown s at ps (46 ∷ []) b P i)
 dot_grown _ s at b P ps i h = absurd (let x = h.0 in cc)
 
-either_false : (a b : Bool) → a ≡ false → b ≡ false → (a || b) ≡ false
-either_false a b h k = rw (h, k)
-
 slash_rest : (m : Mark) (b : ℕ) (r : List ℕ) → (is_slash m && b == 42) ≡ false → (is_slash m && b == 47) ≡ false → m ≡ Slash →
     NotFirst (λ x. x == 42 || x == 47) (b ∷ r)
-slash_rest Slash b r h g e = either_false (b == 42) (b == 47) h g
+slash_rest Slash b r h g e = or_from (b == 42) (b == 47) h g
 slash_rest _ b r h g e = absurd cc
 
 mark_goes : (s : ℕ) (m : Mark) (b at : ℕ) (P : Front) (ps : List Piece) → Part s at ps (mark_text m) P → (is_slash m && b == 42) ≡ false →
@@ -425,7 +419,7 @@ pub goes : (t : List ℕ) (s : State) (at : ℕ) (P : Front) → Ready s at P �
 goes t (Between first) at P (ps, i, f) b rest e = begins first ended.Nothing b at P ps i.0 (λ r. i.1 (b ∷ r)) i.2 f
 goes t (InWord s) at P (ps, x, w, i, letter, each) b rest e =
     branch (is_word_byte b) _ _ _ _ (λ h. (ps, x, w ++ b ∷ [], grown s at ps (x ∷ w) b P i, letter, all_more is_word_byte w b each h))
-    (λ h. after (Word (x ∷ w)) _ s b at P ps (x ∷ w) i (λ r. refl) refl (both (is_letter x) (list_all is_word_byte w) letter each) refl (λ r. h))
+    (λ h. after (Word (x ∷ w)) _ s b at P ps (x ∷ w) i (λ r. refl) refl (and_from (is_letter x) (list_all is_word_byte w) letter each) refl (λ r. h))
 goes t (InNumber s power) at P (ps, x, w, i, digit, run, last) b rest e =
     branch (is_run_byte power b) _ _ _ _ (λ h. (
       ps,
@@ -438,7 +432,7 @@ goes t (InNumber s power) at P (ps, x, w, i, digit, run, last) b rest e =
     ))
     (λ h. branch (is_some (integer_of (slice_range t s at))) _ _ _ _
     (λ g. after (Number (x ∷ w)) _ s b at P ps (x ∷ w) i (λ r. refl) refl (
-      both (is_digit x) (continues (x ∷ w)) digit (sym (run_continues x w digit) ∙ run),
+      and_from (is_digit x) (continues (x ∷ w)) digit (sym (run_continues x w digit) ∙ run),
       ap (λ (v : List ℕ). is_some (integer_of v)) (sym (part_slice t s at ps (x ∷ w) P (b ∷ rest) i e)) ∙ g,
     ) refl
     (λ r. ap (λ (c : Bool). is_run_byte c b) (sym (run_power x w digit) ∙ last) ∙ h))

@@ -2,7 +2,7 @@
 use Rattle.std.proofs.Common.{◌≡◌, ◌≤◌, ℕ, zero, suc, Bool, true, false, cond, not, ◌&&◌, ◌||◌, ◌==◌, List, [], ◌∷◌, length, Option, Some, None, refl, ap, sym, ◌∙◌, subst, arith}
 use Rattle.std.specs.Prelude.{is_some, codes, Decides}
 use Rattle.std.specs.Option.{option_map_or}
-use Rattle.std.proofs.lemmas.Bool.{eqb-true}
+use Rattle.std.proofs.lemmas.Bool.{eqb-true, or_parts}
 use Rattle.c_lexer.specs.Includes.{begins_with, behind_comment, has_open, is_quote, begins_comment, Leaves, nothing, line, quote, unended, comment, other, behind_header, ClosesComments, named, nameless}
 use Rattle.c_lexer.specs.IncludeSteps.{leaves_open, is_directive}
 use Rattle.c_lexer.specs.Pieces.{is_include, IsDirective}
@@ -11,17 +11,13 @@ use Rattle.c_lexer.proofs.Truths.{both_true}
 
 -- ---- what is left
 
-neither : (x y : Bool) → (x || y) ≡ false → (x ≡ false) × (y ≡ false)
-neither true y h = cc
-neither false y h = (refl, h)
-
 abbrev chosen : Bool → Bool → Bool → ℕ → ℕ → List ℕ → List ℕ
 chosen x y q b c u = cond x [] (cond y (cond (is_some (behind_comment u)) (past_comment u) (b ∷ c ∷ u)) (cond q (b ∷ c ∷ u) (from_quote (c ∷ u))))
 
 passed : (b : ℕ) (w : List ℕ) → begins_comment (b ∷ w) ≡ false → is_quote b ≡ false → from_quote (b ∷ w) ≡ from_quote w
 passed b [] h q = ap (λ x. cond x (b ∷ []) []) q
 passed b (c ∷ u) h q =
-    let n = neither (begins_with (codes "//") (b ∷ c ∷ u)) (begins_with (codes "/*") (b ∷ c ∷ u)) h in
+    let n = or_parts (begins_with (codes "//") (b ∷ c ∷ u)) (begins_with (codes "/*") (b ∷ c ∷ u)) h in
     (λ i. chosen (n.0 i) (n.1 i) (q i) b c u)
 
 no_slash : (b : ℕ) → is_quote b ≡ true → (47 == b) ≡ false

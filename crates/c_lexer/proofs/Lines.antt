@@ -54,12 +54,12 @@ breaks_same b w r e h = let x = space_newline w r e h in let y = returns_newline
 no_more : (a c r : Bool) → a ≡ false → c ≡ false → r ≡ true → (not (a || c) && r) ≡ true
 no_more a c r h k l = rw (h, k, l)
 
-not_here : (c : Bool) (o : Option ℕ) → cond c (Some 0) (option_map (λ n. n + 1) o) ≡ None → (c ≡ false) × (o ≡ None)
+pub not_here : (c : Bool) (o : Option ℕ) → cond c (Some 0) (option_map (λ n. n + 1) o) ≡ None → (c ≡ false) × (o ≡ None)
 not_here true o h = absurd cc
 not_here false None h = (refl, refl)
 not_here false (Some n) h = absurd cc
 
-here_not : (c : Bool) (o : Option ℕ) → c ≡ false → o ≡ None → cond c (Some 0) (option_map (λ n. n + 1) o) ≡ None
+pub here_not : (c : Bool) (o : Option ℕ) → c ≡ false → o ≡ None → cond c (Some 0) (option_map (λ n. n + 1) o) ≡ None
 here_not c o h g = rw (h, g)
 
 pub runs_to_newline : (w r : List ℕ) → NewlineNext r → has_no_newline w ≡ true → broken_at w ≡ None → runs_on w r ≡ true

@@ -58,7 +58,7 @@ sort b =
 
 -- ---- where compilers don't agree
 
-or_none : (a : Bool) → (a || false) ≡ a
+pub or_none : (a : Bool) → (a || false) ≡ a
 or_none true = refl
 or_none false = refl
 

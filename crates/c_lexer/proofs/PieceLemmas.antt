@@ -92,7 +92,7 @@ written_split (TwoDigits a b) r = refl
 written_split (ThreeDigits a b c) r = refl
 written_split (Hexadecimal a ds) r = ap (λ (w : List ℕ). 92 ∷ 120 ∷ a ∷ w ++ r) (sym (append-nil ds))
 
-written_all_split : (cs : List Character) (r : List ℕ) → written_all cs r ≡ written_all cs [] ++ r
+pub written_all_split : (cs : List Character) (r : List ℕ) → written_all cs r ≡ written_all cs [] ++ r
 written_all_split [] r = refl
 written_all_split (c ∷ cs) r =
     written_split c (written_all cs r) ∙ ap (λ (w : List ℕ). written c [] ++ w) (written_all_split cs r) ∙

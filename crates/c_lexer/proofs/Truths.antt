@@ -21,10 +21,6 @@ pub not_true : (a : Bool) → not a ≡ true → a ≡ false
 not_true true h = cc
 not_true false h = refl
 
-pub not_false : (a : Bool) → not a ≡ false → a ≡ true
-not_false true h = refl
-not_false false h = cc
-
 pub and_not : (a b : Bool) → (not a && b) ≡ true → (a ≡ false) × (b ≡ true)
 and_not true b h = absurd cc
 and_not false b h = (refl, h)
@@ -36,8 +32,3 @@ and_false false = refl
 pub or_true : (a : Bool) → (a || true) ≡ true
 or_true true = refl
 or_true false = refl
-
--- where the first does not hold, the second does
-pub second_of : (a b : Bool) → a ≡ false → (a || b) ≡ true → b ≡ true
-second_of true b e h = absurd cc
-second_of false b e h = h

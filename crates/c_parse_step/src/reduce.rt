@@ -24,7 +24,7 @@ use crate::kind::{
     is_assign, is_close, is_close_index, is_colon, is_comma, is_question, is_same, is_step, level,
 };
 use crate::load::{COUNTED, Load, OUTSIDE, UNCOUNTED};
-use crate::resume::{ended, resume};
+use crate::resume::{finished_node, resume};
 use crate::statements::at_block_items;
 use crate::want::want_expression;
 use c_grammar::{Class, Production, SyntaxNode};
@@ -595,7 +595,7 @@ fn rest_of_node(
         Found::Whole(v) => {
             form.parts.push(v)?;
             if form.todo.is_empty() {
-                return Ok(Given::Passed(Found::Whole(ended(form, at))));
+                return Ok(Given::Passed(Found::Whole(finished_node(form, at))));
             }
             resume(alloc, stack, form, class, at)
         }

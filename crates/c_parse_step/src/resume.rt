@@ -256,7 +256,7 @@ fn begin(
 }
 
 /// A node of which nothing is left, in front of a token.
-pub fn ended(form: Form, at: u32) -> SyntaxNode
+pub fn finished_node(form: Form, at: u32) -> SyntaxNode
     ensures { result ≡ nodes.node form.rule form.first at form.parts }
 {
     node(form.rule, form.first, at, form.parts)
@@ -285,5 +285,5 @@ pub fn resume(
                 .push(node(Production::Params, at, at, List::new(alloc)))?;
         }
     }
-    Ok(Given::Passed(Found::Whole(ended(form, at))))
+    Ok(Given::Passed(Found::Whole(finished_node(form, at))))
 }

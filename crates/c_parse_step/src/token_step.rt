@@ -22,7 +22,7 @@ use crate::given::Given;
 use crate::kind::{is_close, is_open, is_open_index, is_same, is_step, is_text};
 use crate::load::{COUNTED, Load, OUTSIDE, UNCOUNTED};
 use crate::reduce::reduce;
-use crate::resume::{ended, resume};
+use crate::resume::{finished_node, resume};
 use crate::statements::{at_block_items, statement_form};
 use crate::want::{behind_operand, put, put_before, rest, taken, todo, want_expression};
 use c_grammar::{Class, Production, SyntaxNode};
@@ -63,7 +63,7 @@ fn resumed(
     ensures { Steps (spec.resume form stack.old class at) result stack.new }
 {
     if form.todo.is_empty() {
-        let whole = ended(form, at);
+        let whole = finished_node(form, at);
         return give(alloc, stack, Found::Whole(whole), class, at);
     }
     match resume(alloc, stack, form, class, at)? {

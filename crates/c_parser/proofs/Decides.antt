@@ -4,15 +4,15 @@ use Rattle.std.proofs.lemmas.Bool.{ltb-true, ltb-false}
 use Rattle.c_grammar.specs.declared.class.Class.{Class}
 use Rattle.c_grammar.specs.declared.class.Class.TheVariants as c
 use Rattle.c_grammar.specs.declared.syntax.Syntax.{Syntax}
-use Rattle.c_grammar.specs.Events.{Event, Outside}
+use Rattle.c_grammar.specs.Events.{Outside}
 use Rattle.c_grammar.specs.FileSyntax.{file_node}
 use Rattle.c_grammar.specs.Counts.{file_events}
 use Rattle.c_grammar.specs.Derives.{first_too_many, Derives, Viable, NotBefore, IsUnexpected, IsTooMany}
 use Rattle.c_parse_step.specs.declared.frame.Frame.TheVariants as s
 use Rattle.c_parse_step.specs.Machine.{start, Ran, Left, Unexpected, TooMany, run}
-use Rattle.c_parser.proofs.Traces.{Through, logged}
+use Rattle.c_parser.proofs.Traces.{logged}
 use Rattle.c_parser.proofs.CompleteFiles.{complete_file}
-use Rattle.c_parser.proofs.Exact.{sound, first_fault, first_too_many_is, left_accepted}
+use Rattle.c_parser.proofs.Exact.{sound, first_fault, first_too_many_is, left_accepted, same_file}
 
 -- what a run comes to, in the words of the grammar
 abbrev pub Says : List Class → Ran → Type 0
@@ -136,14 +136,11 @@ not_both l j k u y = by_test (nat_lt j k) refl
 
 -- ---- the run answers so
 
-same_node : (x y : Syntax) (a b : List Event) → Through (s.Accepted x ∷ []) a ≡ Through (s.Accepted y ∷ []) b → x ≡ y
-same_node x y a b e = cc
-
 -- tokens derive at most one syntax
 pub unambiguous : (tokens : List Class) (x y : Syntax) → Derives tokens x → Derives tokens y → x ≡ y
 unambiguous tokens x y d e =
     d.syntax_of
-    ∙ same_node (file_node d.file) (file_node e.file) (Outside ∷ file_events d.file []) (Outside ∷ file_events e.file [])
+    ∙ same_file (file_node d.file) (file_node e.file) (Outside ∷ file_events d.file []) (Outside ∷ file_events e.file [])
     (sym (complete_file d.file d.formed) ∙ ap (λ (l : List Class). logged start 0 l []) (d.spelled ∙ sym e.spelled) ∙ complete_file e.file e.formed)
     ∙ sym e.syntax_of
 

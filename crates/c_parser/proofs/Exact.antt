@@ -33,7 +33,7 @@ same_frames x y a b e = cc
 same_events : (x y : Frames) (a b : List Event) → Through x a ≡ Through y b → a ≡ b
 same_events x y a b e = cc
 
-same_file : (x y : Syntax) (a b : List Event) → Through (s.Accepted x ∷ []) a ≡ Through (s.Accepted y ∷ []) b → x ≡ y
+pub same_file : (x y : Syntax) (a b : List Event) → Through (s.Accepted x ∷ []) a ≡ Through (s.Accepted y ∷ []) b → x ≡ y
 same_file x y a b e = cc
 
 -- a token outside all expressions goes over no limit

@@ -1,14 +1,15 @@
 -- The items that statements are, each at its place (ISO/IEC 9899:2011, 6.8).
 use Rattle.std.specs.Prelude.{ℕ, cond, ◌||◌, List, [], ◌∷◌, ◌++◌, map, option_map}
 use Rattle.c_tree.specs.declared.tree.Item as item
-use Rattle.c_tree.specs.declared.tree.Section.{Section, out-Section}
+use Rattle.c_tree.specs.declared.tree.Section.{Section}
 use Rattle.c_tree.specs.declared.tree.Selector as selector
+use Rattle.c_tree.specs.SectionLabels.{labels_passed}
 use Rattle.c_grammar.specs.Items.{Declarator, Declaration, Label, Start, NoStart, StartValue, StartNames, Declares, States, Plain, From, Statement, Null, Evaluate, If, IfElse, While, DoWhile, For, Switch, Block, Goto, Break, Continue, Return, Unread, Body, Braces, Lone, Items, NoItem, Then, first_label}
 use Rattle.c_grammar.specs.Items as items
 use Rattle.c_statements.specs.declared.anchors.Anchor.TheVariants.{Before, AtEnd, AtSection}
 use Rattle.c_statements.specs.Declarations.{initial}
 use Rattle.c_statements.specs.Labels.{has_case, has_default}
-use Rattle.c_statements.specs.Sections.{Reading, ended, front, is_passing, with_labels}
+use Rattle.c_statements.specs.Sections.{Reading, ended, front}
 use Rattle.c_statements.specs.Statements.{is_null, begins}
 use Rattle.c_reading_defs.specs.Typings.{Typing}
 use Rattle.c_reading_defs.specs.Labels.{InFunction, notes_at, label_number}
@@ -42,15 +43,6 @@ section_with typing f p ls xs = record {
   list = notes_at f (AtSection (first_label ls)) ++ section_marks f ls ++ xs;
 }
 
--- a section in front of these: one with an empty list and no end gives its cases and its default to the next, if there is one
-abbrev pub in_front : Section → List Section → List Section
-in_front s [] = s ∷ []
-in_front s (t ∷ ts) = cond (is_passing s) (with_labels (out-Section s).cases (out-Section s).default t ∷ ts) (s ∷ t ∷ ts)
-
-abbrev pub passed_on : List Section → List Section
-passed_on [] = []
-passed_on (s ∷ ss) = in_front s (passed_on ss)
-
 -- ---- items
 
 abbrev mutual
@@ -73,7 +65,7 @@ abbrev mutual
       let inner = within_for f start p in
       item.For (start_items typing f start inner) (option_map (value_at typing (names f inner)) t) (option_map (dropped_at typing (names f inner)) u)
       (body_items typing f b inner) ∷ []
-  statement_items typing f (Switch t b) p = item.Switch (selector.Source (value_at typing (names f p) t)) (passed_on (switch_sections typing f b p)) ∷ []
+  statement_items typing f (Switch t b) p = item.Switch (selector.Source (value_at typing (names f p) t)) (labels_passed (switch_sections typing f b p)) ∷ []
   statement_items typing f (Block b) p = item.Block (body_items typing f b p) ∷ []
   statement_items typing f (Goto at) p = item.Goto (label_number f.labels (f.word at)) ∷ []
   statement_items typing f Break p = item.Break ∷ []

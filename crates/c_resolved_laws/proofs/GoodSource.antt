@@ -115,7 +115,7 @@ plain_item f x h = tt
 
 -- ---- labels of gotos
 
-some_there : (n : ℕ) → is_some_number n ≡ true → 0 < n
+pub some_there : (n : ℕ) → is_some_number n ≡ true → 0 < n
 some_there zero h = absurd (true≢false (sym h))
 some_there (suc n) h = omega arith
 

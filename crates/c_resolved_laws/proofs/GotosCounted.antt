@@ -23,8 +23,8 @@ use Rattle.flat_laws.specs.Parts.{Here, past, past_item, inside, Ending, Gone, B
 use Rattle.flat_laws.specs.FlatForm.{Plan, names_of, scatter_aim, otherwise_label, end_goto, aim, exit, is_moved, is_jumpy_switch, assigned, mark_if, arrival, dissolved, if_breaks, flat_for, flat, flat_item, flat_last, flat_last_item}
 use Rattle.flat_laws.specs.FlatForm.{flat_sections, spread, coded, numbered, first_here, flat_body, marks}
 use Rattle.flat_laws.proofs.SameCounts.{weight}
+use Rattle.flat_laws.proofs.Stand.{later_else, later_last, later_gone, switch_no_break, switch_stays, gone_or_no_break}
 use Rattle.c_resolved_laws.specs.Counts.{goto_of, tested, section_ends, gotos_in, summed, summed_of, summed_in, gotos_of}
-use Rattle.c_resolved_laws.proofs.Endings.{switch_stays, switch_no_break, label_no_break, later_gone, later_else, later_last}
 use Rattle.c_resolved_laws.proofs.Measures.{goto_weights}
 
 abbrev gotos : Forest → ℕ
@@ -71,7 +71,7 @@ aim_moved false n l = refl
 aim_moved true zero l = refl
 aim_moved true (suc n) l = refl
 
-cond_sum : (j : Bool) (m n : ℕ) → cond j (m + n) 0 ≡ cond j m 0 + cond j n 0
+pub cond_sum : (j : Bool) (m n : ℕ) → cond j (m + n) 0 ≡ cond j m 0 + cond j n 0
 cond_sum true m n = refl
 cond_sum false m n = refl
 
@@ -398,7 +398,7 @@ module _ (p : Plan) where
         let k = ap (exits b) j in
         omega (arith, i, k)
     last_item_gotos h b c r Break e = let l = exits_none b in let m = exits_none c in omega (arith, l, m)
-    last_item_gotos h b c r (Mark l) e = absurd (label_no_break (p.live l) e)
+    last_item_gotos h b c r (Mark l) e = absurd (gone_or_no_break (p.live l) e)
     last_item_gotos h b c r (Local x None) e = cc
     last_item_gotos h b c r (Local x (Some es)) e = cc
     last_item_gotos h b c r (Switch s d) e = absurd (switch_no_break (is_scattered d && not (leaves d)) (last_ending p.live d) e)

@@ -5,6 +5,7 @@ use Rattle.std.proofs.lemmas.Slice.Eq.{bytes_eq-Decides}
 use Rattle.std.proofs.lemmas.Option.{slice_get_within}
 use Rattle.std.proofs.lemmas.Int.{ints}
 use Rattle.std.specs.Option.{option_or}
+use Rattle.std.proofs.lemmas.Bool.{or_from}
 use Rattle.c_types.specs.declared.kinds.IntKind.{IntKind}
 use Rattle.c_types.specs.declared.kinds.IntKind.TheVariants.{Char, Int}
 use Rattle.c_types.specs.Numbers.{converted, IsInRange}
@@ -32,6 +33,7 @@ use Rattle.jump_meaning.specs.World.{no_slot, kind_held}
 use Rattle.jump_meaning.specs.Operations.{operand_kind}
 use Rattle.plain_laws.specs.Kinded.{Kinded, k_number, k_character, k_enum, k_text, k_read, k_unary, k_cast, k_binary, k_conditional, k_assign, k_update, k_count, k_comma, k_call, KindedPlace, k_var, k_cell, KindedArguments, k_none, k_argument, k_array, IsHome, home_kind, place_kind, call_kind, kind_called, gives_int}
 use Rattle.plain_laws.specs.Kinded as K
+use Rattle.plain_laws.proofs.PlainShown.{first_true}
 use Rattle.c_resolved_defs.specs.Within.{Within, PlaceWithin, ArgumentsWithin}
 use Rattle.c_resolved_defs.specs.Names.{Names, Printf, Unknown, variable, first_function, the_function, the_global, declared_or, known, library, an_int, callee}
 use Rattle.c_resolved_defs.specs.Kinds.{IsOperand, HasValue, unary_kind, binary_kind, of_both, KindAgrees, PlaceAgrees, ArgumentsFit, FitsCells, IsArrayFor, wanted, ValuesFit, FormatFits, CallFits}
@@ -44,10 +46,6 @@ when : {A : Type 0} (P : A → Type 0) (b : Bool) (x y : A) → (b ≡ true → 
 when P true x y f g = f refl
 when P false x y f g = g
 
-and_left : (a b : Bool) → (a && b) ≡ true → a ≡ true
-and_left true b e = refl
-and_left false b e = absurd (true≢false (sym e))
-
 or_left : (a b : Bool) → (a || b) ≡ false → a ≡ false
 or_left true b e = absurd (true≢false e)
 or_left false b e = refl
@@ -55,10 +53,6 @@ or_left false b e = refl
 or_right : (a b : Bool) → (a || b) ≡ false → b ≡ false
 or_right true b e = absurd (true≢false e)
 or_right false b e = e
-
-or_false : (a b : Bool) → a ≡ false → b ≡ false → (a || b) ≡ false
-or_false true b e f = absurd (true≢false e)
-or_false false b e f = f
 
 decided : (b c : Bool) → (b ≡ true → c ≡ true) → c ≡ false → b ≡ false
 decided true c f e = absurd (true≢false (sym (f refl) ∙ e))
@@ -132,7 +126,7 @@ first_unknown : (q : Function → Bool) (m : List ℕ) (ts : List Top) (ss : Lis
 first_unknown q m [] ss h = tt
 first_unknown q m (T.Function f ∷ ts) ss h =
     when (IsUnknown m) (bytes_eq f.name m && q f) (Some f) (first_function q m ts)
-    (λ e. subst (λ w. is_known w ≡ false) ((bytes_eq-Decides f.name m).0 (and_left (bytes_eq f.name m) (q f) e)) h.0.unknown)
+    (λ e. subst (λ w. is_known w ≡ false) ((bytes_eq-Decides f.name m).0 (first_true (bytes_eq f.name m) (q f) e)) h.0.unknown)
     (first_unknown q m ts (behind_top ss (T.Function f)) h.1)
 first_unknown q m (T.Include bytes ∷ ts) ss h = first_unknown q m ts ss h.1
 first_unknown q m (T.Enum xs ∷ ts) ss h = first_unknown q m ts (behind_top ss (T.Enum xs)) h.1
@@ -150,8 +144,8 @@ gives_no_int m e =
     let f = bytes_eq (codes "printf") m in
     let e1 = or_right g _ e in
     let e2 = or_right c _ e1 in
-    or_false (bytes_eq m (codes "getchar")) (bytes_eq m (codes "putchar") || bytes_eq m (codes "printf")) (turned (codes "getchar") m (or_left g _ e))
-    (or_false (bytes_eq m (codes "putchar")) (bytes_eq m (codes "printf")) (turned (codes "putchar") m (or_left c _ e1))
+    or_from (bytes_eq m (codes "getchar")) (bytes_eq m (codes "putchar") || bytes_eq m (codes "printf")) (turned (codes "getchar") m (or_left g _ e))
+    (or_from (bytes_eq m (codes "putchar")) (bytes_eq m (codes "printf")) (turned (codes "putchar") m (or_left c _ e1))
     (turned (codes "printf") m (or_left f _ e2)))
 
 pub unknown_named : (ts : List Top) → NamesAreBound ts → (m : List ℕ) → IfSome (the_function m ts) (λ f. gives_int m ≡ false)

@@ -23,9 +23,9 @@ use Rattle.flat_laws.specs.FlatForm.{flat_sections, spread, marks, marks_in, mar
 use Rattle.flat_laws.specs.Source.{nones, AreDifferent, HasOwnCases, IfTrue}
 use Rattle.flat_laws.proofs.Counts.{one_if}
 use Rattle.flat_laws.proofs.SameCounts.{weight}
+use Rattle.flat_laws.proofs.Stand.{later_else, later_last, later_gone, switch_no_break, switch_stays, gone_or_no_break, gone_else}
 use Rattle.c_resolved_laws.specs.Counts.{one_for, is_jumpy, labels_in, summed, summed_of, summed_in, labels_named}
-use Rattle.c_resolved_laws.proofs.Endings.{switch_stays, switch_no_break, gone_else, label_no_break, later_gone, later_else, later_last}
-use Rattle.c_resolved_laws.proofs.GotosCounted.{aim_moved}
+use Rattle.c_resolved_laws.proofs.GotosCounted.{aim_moved, cond_sum}
 
 abbrev labels : Forest → ℕ
 labels a = total (weight 0 1) a
@@ -70,10 +70,6 @@ aim_label : (j : Bool) (n l : ℕ) → labels (mark_of (aim j n l)) ≡ cond j (
 aim_label false n l = refl
 aim_label true zero l = refl
 aim_label true (suc n) l = refl
-
-two_aims : (j : Bool) (m n : ℕ) → cond j (m + n) 0 ≡ cond j m 0 + cond j n 0
-two_aims true m n = refl
-two_aims false m n = refl
 
 leave_label : (q : Bool) (l : ℕ) → labels (mark_of (cond q (Becomes l) Absent)) ≡ cond q 1 0
 leave_label true l = refl
@@ -214,7 +210,7 @@ module _ (p : Plan) where
       let f = ap (λ q. given q a) (aim_moved j (continues a) m) in
       let g = aim_label j (breaks a) l in
       let h = aim_label j (continues a) m in
-      let i = two_aims j (one_for (breaks a)) (one_for (continues a)) in
+      let i = cond_sum j (one_for (breaks a)) (one_for (continues a)) in
       omega (arith, e, f, g, h, i)
 
   by_ending : (e : Ending) (xs ys : Forest) (n : ℕ) → (e ≡ Breaks → labels xs ≡ n) → labels ys ≡ n → labels (if_breaks e xs ys) ≡ n
@@ -327,7 +323,7 @@ module _ (p : Plan) where
     last_item_labels : (h : Here) (b c : Aim) (x : Tree) → ending_of p.live x ≡ Breaks → labels (flat_last_item p h b c NoArrival x) ≡ given_of (is_moved c) x
     last_item_labels h b c (Block a) e = let i = last_labels h b c a e in omega (arith, i)
     last_item_labels h b c Break e = refl
-    last_item_labels h b c (Mark l) e = absurd (label_no_break (p.live l) e)
+    last_item_labels h b c (Mark l) e = absurd (gone_or_no_break (p.live l) e)
     last_item_labels h b c (Local x None) e = cc
     last_item_labels h b c (Local x (Some es)) e = cc
     last_item_labels h b c (Switch s d) e = absurd (switch_no_break (is_scattered d && not (leaves d)) (last_ending p.live d) e)

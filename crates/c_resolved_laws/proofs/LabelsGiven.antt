@@ -2,6 +2,7 @@
 use Rattle.std.proofs.Common.{ℕ, zero, suc, ◌+◌, ◌≤◌, ◌<◌, ◌≢◌, ℤ, Bool, true, false, cond, eqb, List, [], ◌∷◌, ◌++◌, map, length, Option, Some, None, option_map, IsSome, ◌≡◌, refl, sym, ap, subst, ◌∙◌, true≢false, arith}
 use Rattle.std.proofs.lemmas.Bool.Decides.{Decides-eqb, Decides-int_eq}
 use Rattle.std.specs.Prelude.{IsSomeAnd}
+use Rattle.std.proofs.lemmas.Bool.{false_from_ne_true}
 use Rattle.c_types.specs.declared.kinds.IntKind.{IntKind}
 use Rattle.c_types.specs.Numbers.{promoted, converted}
 use Rattle.c_tree.specs.declared.tree.Function.{Function}
@@ -136,12 +137,8 @@ nones_same (None ∷ ls) = ap suc (nones_same ls)
 
 -- ---- different cases
 
-refuted : (b : Bool) → (b ≡ true → ⊥) → b ≡ false
-refuted true f = absurd (f refl)
-refuted false f = refl
-
 other : (m n : Option ℤ) → n ≢ m → same_number n m ≡ false
-other (Some m) (Some n) h = refuted (same_number (Some n) (Some m)) (λ e. h (ap Some ((Decides-int_eq n m).0 e)))
+other (Some m) (Some n) h = false_from_ne_true (same_number (Some n) (Some m)) (λ e. h (ap Some ((Decides-int_eq n m).0 e)))
 other None (Some n) h = refl
 other _ None h = refl
 
@@ -169,7 +166,7 @@ always : (b : Bool) (A : Type 0) → A → IfTrue b A
 always true A a = a
 always false A a = tt
 
-own_labels : (k : IntKind) (c : Sections) → AreLabels k (switch_labels c) →
+pub own_labels : (k : IntKind) (c : Sections) → AreLabels k (switch_labels c) →
     (nones (P.switch_labels c) ≤ 1) × AreDifferent (map (case_number k) (P.cases_among (P.switch_labels c)))
 own_labels k c h =
     subst (λ ls. (nones ls ≤ 1) × AreDifferent (map (case_number k) (P.cases_among ls))) (sym (labels_same c)) (

@@ -9,7 +9,6 @@ pub mod OneScope
 pub mod Scoped
 pub mod GoodSource
 pub mod Measures
-mod Endings
 pub mod GotosCounted
 pub mod LabelsCounted
 pub mod Counted

@@ -1,17 +1,14 @@
 -- The label of each goto of a body is one that a goto of the body names.
-use Rattle.std.proofs.Common.{ℕ, zero, suc, ◌<◌, Bool, true, cond, ◌≡◌, refl, sym, subst, arith, eq-eqb}
+use Rattle.std.proofs.Common.{ℕ, ◌<◌, Bool, true, cond, ◌≡◌, refl, sym, subst, arith, eq-eqb}
 use Rattle.c_tree.specs.Trees.{Tree, Forest, Nil, Then, Sections, NoSection, Section, If, While, Do, For, Switch, Block, Goto}
 use Rattle.c_tree.specs.Everywhere.{total, total_of, total_in, Everywhere, EverywhereOf, EverywhereIn}
-use Rattle.flat_laws.specs.Parts.{is_some_number, is_named, gotos_to}
+use Rattle.flat_laws.specs.Parts.{is_named, gotos_to}
+use Rattle.flat_laws.proofs.WellMade.{some_number}
 
 -- the label of a goto is live
 abbrev pub NamesLive : (ℕ → Bool) → Tree → Type 0
 NamesLive live (Goto l) = live l ≡ true
 NamesLive live _ = Unit {0}
-
-number_some : (n : ℕ) → 0 < n → is_some_number n ≡ true
-number_some zero h = absurd (omega (arith, h))
-number_some (suc n) h = refl
 
 module _ (live : ℕ → Bool) where
   abbrev Lives : (ℕ → ℕ) → Type 0
@@ -37,4 +34,4 @@ module _ (live : ℕ → Bool) where
     lives_among (Section cases default a ends d) f = (lives a (λ l n. f l (omega (arith, n))), lives_among d (λ l n. f l (omega (arith, n))))
 
 pub named_live : (a : Forest) → Everywhere (NamesLive (is_named a)) a
-named_live a = lives (is_named a) a (λ l n. number_some (total (gotos_to l) a) n)
+named_live a = lives (is_named a) a (λ l n. some_number (total (gotos_to l) a) n)

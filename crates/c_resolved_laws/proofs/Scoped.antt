@@ -44,10 +44,10 @@ resolved_uncounted counts p r = record {
 
 -- ---- names that are bound in a scope
 
-same_name : (m : List ℕ) → bytes_eq m m ≡ true
+pub same_name : (m : List ℕ) → bytes_eq m m ≡ true
 same_name m = (bytes_eq-Decides m m).1 refl
 
-other_name : (m n : List ℕ) → m ≢ n → bytes_eq m n ≡ false
+pub other_name : (m n : List ℕ) → m ≢ n → bytes_eq m n ≡ false
 other_name m n h = refuted (bytes_eq m n) (λ e. h ((bytes_eq-Decides m n).0 e))
   where
     refuted : (b : Bool) → (b ≡ true → ⊥) → b ≡ false

@@ -1,5 +1,5 @@
 -- Arrays without a violation have a length, and as many initialisers at most.
-use Rattle.std.proofs.Common.{ℕ, ℤ, pos, negsuc, ◌≤◌, Bool, true, false, cond, not, ◌&&◌, nat_le, nat_lt, List, [], map, length, Option, Some, None, is_some, option_map, ◌≡◌, refl, sym, subst, ◌∙◌, true≢false, arith}
+use Rattle.std.proofs.Common.{ℕ, ℤ, pos, negsuc, ◌≤◌, Bool, true, false, cond, not, ◌&&◌, nat_le, nat_lt, List, [], map, length, Option, Some, None, is_some, option_map, ◌≡◌, refl, sym, subst, ◌∙◌, true≢false, arith, ltb-false}
 use Rattle.std.proofs.lemmas.List.{length-map}
 use Rattle.std.specs.Prelude.{IfSome}
 use Rattle.std.proofs.lemmas.Bool.Decides.{nat_tests}
@@ -61,9 +61,6 @@ few : (local : Bool) (n : ℕ) → n ≤ 65536 → (local && nat_lt 1024 n) ≡ 
 few true n h e = grind (arith, nat_tests)
 few false n h e = h
 
-not_more : (n k : ℕ) → nat_lt n k ≡ false → k ≤ n
-not_more n k e = grind (arith, nat_tests)
-
 module _ (word : ℕ → List ℕ) (v : Term → Expression) where
   abbrev Given : Bool → Option ℕ → Initialiser → Type 0
   Given local cells i = IfSome (option_map expression_trees (initial v i)) (AreInitialisers (most_cells local) cells)
@@ -77,7 +74,7 @@ module _ (word : ℕ → List ℕ) (v : Term → Expression) where
   many_given local n (ValueList ts) h e =
       let l = or_left (nat_lt n (length ts)) (local && nat_lt 1024 n) e in
       let r = or_right (nat_lt n (length ts)) (local && nat_lt 1024 n) e in
-      (subst (λ k. k ≤ n) (sym (length-map (map v ts) expression_tree ∙ length-map ts v)) (not_more n (length ts) l), few local n h r)
+      (subst (λ k. k ≤ n) (sym (length-map (map v ts) expression_tree ∙ length-map ts v)) (ltb-false n (length ts) l), few local n h r)
 
   bounded : (local : Bool) (o : Option ℕ) (i : Initialiser) → HasBounds o → not (is_some o) ≡ false → is_bad_value local (of_length o) i ≡ false →
       Fine local (cells_of (of_length o)) i
@@ -98,7 +95,7 @@ module _ (word : ℕ → List ℕ) (v : Term → Expression) where
       let n = length ts in
       let l = or_left (nat_lt 65536 n) (is_bad_list local (Many n) n) e in
       let b = or_right (nat_lt 65536 n) (is_bad_list local (Many n) n) e in
-      let most = not_more 65536 n l in
+      let most = ltb-false 65536 n l in
       ((r.0, most), many_given local n (ValueList ts) most b)
   shaped local (Constant None) i g r e = absurd g
   shaped local (Constant (Some z)) i g r e =

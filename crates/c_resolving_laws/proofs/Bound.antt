@@ -13,6 +13,7 @@ use Rattle.c_tree.specs.Trees.{Tree, Forest, SectionTree, Nil, join, expression_
 use Rattle.c_tree.specs.Trees as tree
 use Rattle.c_tree.proofs.ExpressionLaws.{test-Source, selector-Source}
 use Rattle.c_tree.proofs.TreeLaws.{tree-Evaluate, tree-Return, tree-If, tree-While, tree-Do, tree-For, tree-Switch, tree-Block, tree-Local, tree-Break, tree-Continue, tree-Goto, tree-Mark, tree-Arrival, tree-Note}
+use Rattle.c_tree.specs.SectionLabels.{labels_passed}
 use Rattle.c_grammar.specs.Items.{Declarator, Declaration, Label, Named, Case, Default, Start, NoStart, StartValue, StartNames, Item, Declares, States, Plain, From, Statement, Null, Evaluate, If, IfElse, While, DoWhile, For, Switch, Block, Goto, Break, Continue, Return, Unread, Body, Braces, Lone, Items, NoItem}
 use Rattle.c_grammar.specs.Items as items
 use Rattle.c_kinds.specs.Scopes.{fault_if}
@@ -23,7 +24,7 @@ use Rattle.c_statements.specs.declared.anchors.Anchor.TheVariants.{Before, AtEnd
 use Rattle.c_statements.specs.Context.{Context, Walk, env_at, env_in, enter, notes_at, number_in, Around, in_loop, in_switch}
 use Rattle.c_statements.specs.Declarations.{shape_of, slot_of, kinded, declared, all_declared, local, locals, initial, value_at, constant_at, value_faults, local_faults, locals_faults}
 use Rattle.c_statements.specs.Labels.{has_case, mark, label_items, labels_items, section_marks, section_cases, label_faults, labels_faults}
-use Rattle.c_statements.specs.Sections.{Reading, extended, closed, passed_on}
+use Rattle.c_statements.specs.Sections.{Reading, extended, closed}
 use Rattle.c_statements.specs.Statements.{behind_start, behind_item, behind_plain, behind_body, behind_items, declared_by, dropped_at, test_at, start_items, begun, a_switch, item_items, plain_items, statement_items, body_items, list_items, switch_sections, sections_from, sections_at}
 use Rattle.c_statements.specs.Statements as statements
 use Rattle.c_statements.specs.Violations.{start_faults, item_faults, plain_faults, statement_faults, body_faults, list_faults, switch_body_faults, outside_faults, outside_fault}
@@ -245,8 +246,8 @@ module _ (ctx : Context) (n : Names) where
   trees_bound ss [] h = tt
   trees_bound ss (s ∷ ts) h = (h.0, h.1, trees_bound (behind_all n.slots ss s.list) ts h.2)
 
-  switch_bound : (ss : List Scopes.Scope) (cs : List Section) → SectionsBound ss cs → SectionsAreBound n.slots ss (sections_of (passed_on [] false cs))
-  switch_bound ss cs h = subst (SectionsAreBound n.slots ss) (sym (sections_are (passed_on [] false cs) ∙ ap sections (passed_same [] false cs)))
+  switch_bound : (ss : List Scopes.Scope) (cs : List Section) → SectionsBound ss cs → SectionsAreBound n.slots ss (sections_of (labels_passed cs))
+  switch_bound ss cs h = subst (SectionsAreBound n.slots ss) (sym (sections_are (labels_passed cs) ∙ ap sections (passed_same cs)))
       (trees_bound ss (passed_trees [] false (map section_tree cs)) (passed_bound ss [] false (map section_tree cs) tt h))
 
   end_bound : (s t : List Scopes.Scope) (r : Reading) (notes : List item.Item) → ReadingBound s t r →
@@ -361,8 +362,8 @@ module _ (ctx : Context) (n : Names) where
         let p = switch_parts ctx around w first t b e in
         let v = value_at (env_at ctx w) t in
         let cs = switch_sections ctx b w in
-        binds_one ctx n ss ss (item.Switch (selector.Source v) (passed_on [] false cs))
-        _ (tree-Switch (selector.Source v) (passed_on [] false cs) ∙ ap (λ x. tree.Switch x (sections_of (passed_on [] false cs))) (selector-Source v))
+        binds_one ctx n ss ss (item.Switch (selector.Source v) (labels_passed cs))
+        _ (tree-Switch (selector.Source v) (labels_passed cs) ∙ ap (λ x. tree.Switch x (sections_of (labels_passed cs))) (selector-Source v))
         (value_bound ctx n w ss t a r.0 p.0, switch_bound (inside ss) cs (sections_bound (in_switch around) b w ss a r.1 p.1 z)) refl
     statement_binds around first (Block b) w ss a r e z = let k = body_items ctx b w in
         binds_one ctx n ss ss (item.Block k) _ (tree-Block k) (body_bound around b w ss a r e z) refl

@@ -1,7 +1,7 @@
 -- Calls: arguments without a violation are those that the function takes.
 use Rattle.std.proofs.Common.{inl, inr, ℕ, Bool, true, false, not, cond, ◌&&◌, ◌||◌, ◌==◌, List, [], ◌∷◌, ◌++◌, map, length, Option, Some, None, is_some, option_map, ◌≡◌, refl, sym, ap, subst, ◌∙◌, true≢false, arith}
 use Rattle.std.specs.Prelude.{◌⊎◌, IsSome}
-use Rattle.std.proofs.lemmas.Bool.{eqb-true}
+use Rattle.std.proofs.lemmas.Bool.{eqb-true, and_from}
 use Rattle.c_types.specs.declared.kinds.IntKind.{IntKind}
 use Rattle.c_types.specs.declared.kinds.IntKind.TheVariants.{Char, UChar, Int, UInt, Long, ULong}
 use Rattle.c_tree.specs.declared.tree.Slot.{Slot}
@@ -66,10 +66,6 @@ fits_array : (c : Option ℕ) (P Q : Type 0) → IsSome c → Q → FitsCells c 
 fits_array None P Q e h = absurd (true≢false (sym e))
 fits_array (Some k) P Q e h = h
 
-both_true : (a b : Bool) → a ≡ true → b ≡ true → (a && b) ≡ true
-both_true true b e f = f
-both_true false b e f = absurd (true≢false (sym e))
-
 -- const or not: an array keeps its const
 keeps : (given wanted : Bool) → (given && not wanted) ≡ false → ((wanted ≡ true) ⊎ (given ≡ false)) × ((wanted || not given) ≡ true)
 keeps given true e = (inl refl, refl)
@@ -128,8 +124,8 @@ module _ (n : Names) (ss : List Scope) where
         record {
           e = array_expression a;
           passed = refl;
-          fitting = both_true (same_kind kind a.kind && (constant || not a.constant)) (not external)
-              (both_true (same_kind kind a.kind) (constant || not a.constant) same keep.1) (ap not x.1);
+          fitting = and_from (same_kind kind a.kind && (constant || not a.constant)) (not external)
+              (and_from (same_kind kind a.kind) (constant || not a.constant) same keep.1) (ap not x.1);
           sound = array_is a h;
           agrees = λ defined s w.
               fits_array s.cells _ _ w.2
@@ -215,7 +211,7 @@ module _ (n : Names) (ss : List Scope) where
   more_arguments w ws g gs a r =
       let p = sym (ap (λ es. tree_list (es ++ all_handed gs)) a.passed) in
       record {
-        fitting = both_true (fits w g.typed) (each_fits ws gs) a.fitting r.fitting;
+        fitting = and_from (fits w g.typed) (each_fits ws gs) a.fitting r.fitting;
         within = subst (ArgumentsWithin (IsSound n ss)) p (a.sound, r.within);
         agrees = λ defined ps h. parameters defined ps h p;
         suits = λ bs e. conversions bs e p;
@@ -262,7 +258,7 @@ module _ (n : Names) (ss : List Scope) where
       by : (b : Bool) → (length ws == length gs) ≡ b → cond b (argument_faults ws gs vs) (fault at reason (text_faults gs vs)) ≡ [] →
           (vs ≡ []) × (all_fit ws gs ≡ true) × GoodArguments ws gs
       by true l e = let r = arguments_clean ws gs vs (eqb-true (length ws) (length gs) l) e h in
-          (r.0, both_true (length ws == length gs) (each_fits ws gs) l r.1.fitting, r.1)
+          (r.0, and_from (length ws == length gs) (each_fits ws gs) l r.1.fitting, r.1)
       by false l e = absurd (none_left _ _ e)
 
   -- ---- calls

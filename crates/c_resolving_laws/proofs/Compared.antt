@@ -9,13 +9,14 @@ use Rattle.c_tree.specs.ExpressionTrees.{ExpressionTree}
 use Rattle.c_tree.specs.Trees.{SectionTree, expression_trees, trees_of, section_tree, sections, sections_of}
 use Rattle.c_tree.proofs.TreeLaws.{tree-Evaluate, tree-Return, tree-If, tree-While, tree-Do, tree-For, tree-Switch, tree-Block, tree-Break, tree-Continue, tree-Goto, trees-none, trees-append}
 use Rattle.c_types.specs.declared.kinds.IntKind.{IntKind}
+use Rattle.c_tree.specs.SectionLabels.{labels_passed}
 use Rattle.c_grammar.specs.Items.{Declarator, Declaration, Label, Named, Case, Default, Start, NoStart, StartValue, StartNames, Item, Declares, States, Plain, From, Statement, Null, Evaluate, If, IfElse, While, DoWhile, For, Switch, Block, Goto, Break, Continue, Return, Unread, Body, Braces, Lone, Items, NoItem}
 use Rattle.c_grammar.specs.Items as items
 use Rattle.c_statements.specs.declared.anchors.Anchor.TheVariants.{Before, AtEnd, AtSection}
 use Rattle.c_statements.specs.Context.{Context, Walk, env_at, enter, notes_at, number_in, Around, in_loop}
 use Rattle.c_statements.specs.Declarations.{kinded, locals, value_at}
 use Rattle.c_statements.specs.Labels.{has_case, labels_items, section_marks, section_cases, has_default}
-use Rattle.c_statements.specs.Sections.{Reading, extended, closed, passed_on}
+use Rattle.c_statements.specs.Sections.{Reading, extended, closed}
 use Rattle.c_statements.specs.Statements.{behind_start, behind_item, behind_plain, behind_body, behind_items, declared_by, dropped_at, test_at, start_items, begun, a_switch, item_items, plain_items, statement_items, body_items, list_items, switch_sections, sections_from, sections_at}
 use Rattle.c_statements.specs.Statements as statements
 use Rattle.c_statements.specs.Violations.{is_null, item_faults, plain_faults, statement_faults, body_faults, list_faults, switch_body_faults, outside_faults}
@@ -250,7 +251,7 @@ module _ (ctx : Context) where
         (body_adds (in_loop around) b inner found p.3)
     statement_adds around first (Switch t b) w found e =
         more_of ctx found found _ 0 (body_cases b) (omega arith)
-        (still ctx found _ _ (tree-Switch (selector.Source (value_at (env_at ctx w) t)) (passed_on [] false (switch_sections ctx b w))) refl)
+        (still ctx found _ _ (tree-Switch (selector.Source (value_at (env_at ctx w) t)) (labels_passed (switch_sections ctx b w))) refl)
     statement_adds around first (Block b) w found e = one_of ctx found (body_entries ctx b w found) (item.Block (body_items ctx b w)) _ (body_cases b)
         (tree-Block (body_items ctx b w)) (body_adds around b w found e)
     statement_adds around first (Goto at) w found e = still ctx found _ _ (tree-Goto (number_in ctx.labels (ctx.word at))) refl
@@ -407,13 +408,13 @@ module _ (ctx : Context) where
 
   pub switch_labels_are : (around : Around) (b : Body) (w : Walk) (K : IntKind) → switch_body_faults ctx around b w [] ≡ [] →
       entry_faults K [] false (body_entries ctx b w []) [] ≡ [] → body_cases b < 2147483648
-      → AreLabels K (switch_labels (sections_of (passed_on [] false (switch_sections ctx b w))))
+      → AreLabels K (switch_labels (sections_of (labels_passed (switch_sections ctx b w))))
   switch_labels_are around b w K e f n =
       let a = switch_from around b w e in
       let c = compared K [] false (body_entries ctx b w []) f in
       let ts = map section_tree (switch_sections ctx b w) in
       let p = trees_pass ts in
-      let j = sections_are (passed_on [] false (switch_sections ctx b w)) ∙ ap sections (passed_same [] false (switch_sections ctx b w)) in
+      let j = sections_are (labels_passed (switch_sections ctx b w)) ∙ ap sections (passed_same (switch_sections ctx b w)) in
       let cs = p.cases ∙ a.cases ∙ none_first a.more in
       subst (λ x. AreLabels K (switch_labels x)) (sym j)
       (record {

@@ -50,7 +50,7 @@ pub record Sized (n l : ℕ) (x : ExpressionTree) : Type 0 where
   pub counts : counted x ≡ n
   pub level : level_of x ≡ l
 
--- the same of what an expression is
+-- what an expression is has so many counted tokens, and this level
 abbrev pub Measured : ℕ → ℕ → kinds.Typed → Type 0
 Measured n l (T.Value v) = Sized n l (value_tree v)
 Measured n l (T.Void a) = Sized n l (Typed None (node_tree a))

@@ -2,6 +2,7 @@
 use Rattle.std.proofs.Common.{ℕ, ◌+◌, false, ◌||◌, List, [], ◌∷◌, ◌≡◌, refl, sym, ◌∙◌, true≢false, arith}
 use Rattle.c_tree.specs.Trees.{Tree, Forest, Nil, Then, SectionTree, Evaluate, Return, Local, Goto, Mark, Note, join, sections}
 use Rattle.c_tree.specs.Exits.{breaks, breaks_of, continues, continues_of, continues_in}
+use Rattle.c_tree.proofs.ExitsKept.{breaks-join, continues-join}
 use Rattle.c_statements.specs.Context.{Around, in_switch}
 use Rattle.c_resolved_defs.specs.Form.{HasNoLoose}
 use Rattle.c_resolved_defs.specs.Within.{Each}
@@ -13,14 +14,6 @@ pub record Exits (a : Around) (x : Forest) : Type 0 where
   pub breaking : (a.loop || a.switch) ≡ false → breaks x ≡ 0
   pub continuing : a.loop ≡ false → continues x ≡ 0
   pub arriving : a.switch ≡ false → HasNoLoose x
-
-breaks-join : (x y : Forest) → breaks (join x y) ≡ breaks x + breaks y
-breaks-join Nil y = omega arith
-breaks-join (Then t x) y = let h = breaks-join x y in omega arith
-
-continues-join : (x y : Forest) → continues (join x y) ≡ continues x + continues y
-continues-join Nil y = omega arith
-continues-join (Then t x) y = let h = continues-join x y in omega arith
 
 loose_join : (x y : Forest) → HasNoLoose x → HasNoLoose y → HasNoLoose (join x y)
 loose_join Nil y h k = k

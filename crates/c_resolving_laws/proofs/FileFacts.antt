@@ -1,6 +1,7 @@
 -- Enums, variables and functions of a file without a violation, each by itself.
 use Rattle.std.proofs.Common.{ℕ, ℤ, pos, negsuc, ◌+ℤ◌, Bool, true, false, cond, not, ◌&&◌, List, [], ◌∷◌, ◌++◌, append_assoc, map, codes, length, Option, Some, None, is_some, option_map, option_and_then, ◌≡◌, refl, sym, ap, subst, ◌∙◌, true≢false, bytes_eq}
 use Rattle.std.specs.Prelude.{IfSome}
+use Rattle.std.proofs.lemmas.Bool.{not-true}
 use Rattle.c_types.specs.declared.kinds.IntKind.TheVariants.{Int}
 use Rattle.c_types.specs.Numbers.{is_in_range}
 use Rattle.c_tree.specs.declared.tree.Slot.{Slot}
@@ -49,7 +50,7 @@ use Rattle.c_resolving_laws.proofs.Functions.{Resolves, resolves, function_is_bo
 use Rattle.c_resolving_laws.proofs.ItemKinds.{good, within_map}
 use Rattle.c_resolving_laws.proofs.Values.{IsSound}
 use Rattle.c_resolving_laws.proofs.Known.{Knows}
-use Rattle.c_resolving_laws.proofs.Lists.{none_left, and_left, and_right, not_true, not_false, clean_if, each_append}
+use Rattle.c_resolving_laws.proofs.Lists.{none_left, and_left, and_right, not_true, clean_if, each_append}
 use Rattle.c_resolving_laws.proofs.Parts.{parted}
 use Rattle.c_resolving_laws.specs.Read.{IsReadInitialiser, IsReadTerm, IsReadDeclarator, IsReadEnumerator, IsReadTopForm, IsReadLine, IsReadFile}
 use Rattle.c_resolving_laws.proofs.Uses.{constant_is_value}
@@ -235,7 +236,7 @@ main_by : (word : ℕ → List ℕ) (notes : Anchor → List (List ℕ)) (f : Fu
 main_by word notes f scopes o e =
     let l = and_left (same_result (result_kind word f) (Some Int) && not f.static) (is_empty f.parameters) e in
     let result = result_same (result_kind word f) (Some Int) (and_left (same_result (result_kind word f) (Some Int)) (not f.static) l) in
-    let public = not_false f.static (and_right (same_result (result_kind word f) (Some Int)) (not f.static) l) in
+    let public = not-true f.static (and_right (same_result (result_kind word f) (Some Int)) (not f.static) l) in
     let none = no_elements f.parameters (and_right (same_result (result_kind word f) (Some Int) && not f.static) (is_empty f.parameters) e) in
     formed o result public none
   where

@@ -9,6 +9,7 @@ use Rattle.c_tree.specs.ExpressionTrees.{ExpressionTree}
 use Rattle.c_tree.specs.Trees.{Tree, Forest, SectionTree, Nil, join, expression_trees, tree_of, trees_of, section_tree, sections, sections_of}
 use Rattle.c_tree.specs.Trees as tree
 use Rattle.c_tree.proofs.TreeLaws.{tree-Evaluate, tree-Return, tree-If, tree-While, tree-Do, tree-For, tree-Switch, tree-Block, tree-Break, tree-Continue, tree-Goto, tree-Mark, tree-Arrival, tree-Note, trees-none, trees-more, trees-append}
+use Rattle.c_tree.specs.SectionLabels.{labels_passed}
 use Rattle.c_grammar.specs.Items.{Declarator, Declaration, Label, Named, Case, Default, Start, NoStart, StartValue, StartNames, Item, Declares, States, Plain, From, Statement, Null, Evaluate, If, IfElse, While, DoWhile, For, Switch, Block, Goto, Break, Continue, Return, Unread, Body, Braces, Lone, Items, NoItem}
 use Rattle.c_grammar.specs.Items as items
 use Rattle.c_statements.specs.declared.anchors.Anchor.{Anchor}
@@ -16,7 +17,7 @@ use Rattle.c_statements.specs.declared.anchors.Anchor.TheVariants.{Before, AtEnd
 use Rattle.c_statements.specs.Context.{Context, Walk, env_at, enter, notes_at, number_in, Around, in_loop, in_switch}
 use Rattle.c_statements.specs.Declarations.{kinded, locals, value_at, constant_at}
 use Rattle.c_statements.specs.Labels.{has_case, mark, labels_items, section_marks}
-use Rattle.c_statements.specs.Sections.{Reading, extended, closed, passed_on}
+use Rattle.c_statements.specs.Sections.{Reading, extended, closed}
 use Rattle.c_statements.specs.Statements.{behind_start, behind_item, behind_plain, behind_body, behind_items, declared_by, dropped_at, test_at, start_items, begun, a_switch, item_items, plain_items, statement_items, body_items, list_items, switch_sections, sections_from, sections_at}
 use Rattle.c_statements.specs.Statements as statements
 use Rattle.c_statements.specs.Violations.{is_null, item_faults, plain_faults, statement_faults, body_faults, list_faults, switch_body_faults, outside_faults, outside_fault}
@@ -199,8 +200,8 @@ module _ (ctx : Context) (f : Tree → List ℕ) (c : Gathers f) where
   passed_numbers cs d (s ∷ []) = refl
   passed_numbers cs d (s ∷ t ∷ ss) = passed_by cs d s (t ∷ ss) (passes s) refl (λ es e. passed_numbers es e (t ∷ ss))
 
-  switch_numbers : (ss : List Section) → gathered_in f (sections_of (passed_on [] false ss)) ≡ in_sections ss
-  switch_numbers ss = ap (gathered_in f) (sections_are (passed_on [] false ss) ∙ ap sections (passed_same [] false ss)) ∙
+  switch_numbers : (ss : List Section) → gathered_in f (sections_of (labels_passed ss)) ≡ in_sections ss
+  switch_numbers ss = ap (gathered_in f) (sections_are (labels_passed ss) ∙ ap sections (passed_same ss)) ∙
       passed_numbers [] false (map section_tree ss)
 
   begun_numbers : (w : Walk) (ls : List Label) (xs : List item.Item) → numbers (beginning ctx w ls xs).list ≡ of_labels ls ++ numbers xs
@@ -274,7 +275,7 @@ module _ (ctx : Context) (f : Tree → List ℕ) (c : Gathers f) where
     statement_numbers around first (Switch t b) w h =
         let v = selector.Source (value_at (env_at ctx w) t) in
         let ss = switch_sections ctx b w in
-        numbers_one (item.Switch v (passed_on [] false ss)) _ (tree-Switch v (passed_on [] false ss)) ∙
+        numbers_one (item.Switch v (labels_passed ss)) _ (tree-Switch v (labels_passed ss)) ∙
         (switch_numbers ss ∙ sections_numbers (in_switch around) b w (switch_parts ctx around w first t b h).1)
     statement_numbers around first (Block b) w h = numbers_one (item.Block (body_items ctx b w)) _ (tree-Block (body_items ctx b w)) ∙ body_numbers around b w h
     statement_numbers around first (Goto at) w h = let l = number_in ctx.labels (ctx.word at) in numbers_one (item.Goto l) _ (tree-Goto l) ∙ c.gotos l

@@ -7,6 +7,7 @@ use Rattle.c_tree.specs.Cases.{selector_kind}
 use Rattle.c_tree.specs.ExpressionTrees.{expression_tree}
 use Rattle.c_tree.specs.TestTrees.{Selects}
 use Rattle.c_tree.specs.Trees.{Switch, sections_of}
+use Rattle.c_tree.specs.SectionLabels.{labels_passed}
 use Rattle.c_grammar.specs.Terms.{Term}
 use Rattle.c_grammar.specs.Items.{Body}
 use Rattle.c_kinds.specs.declared.typed.Valued.{Valued}
@@ -15,7 +16,6 @@ use Rattle.c_kinds.specs.Values.{value_of}
 use Rattle.c_statements.specs.Cases.{switch_faults, body_entries}
 use Rattle.c_statements.specs.Context.{Context, Walk, Around, env_at, in_switch}
 use Rattle.c_statements.specs.Declarations.{or_placeholder, value_at, value_faults}
-use Rattle.c_statements.specs.Sections.{passed_on}
 use Rattle.c_statements.specs.Statements.{switch_sections}
 use Rattle.c_statements.specs.Violations.{switch_body_faults}
 use Rattle.c_resolved_defs.specs.Names.{Names}
@@ -35,17 +35,17 @@ module _ (ctx : Context) (n : Names) where
   switch_has : (around : Around) (w : Walk) (t : Term) (b : Body) → KnownAt ctx n w.scopes → IsReadTerm ctx.word t → body_cases b < 2147483648 →
       value_faults (env_at ctx w) t [] ≡ [] → switch_body_faults ctx (in_switch around) b w [] ≡ []
       → switch_faults (option_map (λ v. v.kind) (value_of (typed (env_at ctx w) t))) (body_entries ctx b w []) [] ≡ []
-      → HasCases (Switch (Selects (expression_tree (value_at (env_at ctx w) t))) (sections_of (passed_on [] false (switch_sections ctx b w))))
+      → HasCases (Switch (Selects (expression_tree (value_at (env_at ctx w) t))) (sections_of (labels_passed (switch_sections ctx b w))))
   switch_has around w t b i r few ev eb es =
       let env = env_at ctx w in
       by (value_of (typed env t)) refl (used_clean n i.0 env i.1 t [] ev (sound n i.0 env i.1 t [] r)).1 es
     where
       by : (o : Option Valued) → value_of (typed (env_at ctx w) t) ≡ o → IsSomeAnd o (SoundValue n i.0) →
           switch_faults (option_map (λ v. v.kind) o) (body_entries ctx b w []) [] ≡ []
-          → HasCases (Switch (Selects (expression_tree (value_at (env_at ctx w) t))) (sections_of (passed_on [] false (switch_sections ctx b w))))
+          → HasCases (Switch (Selects (expression_tree (value_at (env_at ctx w) t))) (sections_of (labels_passed (switch_sections ctx b w))))
       by None e h f = absurd h
       by (Some v) e h f =
-          let labels = switch_labels (sections_of (passed_on [] false (switch_sections ctx b w))) in
+          let labels = switch_labels (sections_of (labels_passed (switch_sections ctx b w))) in
           let kind : selector_kind (Selects (expression_tree (value_at (env_at ctx w) t))) ≡ Some (promoted v.kind) =
           ap (λ x. option_map promoted (kind_of x)) (ap (λ o. expression_tree (or_placeholder o)) e ∙ value_rolls v) in
           subst (λ o. IsSomeAnd o (λ k. AreLabels k labels)) (sym kind) (switch_labels_are ctx (in_switch around) b w (promoted v.kind) eb f few)

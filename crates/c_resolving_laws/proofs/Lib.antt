@@ -10,6 +10,7 @@ pub mod Empty
 pub mod Parts
 pub mod Fronts
 pub mod Grown
+pub mod LabelsPassed
 pub mod SectionTrees
 pub mod Walk
 pub mod Walked

@@ -8,6 +8,7 @@ use Rattle.c_tree.specs.ExpressionTrees.{ExpressionTree, expression_tree}
 use Rattle.c_tree.specs.Trees.{Tree, Forest, SectionTree, Nil, join, expression_trees, tree_of, trees_of, section_tree, sections, sections_of}
 use Rattle.c_tree.specs.Trees as tree
 use Rattle.c_tree.proofs.TreeLaws.{tree-Evaluate, tree-Return, tree-If, tree-While, tree-Do, tree-For, tree-Switch, tree-Block, tree-Local, tree-Break, tree-Continue, tree-Goto, tree-Mark, tree-Arrival, tree-Note, trees-none, trees-more, trees-append}
+use Rattle.c_tree.specs.SectionLabels.{labels_passed}
 use Rattle.c_grammar.specs.Items.{Declarator, Declaration, Label, Named, Case, Default, Start, NoStart, StartValue, StartNames, Item, Declares, States, Plain, From, Statement, Null, Evaluate, If, IfElse, While, DoWhile, For, Switch, Block, Goto, Break, Continue, Return, Unread, Body, Braces, Lone, Items, NoItem}
 use Rattle.c_grammar.specs.Items as items
 use Rattle.c_statements.specs.declared.extents.Kinded.{Kinded}
@@ -16,7 +17,7 @@ use Rattle.c_statements.specs.declared.anchors.Anchor.TheVariants.{Before, AtEnd
 use Rattle.c_statements.specs.Context.{Context, Walk, env_at, env_in, enter, notes_at, number_in}
 use Rattle.c_statements.specs.Declarations.{kinded, declared, local, locals, initial, value_at, constant_at, placeholder}
 use Rattle.c_statements.specs.Labels.{section_cases, has_case, mark, labels_items, section_marks}
-use Rattle.c_statements.specs.Sections.{Reading, extended, closed, passed_on, front}
+use Rattle.c_statements.specs.Sections.{Reading, extended, closed, front}
 use Rattle.c_statements.specs.Statements.{behind_start, behind_item, behind_plain, behind_body, behind_items, declared_by, dropped_at, test_at, start_items, begun, a_switch, item_items, plain_items, statement_items, body_items, list_items, switch_sections, sections_from, sections_at, outside_item, outside_items, begins, is_null}
 use Rattle.c_statements.specs.Statements as statements
 use Rattle.c_resolved_defs.specs.Form.{ends_with_break}
@@ -242,10 +243,10 @@ module _ (ctx : Context) (K : ℕ) where
   few_trees d [] h = tt
   few_trees d (c ∷ cs) h = (h.0, few_trees d cs h.1)
 
-  switch_within : (d : ℕ) (cs : List Section) → ShortSections d cs → (depth_in (sections_of (passed_on [] false cs)) ≤ d) ×
-      (most_counted_in (sections_of (passed_on [] false cs)) ≤ K)
+  switch_within : (d : ℕ) (cs : List Section) → ShortSections d cs → (depth_in (sections_of (labels_passed cs)) ≤ d) ×
+      (most_counted_in (sections_of (labels_passed cs)) ≤ K)
   switch_within d cs h =
-      subst (λ c. (depth_in c ≤ d) × (most_counted_in c ≤ K)) (sym (sections_are (passed_on [] false cs) ∙ ap sections (passed_same [] false cs)))
+      subst (λ c. (depth_in c ≤ d) × (most_counted_in c ≤ K)) (sym (sections_are (labels_passed cs) ∙ ap sections (passed_same cs)))
       (sections_within d (passed_trees [] false (map section_tree cs)) (short_passed d [] false (map section_tree cs) tt (few_trees d cs h)))
 
   -- an `if` with one list, or with two
@@ -335,8 +336,8 @@ module _ (ctx : Context) (K : ℕ) where
         let v = selector.Source (value_at (env_at ctx w) t) in
         let cs = switch_sections ctx b w in
         let k = switch_within (inner_depth b) cs (sections_short b w h.1) in
-        short_one d (item.Switch v (passed_on [] false cs)) _ (tree-Switch v (passed_on [] false cs)) (let z = k.0 in let y = one_deeper b in omega arith)
-        (up_to (counted (selector_source (selector_tree v))) (most_counted_in (sections_of (passed_on [] false cs))) K (selected (env_at ctx w) t h.0) k.1)
+        short_one d (item.Switch v (labels_passed cs)) _ (tree-Switch v (labels_passed cs)) (let z = k.0 in let y = one_deeper b in omega arith)
+        (up_to (counted (selector_source (selector_tree v))) (most_counted_in (sections_of (labels_passed cs))) K (selected (env_at ctx w) t h.0) k.1)
     statement_short (Block b) w d h q = let a = body_items ctx b w in let k = body_short b w h in
         short_one d (item.Block a) _ (tree-Block a) (let z = k.shallow in omega arith) k.few
     statement_short (Goto at) w d h q = short_one d _ _ (tree-Goto (number_in ctx.labels (ctx.word at))) (omega arith) (omega arith)

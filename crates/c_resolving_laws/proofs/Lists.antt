@@ -38,10 +38,6 @@ pub not_true : (a : Bool) → not a ≡ false → a ≡ true
 not_true true e = refl
 not_true false e = absurd (true≢false e)
 
-pub not_false : (a : Bool) → not a ≡ true → a ≡ false
-not_false true e = absurd (true≢false (sym e))
-not_false false e = refl
-
 -- ---- elements
 
 pub the_some : {A : Type 0} (P : A → Type 0) (o : Option A) → IsSomeAnd o P → (a : A) × (o ≡ Some a) × P a

@@ -4,6 +4,7 @@ use Rattle.std.specs.Prelude.{ℤ, ◌+◌, ◌≤◌}
 use Rattle.c_tree.specs.ExpressionTrees.{ExpressionTree}
 use Rattle.c_tree.specs.Trees.{Forest, SectionTree, Nil, sections}
 use Rattle.c_tree.specs.Trees as tree
+use Rattle.c_tree.proofs.KeptLemmas.{at_most_one}
 use Rattle.c_types.specs.declared.kinds.IntKind.{IntKind}
 use Rattle.c_kinds.specs.Scopes.{fault_if}
 use Rattle.c_resolved_defs.specs.Form.{ends_with_break}
@@ -71,12 +72,8 @@ pub record Compared (K : IntKind) (seen : List ℤ) (default : Bool) (es : List 
   pub new : Each (λ n. is_among n seen ≡ false) (map (converted K) (vals es))
   pub differ : AllDiffer (map (converted K) (vals es))
 
-pub one_at_most : (b : Bool) → cond b 1 0 ≤ 1
-one_at_most true = omega arith
-one_at_most false = omega arith
-
 pub compared : (K : IntKind) (seen : List ℤ) (default : Bool) (es : List Entry) → entry_faults K seen default es [] ≡ [] → Compared K seen default es
-compared K seen default [] e = record { single = let h = one_at_most default in omega arith; new = tt; differ = tt }
+compared K seen default [] e = record { single = let h = at_most_one default in omega arith; new = tt; differ = tt }
 compared K seen default (Value at v ∷ es) e =
     let n = converted K v in
     let p = parted (entry_faults K (with_value n seen) default es) (fault_if (is_among n seen) at 30) (entries_empty K (with_value n seen) default es) e in

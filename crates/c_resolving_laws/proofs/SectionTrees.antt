@@ -7,7 +7,10 @@ use Rattle.c_tree.specs.declared.tree.Section.{Section, out-Section, fold-roll-S
 use Rattle.c_tree.specs.ExpressionTrees.{ExpressionTree, expression_tree}
 use Rattle.c_tree.specs.Trees.{Tree, Forest, SectionTree, Nil, Then, Break, layer, section_layer, expression_trees, tree_of, trees_of, section_tree, sections, sections_of}
 use Rattle.c_tree.proofs.TreeLaws.{section-parts}
-use Rattle.c_statements.specs.Sections.{Reading, section, has_label, is_break, ends_in_break, without_last, ended, is_passing, with_labels, passed_on}
+use Rattle.c_tree.specs.SectionLabels.{labels_passed}
+use Rattle.c_tree.specs.TextItems.{is_empty}
+use Rattle.c_statements.specs.Sections.{Reading, section, has_label, is_break, ends_in_break, without_last, ended}
+use Rattle.c_resolving_laws.proofs.LabelsPassed.{is_passing, with_labels, passed_on, in_one_walk}
 use Rattle.c_resolved_defs.specs.Form.{ends_with_break}
 
 -- ---- the same on trees
@@ -76,7 +79,7 @@ with_same cases default s =
     ∙ (ap (λ cs. section_of cs (default || o.default) (trees_of o.list) o.ends) (trees-map-append cases o.cases) ∙
     ap (with_entries (expression_trees cases) default) (sym (section-parts s)))
 
-passing_at : (l : List Item) (e : Bool) → ◌≡◌ {A = Bool} (elim l [ [] ↦ not e | x ∷ xs ↦ false ]) (elim (trees_of l) [ Nil ↦ not e | Then x xs ↦ false ])
+passing_at : (l : List Item) (e : Bool) → ◌≡◌ {A = Bool} (is_empty l && not e) (elim (trees_of l) [ Nil ↦ not e | Then x xs ↦ false ])
 unfolding trees_of
 passing_at [] e = refl
 passing_at (x ∷ xs) e = refl
@@ -106,14 +109,17 @@ passed_by cases default s ss false false e f = ap (λ x. x ∷ map section_tree 
 passed_by cases default s ss true false e f = absurd (true≢false e)
 passed_by cases default s ss false true e f = absurd (true≢false (sym e))
 
--- empty sections hand on their cases
-pub passed_same : (cases : List Expression) (default : Bool) (ss : List Section) →
+walk_same : (cases : List Expression) (default : Bool) (ss : List Section) →
     map section_tree (passed_on cases default ss) ≡ passed_trees (expression_trees cases) default (map section_tree ss)
-passed_same cases default [] = refl
-passed_same cases default (s ∷ []) = ap (λ x. x ∷ []) (with_same cases default s)
-passed_same cases default (s ∷ t ∷ ss) =
+walk_same cases default [] = refl
+walk_same cases default (s ∷ []) = ap (λ x. x ∷ []) (with_same cases default s)
+walk_same cases default (s ∷ t ∷ ss) =
     passed_by cases default s (t ∷ ss) (is_passing s) (passes (section_tree s)) (passes_same s)
-    (λ cs d. passed_same cs d (t ∷ ss))
+    (λ cs d. walk_same cs d (t ∷ ss))
+
+-- empty sections hand on their cases
+pub passed_same : (ss : List Section) → map section_tree (labels_passed ss) ≡ passed_trees [] false (map section_tree ss)
+passed_same ss = ap (map section_tree) (sym (in_one_walk ss)) ∙ walk_same [] false ss
 
 pub later_break : (x y : Tree) (ys : Forest) → ends_with_break (Then x (Then y ys)) ≡ ends_with_break (Then y ys)
 later_break Break y ys = refl

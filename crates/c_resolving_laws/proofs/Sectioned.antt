@@ -8,6 +8,7 @@ use Rattle.c_tree.specs.ExpressionTrees.{ExpressionTree}
 use Rattle.c_tree.specs.Trees.{Tree, Forest, Sections, NoSection, SectionTree, Nil, join, expression_trees, tree_of, trees_of, section_tree, sections, sections_of}
 use Rattle.c_tree.specs.Trees as tree
 use Rattle.c_tree.proofs.TreeLaws.{tree-Evaluate, tree-Return, tree-If, tree-While, tree-Do, tree-For, tree-Switch, tree-Block, tree-Local, tree-Break, tree-Continue, tree-Goto, tree-Mark, tree-Note, trees-none, trees-more, trees-append}
+use Rattle.c_tree.specs.SectionLabels.{labels_passed}
 use Rattle.c_grammar.specs.Items.{Declarator, Declaration, Label, Named, Case, Default, Start, NoStart, StartValue, StartNames, Item, Declares, States, Plain, From, Statement, Null, Evaluate, If, IfElse, While, DoWhile, For, Switch, Block, Goto, Break, Continue, Return, Unread, Body, Braces, Lone, Items, NoItem}
 use Rattle.c_grammar.specs.Items as items
 use Rattle.c_statements.specs.declared.extents.Kinded.{Kinded}
@@ -16,7 +17,7 @@ use Rattle.c_statements.specs.declared.anchors.Anchor.TheVariants.{Before, AtEnd
 use Rattle.c_statements.specs.Context.{Context, Walk, env_at, env_in, enter, notes_at, number_in, Around}
 use Rattle.c_statements.specs.Declarations.{kinded, declared, local, locals, initial, value_at}
 use Rattle.c_statements.specs.Labels.{has_case, mark, labels_items, section_marks, section_cases, has_default}
-use Rattle.c_statements.specs.Sections.{Reading, extended, closed, passed_on}
+use Rattle.c_statements.specs.Sections.{Reading, extended, closed}
 use Rattle.c_statements.specs.Statements.{behind_start, behind_item, behind_plain, behind_body, behind_items, declared_by, dropped_at, test_at, start_items, begun, a_switch, item_items, plain_items, statement_items, body_items, list_items, switch_sections, sections_from, sections_at}
 use Rattle.c_statements.specs.Statements as statements
 use Rattle.c_statements.specs.Violations.{switch_body_faults, outside_faults}
@@ -168,7 +169,7 @@ module _ (ctx : Context) where
       let inner = behind_start ctx start (enter w) in
       let env = env_at ctx inner in
       free_one _ _ (tree-For (start_items ctx start (enter w)) (option_map (value_at env) t) (option_map (dropped_at env) u) (body_items ctx b inner)) tt
-  free_statement (Switch t b) w = free_one _ _ (tree-Switch (selector.Source (value_at (env_at ctx w) t)) (passed_on [] false (switch_sections ctx b w))) tt
+  free_statement (Switch t b) w = free_one _ _ (tree-Switch (selector.Source (value_at (env_at ctx w) t)) (labels_passed (switch_sections ctx b w))) tt
   free_statement (Block b) w = free_one _ _ (tree-Block (body_items ctx b w)) tt
   free_statement (Goto at) w = free_one _ _ (tree-Goto (number_in ctx.labels (ctx.word at))) tt
   free_statement Break w = free_one _ _ tree-Break tt
@@ -272,7 +273,7 @@ module _ (ctx : Context) where
 
   -- the sections of a switch
   pub are_sections : (around : Around) (b : Body) (w : Walk) → switch_body_faults ctx around b w [] ≡ [] →
-      AreSections (sections_of (passed_on [] false (switch_sections ctx b w)))
+      AreSections (sections_of (labels_passed (switch_sections ctx b w)))
   are_sections around b w e =
-      subst AreSections (sym (sections_are (passed_on [] false (switch_sections ctx b w)) ∙ ap sections (passed_same [] false (switch_sections ctx b w))))
+      subst AreSections (sym (sections_are (labels_passed (switch_sections ctx b w)) ∙ ap sections (passed_same (switch_sections ctx b w))))
       (passed_are [] false (map section_tree (switch_sections ctx b w)) (raw_trees (switch_sections ctx b w) (switch_raw around b w e)))

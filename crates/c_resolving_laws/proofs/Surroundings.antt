@@ -9,6 +9,7 @@ use Rattle.c_tree.specs.TestTrees.{TestTree, SelectorTree}
 use Rattle.c_tree.specs.Trees.{Tree, Forest, SectionTree, Nil, join, expression_trees, tree_of, trees_of, section_tree, sections, sections_of}
 use Rattle.c_tree.specs.Trees as tree
 use Rattle.c_tree.proofs.TreeLaws.{tree-Evaluate, tree-Return, tree-If, tree-While, tree-Do, tree-For, tree-Switch, tree-Block, tree-Local, tree-Break, tree-Continue, tree-Goto, tree-Mark, tree-Arrival, tree-Note, trees-none, trees-more, trees-append}
+use Rattle.c_tree.specs.SectionLabels.{labels_passed}
 use Rattle.c_grammar.specs.Items.{Declarator, Declaration, Label, Named, Case, Default, Start, NoStart, StartValue, StartNames, Item, Declares, States, Plain, From, Statement, Null, Evaluate, If, IfElse, While, DoWhile, For, Switch, Block, Goto, Break, Continue, Return, Unread, Body, Braces, Lone, Items, NoItem}
 use Rattle.c_grammar.specs.Items as items
 use Rattle.c_kinds.specs.Scopes.{fault_if}
@@ -19,7 +20,7 @@ use Rattle.c_statements.specs.declared.anchors.Anchor.TheVariants.{Before, AtEnd
 use Rattle.c_statements.specs.Context.{Context, Walk, env_at, env_in, enter, notes_at, number_in, Around, in_loop, in_switch}
 use Rattle.c_statements.specs.Declarations.{kinded, declared, local, locals, initial, value_at, constant_at}
 use Rattle.c_statements.specs.Labels.{has_case, mark, label_items, labels_items, section_marks, label_faults, labels_faults}
-use Rattle.c_statements.specs.Sections.{Reading, extended, closed, passed_on}
+use Rattle.c_statements.specs.Sections.{Reading, extended, closed}
 use Rattle.c_statements.specs.Statements.{behind_start, behind_item, behind_plain, behind_body, behind_items, declared_by, dropped_at, test_at, start_items, begun, a_switch, item_items, plain_items, statement_items, body_items, list_items, switch_sections, sections_from, sections_at}
 use Rattle.c_statements.specs.Statements as statements
 use Rattle.c_statements.specs.Violations.{item_faults, plain_faults, statement_faults, body_faults, list_faults, switch_body_faults, outside_faults, outside_fault}
@@ -174,9 +175,9 @@ module _ (ctx : Context) (R : Around → Forest → Type 0) (c : Surrounded R) w
   has_trees a (s ∷ ss) h = (h.0, has_trees a ss h.1)
 
   has_switch : (a : Around) (s : SelectorTree) (ss : List Section) → HasSections (in_switch a) ss →
-      R a (single (tree.Switch s (sections_of (passed_on [] false ss))))
+      R a (single (tree.Switch s (sections_of (labels_passed ss))))
   has_switch a s ss h =
-      subst (λ x. R a (single (tree.Switch s x))) (sym (sections_are (passed_on [] false ss) ∙ ap sections (passed_same [] false ss)))
+      subst (λ x. R a (single (tree.Switch s x))) (sym (sections_are (labels_passed ss) ∙ ap sections (passed_same ss)))
       (c.switches a s (passed_trees [] false (map section_tree ss)) (has_passed (in_switch a) [] false (map section_tree ss) (has_trees (in_switch a) ss h)))
 
   has_begun : (a : Around) (w : Walk) (ls : List Label) (xs : List item.Item) → Has a xs → HasReading a (begun ctx (env_at ctx w) ls xs)
@@ -251,7 +252,7 @@ module _ (ctx : Context) (R : Around → Forest → Type 0) (c : Surrounded R) w
         let p = switch_parts ctx around w first t b e in
         let v = selector.Source (value_at (env_at ctx w) t) in
         let ss = switch_sections ctx b w in
-        has_one around (item.Switch v (passed_on [] false ss)) _ (tree-Switch v (passed_on [] false ss))
+        has_one around (item.Switch v (labels_passed ss)) _ (tree-Switch v (labels_passed ss))
         (has_switch around _ ss (has_sections (in_switch around) b w p.1))
     has_statement around first (Block b) w e = let a = body_items ctx b w in
         has_one around (item.Block a) _ (tree-Block a) (c.block around (trees_of a) (has_body around b w e))

@@ -1,6 +1,5 @@
 -- A function that is not too tangled as it is written is within the limits of the tree.
-use Rattle.std.proofs.Common.{ℕ, ◌+◌, ◌*◌, ◌≤◌, false, ◌||◌, nat_lt, List, [], ◌∷◌, ◌++◌, map, length, drop, Some, ◌≡◌, sym, ap, subst, ◌∙◌, arith}
-use Rattle.std.proofs.lemmas.Bool.Decides.{nat_tests}
+use Rattle.std.proofs.Common.{ℕ, ◌+◌, ◌*◌, ◌≤◌, false, ◌||◌, nat_lt, List, [], ◌∷◌, ◌++◌, map, length, drop, Some, ◌≡◌, sym, ap, subst, ◌∙◌, arith, ltb-false}
 use Rattle.c_tree.specs.declared.tree.Slot.{Slot}
 use Rattle.c_tree.specs.Trees.{trees_of}
 use Rattle.c_grammar.specs.Items.{Body, Braces, Lone}
@@ -23,9 +22,6 @@ use Rattle.c_resolving_laws.proofs.Grown.{Grown}
 use Rattle.c_resolving_laws.proofs.Limited.{short_both, short_notes, item_short, list_short}
 use Rattle.c_resolving_laws.proofs.Lists.{or_left, or_right}
 use Rattle.c_resolving_laws.proofs.Longest.{body_names, item_slots, list_slots, ShortName}
-
-at_most : (a b : ℕ) → nat_lt a b ≡ false → b ≤ a
-at_most a b e = grind (arith, nat_tests)
 
 module _ (ctx : Context) (K : ℕ) where
   pub record Bounded (b : Body) (w : Walk) : Type 0 where
@@ -60,9 +56,9 @@ within_limits word notes f b scopes n h e d =
     let y = nat_lt 400 (f.counted + 6 * n.1) in
     let z = nat_lt 63 (body_longest word b) in
     let first = or_left (x || y) z e in
-    let deep = at_most 400 (body_depth b + 3 * n.0) (or_left x y first) in
-    let many = at_most 400 (f.counted + 6 * n.1) (or_right x y first) in
-    let long = at_most 63 (body_longest word b) (or_right (x || y) z e) in
+    let deep = ltb-false 400 (body_depth b + 3 * n.0) (or_left x y first) in
+    let many = ltb-false 400 (f.counted + 6 * n.1) (or_right x y first) in
+    let long = ltb-false 63 (body_longest word b) (or_right (x || y) z e) in
     let s = body_bounded ctx f.counted b w h in
     let g = body_grows ctx 63 b w long in
     let whole = g.whole ∙ ap (λ l. l ++ g.more) (inside_slots word f scopes) in

@@ -11,6 +11,7 @@ use Rattle.c_tree.specs.Trees as tree
 use Rattle.c_tree.specs.Everywhere.{Everywhere, EverywhereOf, EverywhereIn}
 use Rattle.c_tree.proofs.KeptLemmas.{everywhere_join}
 use Rattle.c_tree.proofs.TreeLaws.{trees-append}
+use Rattle.c_tree.specs.SectionLabels.{labels_passed}
 use Rattle.c_grammar.specs.Terms.{Term}
 use Rattle.c_grammar.specs.Items.{Declarator, Start, Body}
 use Rattle.c_kinds.specs.Scopes.{Scope}
@@ -21,7 +22,7 @@ use Rattle.c_statements.specs.Cases.{switch_faults, body_entries}
 use Rattle.c_statements.specs.declared.anchors.Anchor.{Anchor}
 use Rattle.c_statements.specs.Context.{Context, Walk, env_at, env_in, enter, number_in, has_label, Around, in_switch}
 use Rattle.c_statements.specs.Declarations.{declared, initial, value_at, constant_at, value_faults, local_faults}
-use Rattle.c_statements.specs.Sections.{Reading, extended, closed, passed_on}
+use Rattle.c_statements.specs.Sections.{Reading, extended, closed}
 use Rattle.c_statements.specs.Statements.{behind_start, dropped_at, start_items, switch_sections}
 use Rattle.c_statements.specs.Violations.{dropped_faults, optional_faults, start_faults, return_faults, switch_body_faults}
 use Rattle.c_resolved_defs.specs.Form.{ends_with_break}
@@ -65,8 +66,8 @@ pub record Closed (ctx : Context) (final : List Slot) (I : List Scope → Type 0
       body_cases b < 2147483648 → value_faults (env_at ctx w) t [] ≡ []
       → switch_body_faults ctx (in_switch around) b w [] ≡ [] → switch_faults (option_map (λ v. v.kind) (value_of (typed (env_at ctx w) t)))
       (body_entries ctx b w []) [] ≡ []
-      → CaseExpressions C (sections_of (passed_on [] false (switch_sections ctx b w)))
-      → P (tree.Switch (Selects (expression_tree (value_at (env_at ctx w) t))) (sections_of (passed_on [] false (switch_sections ctx b w))))
+      → CaseExpressions C (sections_of (labels_passed (switch_sections ctx b w)))
+      → P (tree.Switch (Selects (expression_tree (value_at (env_at ctx w) t))) (sections_of (labels_passed (switch_sections ctx b w))))
   pub block : (a : Forest) → P (tree.Block a)
   pub locals : (k : Kinded) (d : Declarator) (w : Walk) → IsReadDeclarator ctx.word d → local_faults ctx.word k d w [] ≡ [] →
       Begins (declared ctx.word k d w).slots final
@@ -158,10 +159,10 @@ module _ (P : Tree → Type 0) (C : ExpressionTree → Type 0) where
   trees_hold [] h = tt
   trees_hold (s ∷ ss) h = (h.0, trees_hold ss h.1)
 
-  pub switch_holds : (ss : List Section) → SectionsHold ss → EverywhereIn P (sections_of (passed_on [] false ss)) × CaseExpressions C
-      (sections_of (passed_on [] false ss))
+  pub switch_holds : (ss : List Section) → SectionsHold ss → EverywhereIn P (sections_of (labels_passed ss)) × CaseExpressions C
+      (sections_of (labels_passed ss))
   switch_holds ss h =
-      subst (λ c. EverywhereIn P c × CaseExpressions C c) (sym (sections_are (passed_on [] false ss) ∙ ap sections (passed_same [] false ss)))
+      subst (λ c. EverywhereIn P c × CaseExpressions C c) (sym (sections_are (labels_passed ss) ∙ ap sections (passed_same ss)))
       (sections_hold (passed_trees [] false (map section_tree ss)) (passed_hold [] false (map section_tree ss) tt (trees_hold ss h)))
 
 -- a fact of all comments

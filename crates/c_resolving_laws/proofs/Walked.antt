@@ -10,6 +10,7 @@ use Rattle.c_tree.specs.Trees.{Tree, Forest, SectionTree, Nil, expression_trees,
 use Rattle.c_tree.specs.Trees as tree
 use Rattle.c_tree.proofs.ExpressionLaws.{test-Source, selector-Source}
 use Rattle.c_tree.proofs.TreeLaws.{tree-Evaluate, tree-Return, tree-If, tree-While, tree-Do, tree-For, tree-Switch, tree-Block, tree-Local, tree-Break, tree-Continue, tree-Goto, tree-Mark, tree-Arrival, tree-Note}
+use Rattle.c_tree.specs.SectionLabels.{labels_passed}
 use Rattle.c_grammar.specs.Items.{Declarator, Declaration, Label, Named, Case, Default, Start, NoStart, StartValue, StartNames, Item, Declares, States, Plain, From, Statement, Null, Evaluate, If, IfElse, While, DoWhile, For, Switch, Block, Goto, Break, Continue, Return, Unread, Body, Braces, Lone, Items, NoItem}
 use Rattle.c_grammar.specs.Items as items
 use Rattle.c_kinds.specs.Scopes.{Scope, fault_if}
@@ -20,7 +21,7 @@ use Rattle.c_statements.specs.declared.anchors.Anchor.TheVariants.{Before, AtEnd
 use Rattle.c_statements.specs.Context.{Context, Walk, env_at, env_in, enter, notes_at, number_in, has_label, Around, in_loop, in_switch}
 use Rattle.c_statements.specs.Declarations.{kinded, declared, all_declared, local, locals, initial, value_at, constant_at, locals_faults}
 use Rattle.c_statements.specs.Labels.{has_case, mark, label_items, labels_items, section_marks, section_cases, label_faults, labels_faults}
-use Rattle.c_statements.specs.Sections.{Reading, extended, closed, passed_on}
+use Rattle.c_statements.specs.Sections.{Reading, extended, closed}
 use Rattle.c_statements.specs.Statements.{behind_start, behind_item, behind_plain, behind_body, behind_items, declared_by, dropped_at, test_at, start_items, begun, a_switch, item_items, plain_items, statement_items, body_items, list_items, switch_sections, sections_from, sections_at}
 use Rattle.c_statements.specs.Statements as statements
 use Rattle.c_statements.specs.Violations.{start_faults, item_faults, plain_faults, statement_faults, body_faults, list_faults, switch_body_faults, outside_faults, outside_fault}
@@ -250,7 +251,7 @@ module _ (ctx : Context) (final : List Slot) (I : List Scope → Type 0) (P : Tr
     statement_holds around first (Switch t b) w r e i z =
         let p = switch_parts ctx around w first t b e in
         let v = value_at (env_at ctx w) t in
-        let ss = passed_on [] false (switch_sections ctx b w) in
+        let ss = labels_passed (switch_sections ctx b w) in
         let h = switch_holds P C (switch_sections ctx b w) (sections_hold around b w r.1 p.1 i z) in
         hold_one P (item.Switch (selector.Source v) ss)
         (hold_as P _ _ (tree-Switch (selector.Source v) ss ∙ ap (λ x. tree.Switch x (sections_of ss)) (selector-Source v))

@@ -2,9 +2,9 @@
 use Rattle.std.proofs.Common.{◌≡◌, ◌+◌, ℕ, List, [], ◌∷◌, length, drop, Option, Some, None, refl, ap, ◌∙◌, length-append, arith}
 use Rattle.c_grammar.specs.Items.{Declarator, Item, Declares, States, From, Statement, If, IfElse, While, DoWhile, For, Switch, Block, Body, Braces, Lone, Items, NoItem, Then}
 use Rattle.c_grammar.specs.Tops.{Parameter, Function}
-use Rattle.c_kinds.specs.declared.binding.Binding.{Binding}
 use Rattle.c_kinds.specs.declared.binding.Binding.TheVariants.{Local}
 use Rattle.c_kinds.specs.Scopes.{Scope, bind}
+use Rattle.c_kinds.proofs.ScopeLaws.{drop_bind}
 use Rattle.c_statements.specs.declared.anchors.Anchor.{Anchor}
 use Rattle.c_statements.specs.declared.extents.Kinded.{Kinded}
 use Rattle.c_statements.specs.Context.{Context, Walk}
@@ -17,13 +17,9 @@ use Rattle.c_statements.specs.Functions.{bind_parameter, bind_parameters, parame
 abbrev pub outer : Walk → List Scope
 outer w = drop 1 w.scopes
 
-bind-outer : (name : List ℕ) (b : Binding) (ss : List Scope) → drop 1 (bind name b ss) ≡ drop 1 ss
-bind-outer name b [] = refl
-bind-outer name b (s ∷ ss) = refl
-
 declared-outer : (word : ℕ → List ℕ) (k : Kinded) (ds : List Declarator) (w : Walk) → outer (all_declared word k ds w) ≡ outer w
 declared-outer word k [] w = refl
-declared-outer word k (d ∷ ds) w = declared-outer word k ds (declared word k d w) ∙ bind-outer (word d.name) _ w.scopes
+declared-outer word k (d ∷ ds) w = declared-outer word k ds (declared word k d w) ∙ drop_bind (word d.name) _ w.scopes
 
 body-scopes : (ctx : Context) (b : Body) (w : Walk) → (behind_body ctx b w).scopes ≡ w.scopes
 body-scopes ctx (Braces first after xs) w = refl
@@ -55,7 +51,7 @@ parameter-outer : (word : ℕ → List ℕ) (x : Parameter) (w : Walk) → outer
 parameter-outer word x w = by x.name
   where
     by : (n : Option ℕ) → drop 1 (elim n [ Some at ↦ bind (word at) (Local (length w.slots) (parameter_shape word x)) w.scopes | None ↦ w.scopes ]) ≡ outer w
-    by (Some at) = bind-outer (word at) (Local (length w.slots) (parameter_shape word x)) w.scopes
+    by (Some at) = drop_bind (word at) (Local (length w.slots) (parameter_shape word x)) w.scopes
     by None = refl
 
 parameters-outer : (word : ℕ → List ℕ) (xs : List Parameter) (w : Walk) → outer (bind_parameters word xs w) ≡ outer w

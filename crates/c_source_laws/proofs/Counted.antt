@@ -51,13 +51,13 @@ abbrev mutual
 
 -- ---- so many of its events count
 
-base_held : (b : Base) (q : List Event) → count_of (base_events b q) ≡ count_of q
+pub base_held : (b : Base) (q : List Event) → count_of (base_events b q) ≡ count_of q
 base_held CharBase q = refl
 base_held IntBase q = refl
 base_held LongBase q = refl
 base_held LongIntBase q = refl
 
-type_held : (n : NumberType) (q : List Event) → count_of (type_events n q) ≡ count_of q
+pub type_held : (n : NumberType) (q : List Event) → count_of (type_events n q) ≡ count_of q
 type_held (OfBase b) q = base_held b q
 type_held Signed q = refl
 type_held (SignedOf b) q = base_held b (Uncounted ∷ q)

@@ -1,5 +1,5 @@
 -- A derived expression has the brackets that it is printed with, so no more of its tokens count when it is printed.
-use Rattle.std.proofs.Common.{◌≡◌, ◌<◌, ◌≤◌, ◌+◌, ℕ, Bool, true, false, cond, nat_lt, List, refl, ap, arith}
+use Rattle.std.proofs.Common.{◌≡◌, ◌≤◌, ◌+◌, ℕ, Bool, true, false, cond, nat_lt, List, refl, ap, arith}
 use Rattle.std.proofs.lemmas.Bool.{le-ltb}
 use Rattle.c_grammar.specs.declared.class.Class.{Class}
 use Rattle.c_grammar.specs.declared.class.Class.TheVariants as c
@@ -8,6 +8,7 @@ use Rattle.c_grammar.specs.Expressions.{Expression, One, More, Assignment, To, V
 use Rattle.c_grammar.specs.ExpressionSyntax.{type_end, expression_end, assignment_end, binary_end, target_end, argument_end}
 use Rattle.c_grammar.specs.Terms.{Form}
 use Rattle.c_resolved_defs.specs.PrintableExpressions.{bracket_count}
+use Rattle.print_laws.proofs.Levels.{root_high}
 use Rattle.reread_parts_laws.specs.WrittenExpressions.{expression_form, expression_terms, assignment_form, conditional_form, binary_form, unary_form, target_form, arguments_terms, argument_form}
 use Rattle.c_resolving_laws.specs.Counts.{form_level, form_counted, commas_counted, all_counted}
 use Rattle.c_source_laws.proofs.Past.{type_past, expression_past, assignment_past, binary_past, target_past, argument_past}
@@ -30,23 +31,6 @@ target_level : (t : Target) (at : ℕ) (word : ℕ → List ℕ) → form_level 
 target_level Variable at word = refl
 target_level (Cell e) at word = refl
 target_level (Round t) at word = target_level t (at + 1) word
-
-root_low : (b : Binary) → FitsBinary b → 4 ≤ root b
-root_low (Single u) f = omega arith
-root_low (Both a m b) f = let h = f.2 in marked m h
-  where
-    marked : (m : Class) → 0 < level m → 4 ≤ level m
-    marked c.OrElse h = omega arith
-    marked c.AndThen h = omega arith
-    marked c.BitOr h = omega arith
-    marked c.BitXor h = omega arith
-    marked c.BitAnd h = omega arith
-    marked c.Equality h = omega arith
-    marked c.Order h = omega arith
-    marked c.Shift h = omega arith
-    marked c.Sign h = omega arith
-    marked c.Product h = omega arith
-    marked _ h = absurd (omega (arith, h))
 
 module _ (word : ℕ → List ℕ) where
   abbrev Stands : ℕ → List Class → Type 0
@@ -94,12 +78,12 @@ module _ (word : ℕ → List ℕ) where
     conditional_printed (Choose b e d) at r need n f s =
         let x = binary_end at b + 1 in
         let u = (binary_past IsWeighed word b at _ s).1 in
-        let g = binary_printed b at _ 4 (root_low b (f.0)) (f.0) s in
+        let g = binary_printed b at _ 4 (root_high b (f.0)) (f.0) s in
         let h = expression_printed e x _ 0 (omega arith) (f.1) u in
         let i = conditional_printed d (expression_end x e + 1) r 3 (omega arith) (f.2) (expression_past IsWeighed word e x _ u).1 in
         let l = none 3 need n in
         omega (arith, g, h, i, l)
-    conditional_printed (Only b) at r need n f s = binary_printed b at r need (let l = root_low b f in omega (arith, l, n)) f s
+    conditional_printed (Only b) at r need n f s = binary_printed b at r need (let l = root_high b f in omega (arith, l, n)) f s
 
     binary_printed : (b : Binary) (at : ℕ) (r : List Class) (need : ℕ) → need ≤ root b → FitsBinary b → Stands at (binary_tokens b r) →
         printed (binary_form at b) need ≤ binary_count b

@@ -1,12 +1,11 @@
 -- A line, without the carriage returns at its end, is one line.
-use Rattle.std.proofs.Common.{◌≡◌, ◌+◌, ℕ, Bool, true, false, cond, not, ◌&&◌, ◌==◌, List, [], ◌∷◌, ◌++◌, Option, Some, None, refl, ap, sym, ◌∙◌}
-use Rattle.std.specs.Option.{option_map}
+use Rattle.std.proofs.Common.{◌≡◌, ℕ, Bool, true, false, cond, not, ◌&&◌, ◌==◌, List, [], ◌∷◌, ◌++◌, None, refl, ap, sym, ◌∙◌}
 use Rattle.std.proofs.lemmas.Bool.{eqb-true}
 use Rattle.std.specs.List.{list_all}
 use Rattle.c_lexer.specs.Bytes.{is_space, is_newline, is_return}
 use Rattle.c_lexer.specs.Machine.{breaks_before, breaks_line, broken_at}
 use Rattle.c_lexer.specs.Pieces.{bare, onto_bare, runs_on, NewlineNext, IsLine}
-use Rattle.c_lexer.proofs.Lines.{has_no_newline, no_newline, not_broken, runs_to_newline}
+use Rattle.c_lexer.proofs.Lines.{has_no_newline, no_newline, not_broken, runs_to_newline, not_here, here_not}
 use Rattle.c_lexer.proofs.Truths.{both_true}
 use Rattle.c_resolved_defs.specs.Verbatims.{IsOneLine}
 use Rattle.print_laws.proofs.Tokens.{bare_front}
@@ -49,14 +48,6 @@ space_bare (b ∷ w) = by_rest (bare w) (space_bare w)
     by_rest [] e = ap (λ x. is_space b && x) e ∙ by_return (b == 13) refl
     by_rest (d ∷ v) e = ap (λ x. is_space b && x) e
 
-parts : (x : Bool) (o : Option ℕ) → cond x (Some 0) (option_map (λ n. n + 1) o) ≡ None → (x ≡ false) × (o ≡ None)
-parts true o h = absurd cc
-parts false None h = (refl, refl)
-parts false (Some n) h = absurd cc
-
-joined : (x : Bool) (o : Option ℕ) → x ≡ false → o ≡ None → cond x (Some 0) (option_map (λ n. n + 1) o) ≡ None
-joined x o h g = rw (h, g) refl
-
 returns_bare : (w : List ℕ) → list_all is_return w ≡ list_all is_return (bare w)
 returns_bare [] = refl
 returns_bare (b ∷ w) = by_rest (bare w) (returns_bare w)
@@ -76,16 +67,16 @@ breaks_bare b w = ap (λ x. breaks_before b x (list_all is_return (bare w))) (sy
 bare_whole : (w : List ℕ) → broken_at w ≡ None → broken_at (bare w) ≡ None
 bare_whole [] h = refl
 bare_whole (b ∷ w) h =
-    let m = parts (breaks_line b w) (broken_at w) h in
+    let m = not_here (breaks_line b w) (broken_at w) h in
     by_rest (bare w) (breaks_bare b w ∙ m.0) (bare_whole w (m.1))
   where
     by_return : (x : Bool) → breaks_line b [] ≡ false → broken_at (cond x [] (b ∷ [])) ≡ None
     by_return true e = refl
-    by_return false e = joined (breaks_line b []) None e refl
+    by_return false e = here_not (breaks_line b []) None e refl
 
     by_rest : (v : List ℕ) → breaks_line b v ≡ false → broken_at v ≡ None → broken_at (onto_bare b v) ≡ None
     by_rest [] e g = by_return (b == 13) e
-    by_rest (d ∷ v) e g = joined (breaks_line b (d ∷ v)) (broken_at (d ∷ v)) e g
+    by_rest (d ∷ v) e g = here_not (breaks_line b (d ∷ v)) (broken_at (d ∷ v)) e g
 
 before_newline : (w r : List ℕ) → NewlineNext r → runs_on w r ≡ true → IsOneLine (bare w)
 before_newline w r n h =

@@ -14,7 +14,7 @@ use Rattle.c_grammar.specs.Parts.{part_of, greatest}
 use Rattle.c_source_laws.proofs.Limits.{peak}
 use Rattle.c_source_laws.proofs.Numbered.{Along}
 use Rattle.c_source_laws.proofs.Weights.{IsWeighed}
-use Rattle.c_source_laws.proofs.Counted.{expression_held, assignment_held, conditional_held}
+use Rattle.c_source_laws.proofs.Counted.{expression_held, assignment_held, conditional_held, type_held}
 use Rattle.c_source_laws.proofs.CountedNodes.{node_most, expression_most, assignment_most, conditional_most}
 
 -- ---- within a full expression the count only grows
@@ -97,19 +97,6 @@ mutual
   argument_up : (x : Argument) (q : List Event) → Up q (argument_events x q)
   argument_up (Given a) q = assignment_up a q
   argument_up (Written n) q = texts_up n q
-
-base_held : (b : Base) (q : List Event) → count_of (base_events b q) ≡ count_of q
-base_held CharBase q = refl
-base_held IntBase q = refl
-base_held LongBase q = refl
-base_held LongIntBase q = refl
-
-pub type_held : (n : NumberType) (q : List Event) → count_of (type_events n q) ≡ count_of q
-type_held (OfBase b) q = base_held b q
-type_held Signed q = refl
-type_held (SignedOf b) q = base_held b (Uncounted ∷ q)
-type_held Unsigned q = refl
-type_held (UnsignedOf b) q = base_held b (Uncounted ∷ q)
 
 -- the words of a type change nothing where no full expression is open
 pub type_quiet : (n : NumberType) (q : List Event) → count_of q ≡ 0 → peak (type_events n q) ≡ peak q

@@ -110,7 +110,7 @@ labels_same (Labelled x t) at at' p =
     λ i. g i ∷ h i
 labels_same (Unlabelled x) at at' p = refl
 
-two : (at at' : ℕ) → at ≡ at' → at + 1 + 1 ≡ at' + 1 + 1
+pub two : (at at' : ℕ) → at ≡ at' → at + 1 + 1 ≡ at' + 1 + 1
 two at at' p = up (at + 1) (at' + 1) (up at at' p)
 
 -- an expression in brackets, and what stands behind it

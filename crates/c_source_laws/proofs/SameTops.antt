@@ -23,12 +23,9 @@ use Rattle.c_source_laws.proofs.Weights.{IsWeighed}
 use Rattle.c_source_laws.proofs.Past.{top_past}
 use Rattle.c_source_laws.proofs.Placed.{type_placed, word_placed, enumerator_placed, parameter_placed, parameters_placed, result_placed, top_placed}
 use Rattle.c_source_laws.proofs.SameTerms.{next, up, past, type_same, conditional_same}
-use Rattle.c_source_laws.proofs.SameItems.{size_same, declaration_same, items_same, block_same}
+use Rattle.c_source_laws.proofs.SameItems.{size_same, declaration_same, items_same, block_same, two}
 use Rattle.c_source_laws.proofs.Limits.{function_peak}
 use Rattle.c_source_laws.proofs.FunctionsMost.{function_most}
-
-two : (at at' : ℕ) → at ≡ at' → at + 1 + 1 ≡ at' + 1 + 1
-two at at' p = up (at + 1) (at' + 1) (up at at' p)
 
 -- ---- enums
 

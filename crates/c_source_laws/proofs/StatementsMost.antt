@@ -16,7 +16,8 @@ use Rattle.c_source_laws.proofs.Limits.{peak}
 use Rattle.c_source_laws.proofs.Numbered.{Along}
 use Rattle.c_source_laws.proofs.Weights.{IsWeighed}
 use Rattle.c_source_laws.proofs.Past.{type_past, expression_past, assignment_past, word_past, optional_past, size_past, declarator_past, local_past, label_past, start_past, statement_past}
-use Rattle.c_source_laws.proofs.Most.{type_quiet, type_held, most_in, most_of, joined, node_is, leaf_is, type_is, expression_peak, assignment_peak, conditional_peak}
+use Rattle.c_source_laws.proofs.Most.{type_quiet, most_in, most_of, joined, node_is, leaf_is, type_is, expression_peak, assignment_peak, conditional_peak}
+use Rattle.c_source_laws.proofs.Counted.{type_held}
 
 -- ---- no full expression is open behind these
 
@@ -27,10 +28,6 @@ word_closed true q z = refl
 pub word_quiet : (given : Bool) (q : List Event) → peak (word_events given q) ≡ peak q
 word_quiet false q = refl
 word_quiet true q = omega arith
-
-pub size_closed : (x : Size) (q : List Event) → count_of q ≡ 0 → count_of (size_events x q) ≡ 0
-size_closed NoSize q z = z
-size_closed _ q z = refl
 
 opened_closed : (level : ℕ) (b : Bool) (q : List Event) → count_of q ≡ 0 → count_of (cond b q (Opened level ∷ q)) ≡ 0
 opened_closed level true q z = z

@@ -1,9 +1,9 @@
 -- The sections of a switch (ISO/IEC 9899:2011, 6.8.4.2).
-use Rattle.std.specs.Prelude.{Bool, true, false, cond, not, ◌&&◌, ◌||◌, List, [], ◌∷◌, ◌++◌, Option, Some, None}
+use Rattle.std.specs.Prelude.{Bool, true, false, cond, ◌&&◌, List, [], ◌∷◌, ◌++◌, Option, Some, None}
 use Rattle.c_tree.specs.declared.tree.Expression.{Expression}
 use Rattle.c_tree.specs.declared.tree.Item.{Item, Evaluate, out-Item}
 use Rattle.c_tree.specs.declared.tree.Item.TheOpen as Open
-use Rattle.c_tree.specs.declared.tree.Section.{Section, roll-Section, out-Section}
+use Rattle.c_tree.specs.declared.tree.Section.{Section, roll-Section}
 use Rattle.c_statements.specs.Declarations.{placeholder}
 
 -- a section as it is written, before it has its end
@@ -49,21 +49,3 @@ closed None = []
 abbrev pub front : List Item → List Section
 front [] = []
 front (x ∷ xs) = section [] false ((x ∷ xs) ++ Evaluate placeholder ∷ []) false ∷ []
-
--- ---- sections with an empty list
-
-abbrev pub is_passing : Section → Bool
-is_passing s = elim (out-Section s).list [ [] ↦ not (out-Section s).ends | x ∷ xs ↦ false ]
-
-abbrev pub with_labels : List Expression → Bool → Section → Section
-with_labels cases default s = section (cases ++ (out-Section s).cases) (default || (out-Section s).default) (out-Section s).list (out-Section s).ends
-
--- a section with an empty list and no end gives its cases and its default to the next, if there is one
-abbrev pub passed_on : List Expression → Bool → List Section → List Section
-passed_on cases default [] = []
-passed_on cases default (s ∷ []) = with_labels cases default s ∷ []
-passed_on cases default (s ∷ t ∷ ss) =
-    elim (is_passing s) [
-      | true ↦ passed_on (cases ++ (out-Section s).cases) (default || (out-Section s).default) (t ∷ ss)
-      | false ↦ with_labels cases default s ∷ passed_on [] false (t ∷ ss)
-    ]

@@ -5,8 +5,9 @@ use Rattle.c_tree.specs.declared.tree.Item as item
 use Rattle.c_tree.specs.declared.tree.Test as test
 use Rattle.c_tree.specs.declared.tree.Selector as selector
 use Rattle.c_tree.specs.declared.tree.Section.{Section}
+use Rattle.c_tree.specs.SectionLabels.{labels_passed}
 use Rattle.c_grammar.specs.Terms.{Term}
-use Rattle.c_grammar.specs.Items.{Declaration, Label, Named, Case, Default, Start, NoStart, StartValue, StartNames, Declares, States, Plain, From, Statement, Null, Evaluate, If, IfElse, While, DoWhile, For, Switch, Block, Goto, Break, Continue, Return, Unread, Body, Braces, Lone, Items, NoItem, Then}
+use Rattle.c_grammar.specs.Items.{Declaration, Label, Start, NoStart, StartValue, StartNames, Declares, States, Plain, From, Statement, Null, Evaluate, If, IfElse, While, DoWhile, For, Switch, Block, Goto, Break, Continue, Return, Unread, Body, Braces, Lone, Items, NoItem, Then}
 use Rattle.c_grammar.specs.Items as items
 use Rattle.c_kinds.specs.Scopes.{Env}
 use Rattle.c_kinds.specs.Values.{dropped}
@@ -14,7 +15,7 @@ use Rattle.c_kinds.specs.Typing.{typed}
 use Rattle.c_statements.specs.Context.{Context, Walk, env_at, enter, leave, Before, AtEnd, AtSection, notes_at, number_in}
 use Rattle.c_statements.specs.Declarations.{placeholder, value_at, kinded, all_declared, locals}
 use Rattle.c_statements.specs.Labels.{has_case, labels_items, section_marks, section_cases, has_default}
-use Rattle.c_statements.specs.Sections.{Reading, extended, closed, front, passed_on}
+use Rattle.c_statements.specs.Sections.{Reading, extended, closed, front}
 
 -- ---- what is declared behind a statement
 
@@ -103,7 +104,7 @@ begins (Declares first after d) = false
 begins (States ls p) = has_case ls
 
 abbrev pub a_switch : Expression → List Section → List item.Item
-a_switch e sections = item.Switch (selector.Source e) (passed_on [] false sections) ∷ []
+a_switch e sections = item.Switch (selector.Source e) (labels_passed sections) ∷ []
 
 abbrev mutual
   pub item_items : Context → items.Item → Walk → List item.Item

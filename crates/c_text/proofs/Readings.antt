@@ -291,7 +291,7 @@ pub program_read : (t : List ℕ) (r : Result Program ReadStop) → Gives (λ (p
 program_read t (Ok p) g = program_as t p g
 program_read t (Err stop) g = tt
 
-same_read : (o : Result Program Refusal) (p q : Program) → o ≡ Ok p → o ≡ Ok q → p ≡ q
+pub same_read : (o : Result Program Refusal) (p q : Program) → o ≡ Ok p → o ≡ Ok q → p ≡ q
 same_read o p q e g = cc
 
 -- a text has one program

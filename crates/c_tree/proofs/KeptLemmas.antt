@@ -17,7 +17,7 @@ pub total-join : (f : Tree → ℕ) (a b : Forest) → total f (join a b) ≡ to
 total-join f Nil b = omega arith
 total-join f (Then x a) b = let h = total-join f a b in omega arith
 
-at_most_one : (b : Bool) → cond b 1 0 ≤ 1
+pub at_most_one : (b : Bool) → cond b 1 0 ≤ 1
 at_most_one true = omega arith
 at_most_one false = omega arith
 

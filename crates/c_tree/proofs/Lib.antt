@@ -16,3 +16,4 @@ pub mod NumeralLaws
 pub mod Views
 pub mod Searches
 pub mod Collecting
+pub mod SectionLaws

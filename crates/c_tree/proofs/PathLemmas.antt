@@ -1,5 +1,5 @@
 -- The laws of `list_at` and `put_at`.
-use Rattle.std.proofs.Common.{◌≡◌, ℕ, zero, suc, List, [], ◌∷◌, Option, Some, None, option_map, option_and_then, slice_get, slice_set, refl, sym, ap, ◌∙◌}
+use Rattle.std.proofs.Common.{◌≡◌, ℕ, zero, suc, List, [], ◌∷◌, Option, Some, None, option_map, option_and_then, slice_get, slice_set, refl, sym, ap, ◌∙◌, set-set}
 use Rattle.std.specs.Option.{option_map_or}
 use Rattle.c_tree.specs.declared.tree.Item.{Item, Item-F, out-Item, roll-Item, out-roll-Item, roll-out-Item}
 use Rattle.c_tree.specs.declared.tree.Item.TheOpen.{Section-F, If, While, Do, For, Switch, Block}
@@ -19,11 +19,6 @@ pub get_set : {A : Type 0} (xs : List A) (i : ℕ) (x y : A) → slice_get xs i 
 get_set [] i x y e = cc
 get_set (z ∷ zs) zero x y e = refl
 get_set (z ∷ zs) (suc i) x y e = get_set zs i x y e
-
-pub set_set : {A : Type 0} (xs : List A) (i : ℕ) (y z : A) → slice_set (slice_set xs i y) i z ≡ slice_set xs i z
-set_set [] i y z = refl
-set_set (x ∷ xs) zero y z = refl
-set_set (x ∷ xs) (suc i) y z = ap (λ l. x ∷ l) (set_set xs i y z)
 
 pub set_same : {A : Type 0} (xs : List A) (i : ℕ) (x : A) → slice_get xs i ≡ Some x → slice_set xs i x ≡ xs
 set_same [] i x e = refl
@@ -66,7 +61,7 @@ section_put k cs u w a e =
     let t = map_some list_of (slice_get cs k) a e in
     ap (with_section_list k w) (with_there k u cs t.0 t.1)
     ∙ with_there k w (slice_set cs k (with_list u t.0)) (with_list u t.0) (get_set cs k t.0 (with_list u t.0) t.1)
-    ∙ set_set cs k (with_list u t.0) (with_list w (with_list u t.0))
+    ∙ set-set cs k (with_list u t.0) (with_list w (with_list u t.0))
     ∙ ap (slice_set cs k) (with_with_list u w t.0)
     ∙ sym (with_there k w cs t.0 t.1)
 
@@ -166,7 +161,7 @@ put_put xs (s ∷ ss) u w a e =
     ap (λ l. put_at l (s ∷ ss) w) (put_step xs s ss u t.item t.inner t.item_is t.inner_is)
     ∙ put_step (slice_set xs s.item made) s ss w made (put_at t.inner ss u) (get_set xs s.item t.item made t.item_is)
     (child_with s.branch t.item (put_at t.inner ss u) t.inner t.inner_is)
-    ∙ set_set xs s.item made (with_child s.branch (put_at (put_at t.inner ss u) ss w) made)
+    ∙ set-set xs s.item made (with_child s.branch (put_at (put_at t.inner ss u) ss w) made)
     ∙ ap (slice_set xs s.item) (with_with s.branch t.item (put_at t.inner ss u) (put_at (put_at t.inner ss u) ss w) t.inner t.inner_is)
     ∙ ap (λ l. slice_set xs s.item (with_child s.branch l t.item)) (put_put t.inner ss u w a t.rest)
     ∙ sym (put_step xs s ss w t.item t.inner t.item_is t.inner_is)

@@ -86,7 +86,7 @@ ends xs (s ∷ steps) last a e =
       child_is = r.child_is;
     }
 
-item_there : (xs : List Item) (steps : List Step) (i : ℕ) (a : List Item) (x : Item) → list_at xs steps ≡ Some a → slice_get a i ≡ Some x →
+pub item_there : (xs : List Item) (steps : List Step) (i : ℕ) (a : List Item) (x : Item) → list_at xs steps ≡ Some a → slice_get a i ≡ Some x →
     item_at xs steps i ≡ Some x
 item_there xs steps i a x e f = ap (option_and_then (λ a. slice_get a i)) e ∙ f
 

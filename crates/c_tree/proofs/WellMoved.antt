@@ -48,7 +48,7 @@ lands-sections_left : (l m : ℕ) {c d : Sections} → SectionsLeft m c d → to
 lands-sections_left l m (left_here cases default ends a b c) = let p = lands-left l m a b in let q = lands-chosen l m ends c in omega arith
 lands-sections_left l m (left_later cases default ends a r) = let p = lands-sections_left l m r in omega arith
 
-lands-entered : (l m k : ℕ) {c d : Sections} → SectionsEntered m k c d → total_in (land_of l) d ≡ total_in (land_of l) c
+pub lands-entered : (l m k : ℕ) {c d : Sections} → SectionsEntered m k c d → total_in (land_of l) d ≡ total_in (land_of l) c
 lands-entered l m _ (entered_here cases default ends a c z) = omega arith
 lands-entered l m _ (entered_later cases default ends a r) = let p = lands-entered l m _ r in omega arith
 

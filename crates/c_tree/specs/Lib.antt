@@ -22,6 +22,7 @@ pub mod Moves
 pub mod TextPieces
 pub mod TextExpressions
 pub mod TextItems
+pub mod SectionLabels
 pub mod Text
 pub mod Rebuilt
 pub mod Jumps

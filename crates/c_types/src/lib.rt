@@ -15,7 +15,7 @@ mod words;
 
 pub use boxed::Boxed;
 pub use kinds::{ArithOp, Base, IntKind, Suffix, constant_kind, promote, usual};
-pub use list::{List, MOST};
+pub use list::{List, MOST, concatenated};
 pub use name::Name;
 pub use numbers::{arith, convert};
 pub use refusal::{Memory, ReadStop, Refusal};

@@ -1,4 +1,4 @@
-ghost use Rattle.std.specs.Prelude.{◌≡◌, [], ◌∷◌, ◌++◌, ◌<◌, ◌≤◌, length, slice_get, slice_set, remove, ◌↔◌, IsTrue, IfOk, MatchOption, OnOk, OnErr, OnSome, vec_len};
+ghost use Rattle.std.specs.Prelude.{◌≡◌, [], ◌∷◌, ◌+◌, ◌++◌, ◌<◌, ◌≤◌, length, slice_get, slice_set, remove, ◌↔◌, IsTrue, IfOk, MatchOption, OnOk, OnErr, OnSome, vec_len};
 ghost use Rattle.std.specs.Option.{option_copied, option_copied_mut};
 ghost use Rattle.std.specs.Borrow.{Lends, LendsIf, sem, Array};
 ghost use Rattle.std.specs.Cmp.Lexicographic.{pointwise, lists_per, lists_equiv};
@@ -206,4 +206,37 @@ impl<T: Drop> List<T> {
     {
         self.items = items;
     }
+}
+
+/// From so many entries on, a list that takes a shorter one in front is turned round where it stands; below, it is moved.
+const LONG: usize = 64;
+
+/// One list behind another, where the first is the shorter: the entries of the second stay in their room.
+fn with_front<T: Drop>(a: Vec<T>, b: Vec<T>) -> Result<List<T>, Memory>
+    requires { vec_len a + vec_len b ≤ 4294967295 }
+    ensures { IfOk result (λ it. it ≡ a.items ++ b.items) }
+{
+    let mut a = a;
+    let mut b = b;
+    let count = b.len();
+    b.append(&mut a)?;
+    b.rotate_left(count);
+    Ok(List::from_vec(b))
+}
+
+/// The entries of the first list and behind them those of the second. `Err` where memory is refused, or where they are
+/// more than `MOST`.
+pub fn concatenated<T: Drop>(a: List<T>, b: List<T>) -> Result<List<T>, Memory>
+    ensures { IfOk result (λ it. it ≡ a ++ b) }
+{
+    let mut a = a.into_vec();
+    let mut b = b.into_vec();
+    if a.len() > MOST - b.len() {
+        return Err(Memory);
+    }
+    if b.len() > LONG && a.len() < b.len() {
+        return with_front(a, b);
+    }
+    a.append(&mut b)?;
+    Ok(List::from_vec(a))
 }

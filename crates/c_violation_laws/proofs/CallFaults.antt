@@ -2,7 +2,7 @@
 use Rattle.std.proofs.Common.{◌≡◌, ◌≢◌, ◌⊎◌, inl, inr, ℕ, suc, Bool, true, false, cond, not, ◌&&◌, ◌==◌, List, [], ◌∷◌, length, Option, Some, None, refl, sym, ap, subst, ◌∙◌, true≢false}
 use Rattle.std.proofs.lemmas.Bool.{eqb-true, eqb-false}
 use Rattle.c_types.specs.declared.kinds.IntKind.{IntKind}
-use Rattle.c_types.specs.declared.kinds.IntKind.TheVariants.{Char, UChar, Int, UInt, Long, ULong}
+use Rattle.c_types.specs.declared.kinds.IntKind.TheVariants.{Int}
 use Rattle.c_tree.specs.declared.tree.Node.{Node}
 use Rattle.c_grammar.specs.Terms.{Term, Terms, NoTerm, Then, first_of, count}
 use Rattle.c_kinds.specs.declared.binding.Want.{Want}
@@ -32,27 +32,11 @@ use Rattle.c_violation_laws.specs.Finds.{Finds}
 use Rattle.c_violation_laws.proofs.Finding.{Rule, finds_none, finds_both, finds_same, finds_nothing, finds_fault, finds_if}
 use Rattle.c_violation_laws.proofs.Bound.{bound_of, unbound_of}
 use Rattle.c_violation_laws.proofs.Uses.{not_both, not_bound, same_bound}
+use Rattle.c_violation_laws.proofs.CallMeanings.{is_same_kind, same_kind_is}
 
 -- ---- tests
 
-same_kinds : (j k : IntKind) → same_kind j k ≡ true → j ≡ k
-same_kinds Char Char e = refl
-same_kinds UChar UChar e = refl
-same_kinds Int Int e = refl
-same_kinds UInt UInt e = refl
-same_kinds Long Long e = refl
-same_kinds ULong ULong e = refl
-same_kinds _ _ e = absurd (true≢false (sym e))
-
-same_kind_is : (k : IntKind) → same_kind k k ≡ true
-same_kind_is Char = refl
-same_kind_is UChar = refl
-same_kind_is Int = refl
-same_kind_is UInt = refl
-same_kind_is Long = refl
-same_kind_is ULong = refl
-
-not_true : (b : Bool) → (b ≡ true → ⊥) → not b ≡ true
+pub not_true : (b : Bool) → (b ≡ true → ⊥) → not b ≡ true
 not_true true f = absurd (f refl)
 not_true false f = refl
 
@@ -61,10 +45,10 @@ true_not true e g = true≢false (sym e)
 true_not false e g = true≢false (sym g)
 
 differ : (j k : IntKind) → not (same_kind j k) ≡ true → k ≢ j
-differ j k e g = true_not (same_kind j k) e (ap (same_kind j) g ∙ same_kind_is j)
+differ j k e g = true_not (same_kind j k) e (ap (same_kind j) g ∙ is_same_kind j)
 
 differ_back : (j k : IntKind) → k ≢ j → not (same_kind j k) ≡ true
-differ_back j k f = not_true (same_kind j k) (λ e. f (sym (same_kinds j k e)))
+differ_back j k f = not_true (same_kind j k) (λ e. f (sym (same_kind_is j k e)))
 
 truths : (a b : Bool) → not (same_truth a b) ≡ true → b ≢ a
 truths true true e g = true≢false (sym e)

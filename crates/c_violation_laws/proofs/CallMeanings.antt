@@ -21,7 +21,7 @@ use Rattle.c_violation_laws.proofs.Formats.{format_is, is_format}
 
 -- ---- tests
 
-same_kind_is : (j k : IntKind) → same_kind j k ≡ true → j ≡ k
+pub same_kind_is : (j k : IntKind) → same_kind j k ≡ true → j ≡ k
 same_kind_is K.Char K.Char e = refl
 same_kind_is K.UChar K.UChar e = refl
 same_kind_is K.Int K.Int e = refl
@@ -30,7 +30,7 @@ same_kind_is K.Long K.Long e = refl
 same_kind_is K.ULong K.ULong e = refl
 same_kind_is _ _ e = cc
 
-is_same_kind : (k : IntKind) → same_kind k k ≡ true
+pub is_same_kind : (k : IntKind) → same_kind k k ≡ true
 is_same_kind K.Char = refl
 is_same_kind K.UChar = refl
 is_same_kind K.Int = refl

@@ -1,6 +1,6 @@
 -- What a walk finds at the name of a function.
 use Rattle.std.proofs.Common.{◌≡◌, ◌⊎◌, inl, inr, ℕ, Bool, true, false, cond, not, ◌&&◌, ◌||◌, List, [], ◌∷◌, ◌++◌, codes, Option, Some, None, is_some, refl, sym, ap, subst, ◌∙◌, bytes_eq, true≢false}
-use Rattle.std.proofs.lemmas.Bool.{and_parts, or_cases, or_left, or_right}
+use Rattle.std.proofs.lemmas.Bool.{and_parts, or_cases, or_left, or_right, and_from, not-true}
 use Rattle.std.specs.declared.cmp.Ordering.{Ordering}
 use Rattle.std.specs.declared.cmp.Ordering.TheVariants.{Less, Equal, Greater}
 use Rattle.std.specs.Ordering.{match_ordering, is_eq}
@@ -26,10 +26,6 @@ use Rattle.c_violation_laws.proofs.FileStanding.{in_scopes}
 use Rattle.c_violation_laws.proofs.Scopes.{found_alike, is_declared, declared_is}
 
 -- ---- functions that have a body so far
-
-and_both : (a b : Bool) → a ≡ true → b ≡ true → (a && b) ≡ true
-and_both true b e g = g
-and_both false b e g = absurd (true≢false (sym e))
 
 doubled : (a c : Bool) → (a || c) ≡ (a || (a || c))
 doubled true c = refl
@@ -107,7 +103,7 @@ module _ (word : ℕ → List ℕ) where
       | inl a ↦ or_right (has_body f && bytes_eq q (word f.name)) (has_function bodies q) ((h q).1 a)
       | inr b ↦ elim b [
         | inl p ↦ or_left (has_body f && bytes_eq q (word f.name)) (has_function bodies q)
-            (and_both (has_body f) (bytes_eq q (word f.name)) p.0 (names_same q (word f.name) p.1))
+            (and_from (has_body f) (bytes_eq q (word f.name)) p.0 (names_same q (word f.name) p.1))
         | inr n ↦ absurd n
       ]
     ],
@@ -122,10 +118,6 @@ declared_as name b (s ∷ ss) e = there name b s e
 as_declared : (name : List ℕ) (b : Binding) (ss : List Scope) → IsDeclaredAs name b ss → bound name ss ≡ Some b
 as_declared name b [] h = absurd h
 as_declared name b (s ∷ ss) h = there_back name b s h
-
-untrue : (b : Bool) → not b ≡ true → b ≡ false
-untrue true e = absurd (true≢false (sym e))
-untrue false e = refl
 
 -- what is found where the file declares the name already
 abbrev again_rule : ℕ → Bool → Signature → Option Binding → Rule
@@ -171,7 +163,7 @@ module _ (file : File) (before : List Top) (bodies : List (List ℕ)) (defined :
   declared_before : (o : Option Binding) → bound name ss ≡ o → (v : Fault) → again_rule f.name again own o v → Breaks v
   declared_before None e v h = absurd h
   declared_before (Some (binding.Function g)) e v (inl q) = subst Breaks (sym q.1)
-      (FunctionNameBreaks.disagrees g (declared_as name (binding.Function g) ss e) (untrue (same_signature g own) q.0))
+      (FunctionNameBreaks.disagrees g (declared_as name (binding.Function g) ss e) (not-true (same_signature g own) q.0))
   declared_before (Some (binding.Function g)) e v (inr q) =
       let p = and_parts (has_body f) (has_function bodies name) q.0 in
       subst Breaks (sym q.1) (FunctionNameBreaks.second_body g (declared_as name (binding.Function g) ss e) p.0 ((defined name).0 p.1))
@@ -184,7 +176,7 @@ module _ (file : File) (before : List Top) (bodies : List (List ℕ)) (defined :
   to v (inl q) = subst Breaks (sym q.1) (FunctionNameBreaks.known_function q.0)
   to v (inr (inl q)) =
       let p = and_parts (bytes_eq name (codes "main")) (not (is_main_form file.word f)) q.0 in
-      subst Breaks (sym q.1) (FunctionNameBreaks.other_main (same_names name (codes "main") p.0) (untrue (is_main_form file.word f) p.1))
+      subst Breaks (sym q.1) (FunctionNameBreaks.other_main (same_names name (codes "main") p.0) (not-true (is_main_form file.word f) p.1))
   to v (inr (inr h)) = declared_before (bound name ss) refl v h
 
   other_rule : (o : Option Binding) → bound name ss ≡ o → IsDeclared name ss → ((s : Signature) → IsDeclaredAs name (binding.Function s) ss → ⊥) →
@@ -203,9 +195,9 @@ module _ (file : File) (before : List Top) (bodies : List (List ℕ)) (defined :
   fro v (FunctionNameBreaks.known_function e) = inl (e, refl)
   fro v (FunctionNameBreaks.no_function d i) = inr (inr (other_rule (bound name ss) refl d i))
   fro v (FunctionNameBreaks.second_body g h e d) = inr
-      (inr (known (binding.Function g) (broken f.name 21) h (inr (and_both (has_body f) (has_function bodies name) e ((defined name).1 d), refl))))
+      (inr (known (binding.Function g) (broken f.name 21) h (inr (and_from (has_body f) (has_function bodies name) e ((defined name).1 d), refl))))
   fro v (FunctionNameBreaks.other_main e g) = inr
-      (inl (and_both (bytes_eq name (codes "main")) (not (is_main_form file.word f)) (names_same name (codes "main") e) (ap not g), refl))
+      (inl (and_from (bytes_eq name (codes "main")) (not (is_main_form file.word f)) (names_same name (codes "main") e) (ap not g), refl))
   fro v (FunctionNameBreaks.disagrees g h e) = inr (inr (known (binding.Function g) (broken f.name 37) h (inl (ap not e, refl))))
 
   pub function_name : Finds (function_name_faults file.bodies bodies f (in_scopes file.word ms)) Breaks

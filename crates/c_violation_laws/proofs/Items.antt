@@ -35,7 +35,6 @@ use Rattle.c_violation_laws.proofs.AlikeTerms.{typed_alike}
 use Rattle.c_violation_laws.proofs.Rising.{Rising, rising_ends, Apart}
 use Rattle.c_violation_laws.proofs.Marks.{each_marks, term_marks, option_marks, value_marks, declarator_marks, declaration_marks, label_marks, start_marks, item_marks, plain_marks, statement_marks, body_marks, list_marks}
 use Rattle.c_violation_laws.proofs.Standing.{AreMaps, Stands, StandsIn, in_function, numbered_grouped, number_here, stands_at, stands_first, stands_behind, stands_before, stands_stated, LabelSees, LabelsSee, labels_see, OptionSees, option_sees, stands_braces, stands_lone, stands_for, stands_values, stands_name, stands_body, stands_start, stands_item, stands_rest}
-use Rattle.c_violation_laws.proofs.Sections.{sections_passed}
 use Rattle.c_violation_laws.proofs.Parted.{Parted, preceded, headed, part, parts, parts_sections, part_alone}
 
 -- ---- expressions
@@ -276,7 +275,6 @@ module _ (c : Context) (labels : List (List ℕ)) (numbers : (name : List ℕ) �
         let more = body_variables b ++ rest in
         let g = stands_behind vs w p (term_marks t) (body_marks b) more h in
         (λ i. a_switch (value_is w p t (stands_at vs w p t (body_marks b) more h) i) (switch_same b w p rest g i))
-        ∙ ap (λ l. item.Switch (selector.Source (written.value_at typed (names numbered p) t)) l ∷ []) (sections_passed (switch_sections typed numbered b p))
     statement_same (Block b) w p rest h = λ i. item.Block (body_same b w p rest h i) ∷ []
     statement_same (Goto at) w p rest h = λ i. item.Goto (numbers (c.word at) i) ∷ []
     statement_same Break w p rest h = refl

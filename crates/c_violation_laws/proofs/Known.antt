@@ -1,5 +1,5 @@
 -- What is known at a token of what a scope declares.
-use Rattle.std.proofs.Common.{◌≡◌, ◌≤◌, ◌<◌, ◌+◌, ℕ, Bool, true, false, cond, nat_lt, List, [], ◌∷◌, ◌++◌, refl, ap, sym, subst, ◌∙◌, append_assoc, append-nil, arith, lt-ltb, ltb-true}
+use Rattle.std.proofs.Common.{◌≡◌, ◌≤◌, ◌<◌, ◌+◌, ℕ, Bool, true, false, cond, nat_lt, List, [], ◌∷◌, ◌++◌, refl, ap, sym, subst, ◌∙◌, append_assoc, append-nil, arith, lt-ltb, le-ltb}
 use Rattle.c_kinds.specs.declared.binding.Binding.{Binding}
 use Rattle.c_kinds.specs.Scopes.{Scope, bind}
 use Rattle.c_reading_defs.specs.Scopes.{Identifier, known_at, scopes_at}
@@ -41,20 +41,13 @@ by_test : (token : ℕ) (x : Identifier) (b : Bool) (rest : Scope) → nat_lt x.
     cond (nat_lt x.at token) ((x.name, x.binding) ∷ rest) rest ≡ cond b ((x.name, x.binding) ∷ rest) rest
 by_test token x b rest e = ap (λ t. cond t ((x.name, x.binding) ∷ rest) rest) e
 
-not_less : (a b : ℕ) → b ≤ a → nat_lt a b ≡ false
-not_less a b h = by (nat_lt a b) refl
-  where
-    by : (t : Bool) → nat_lt a b ≡ t → t ≡ false
-    by true e = let g = ltb-true a b e in let k : ⊥ = omega (arith, g, h) in absurd k
-    by false e = refl
-
 known_front : (token : ℕ) (xs : List Identifier) → InFront token xs → known_at token xs ≡ names_of xs
 known_front token [] f = refl
 known_front token (x ∷ xs) f = by_test token x true (known_at token xs) (lt-ltb x.at token f.0) ∙ ap (λ l. (x.name, x.binding) ∷ l) (known_front token xs f.1)
 
 pub known_none : (token : ℕ) (xs : List Identifier) → FromOn token xs → known_at token xs ≡ []
 known_none token [] f = refl
-known_none token (x ∷ xs) f = by_test token x false (known_at token xs) (not_less x.at token f.0) ∙ known_none token xs f.1
+known_none token (x ∷ xs) f = by_test token x false (known_at token xs) (le-ltb x.at token f.0) ∙ known_none token xs f.1
 
 cond_append : (b : Bool) (x : List ℕ × Binding) (xs ys : Scope) → cond b (x ∷ (xs ++ ys)) (xs ++ ys) ≡ cond b (x ∷ xs) xs ++ ys
 cond_append true x xs ys = refl

@@ -1,6 +1,6 @@
 -- The least of what a walk finds.
 use Rattle.std.proofs.Common.{◌≡◌, ◌⊎◌, inl, inr, ℕ, ◌<◌, Bool, true, false, cond, ◌||◌, ◌&&◌, ◌==◌, nat_lt, [], ◌∷◌, Option, Some, None, refl, sym, ap, subst, ◌∙◌, arith, true≢false}
-use Rattle.std.proofs.lemmas.Bool.{ltb-true, lt-ltb, eqb-true, eq-eqb, or_cases, and_parts, and_from, cases_order}
+use Rattle.std.proofs.lemmas.Bool.{ltb-true, lt-ltb, eqb-true, eq-eqb, or_cases, and_parts, and_from, cases_order, or_right}
 use Rattle.c_kinds.specs.declared.typed.Fault.{Fault}
 use Rattle.c_kinds.specs.Scopes.{Faults}
 use Rattle.c_scopes.specs.Resolving.{is_before, least_with, least}
@@ -13,10 +13,6 @@ use Rattle.c_violation_laws.proofs.Finding.{Rule}
 abbrev Before : Fault → Fault → Type 0
 Before a b = (a.at < b.at) ⊎ ((a.at ≡ b.at) × (a.reason < b.reason))
 
-or_true : (x y : Bool) → y ≡ true → (x || y) ≡ true
-or_true true y e = refl
-or_true false y e = e
-
 before_of : (a b : Fault) → is_before a b ≡ true → Before a b
 before_of a b e = elim (or_cases (nat_lt a.at b.at) (a.at == b.at && nat_lt a.reason b.reason) e) [
   | inl p ↦ inl (ltb-true a.at b.at p)
@@ -25,7 +21,7 @@ before_of a b e = elim (or_cases (nat_lt a.at b.at) (a.at == b.at && nat_lt a.re
 
 of_before : (a b : Fault) → Before a b → is_before a b ≡ true
 of_before a b (inl p) = ap (λ x. x || (a.at == b.at && nat_lt a.reason b.reason)) (lt-ltb a.at b.at p)
-of_before a b (inr p) = or_true (nat_lt a.at b.at) (a.at == b.at && nat_lt a.reason b.reason)
+of_before a b (inr p) = or_right (nat_lt a.at b.at) (a.at == b.at && nat_lt a.reason b.reason)
     (and_from (a.at == b.at) (nat_lt a.reason b.reason) (eq-eqb a.at b.at p.0) (lt-ltb a.reason b.reason p.1))
 
 through : (a b c : ℕ) → a < b → b < c → a < c

@@ -15,7 +15,6 @@ pub mod Numbered
 pub mod Standing
 pub mod Enumerated
 pub mod FileStanding
-pub mod Sections
 pub mod Parted
 pub mod Items
 pub mod Slots

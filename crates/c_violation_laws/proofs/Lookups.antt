@@ -5,6 +5,7 @@ use Rattle.std.proofs.lemmas.Slice.Eq.{bytes_eq-Decides}
 use Rattle.c_kinds.specs.declared.binding.Binding.{Binding}
 use Rattle.c_kinds.specs.Scopes.{Scope, found, look_up, or_else}
 use Rattle.c_reading_defs.specs.Bindings.{DeclaresNot, DeclaresAs, IsBoundTo, IsUnbound}
+use Rattle.c_violation_laws.proofs.Bound.{there_not, there_back}
 
 -- what a test of two names says
 data Same (a b : List ℕ) : Bool → Type 0 where
@@ -27,17 +28,6 @@ found_is : (name : List ℕ) (b : Binding) (s : Scope) → found name s ≡ Some
 found_is name b [] e = cc
 found_is name b (d ∷ ds) e = found_by name b d ds (bytes_eq name d.0) (found_is name b ds) (same_if name d.0) e
 
-is_by : (name : List ℕ) (b : Binding) (d : List ℕ × Binding) (ds : Scope) (t : Bool) → (DeclaresAs name b ds → found name ds ≡ Some b) → Same name d.0 t
-    → DeclaresAs name b (d ∷ ds) → cond t (Some d.1) (found name ds) ≡ Some b
-is_by name b d ds true rest (same k) (inl g) = ap Some g.1
-is_by name b d ds true rest (same k) (inr g) = absurd (g.0 (sym k))
-is_by name b d ds false rest (other k) (inl g) = absurd (k (sym g.0))
-is_by name b d ds false rest (other k) (inr g) = rest g.1
-
-is_found : (name : List ℕ) (b : Binding) (s : Scope) → DeclaresAs name b s → found name s ≡ Some b
-is_found name b [] h = absurd h
-is_found name b (d ∷ ds) h = is_by name b d ds (bytes_eq name d.0) (is_found name b ds) (same_if name d.0) h
-
 lost_by : (name : List ℕ) (d : List ℕ × Binding) (ds : Scope) (t : Bool) → (found name ds ≡ None → DeclaresNot name ds) → Same name d.0 t
     → cond t (Some d.1) (found name ds) ≡ None → DeclaresNot name (d ∷ ds)
 lost_by name d ds true rest (same h) e = cc
@@ -46,15 +36,6 @@ lost_by name d ds false rest (other h) e = (λ k. h (sym k), rest e)
 lost_not : (name : List ℕ) (s : Scope) → found name s ≡ None → DeclaresNot name s
 lost_not name [] e = tt
 lost_not name (d ∷ ds) e = lost_by name d ds (bytes_eq name d.0) (lost_not name ds) (same_if name d.0) e
-
-not_by : (name : List ℕ) (d : List ℕ × Binding) (ds : Scope) (t : Bool) → found name ds ≡ None → Same name d.0 t → DeclaresNot name (d ∷ ds) →
-    cond t (Some d.1) (found name ds) ≡ None
-not_by name d ds true rest (same k) h = absurd (h.0 (sym k))
-not_by name d ds false rest (other k) h = rest
-
-not_lost : (name : List ℕ) (s : Scope) → DeclaresNot name s → found name s ≡ None
-not_lost name [] h = refl
-not_lost name (d ∷ ds) h = not_by name d ds (bytes_eq name d.0) (not_lost name ds h.1) (same_if name d.0) h
 
 bound_by : (name : List ℕ) (s : Scope) (ss : List Scope) (b : Binding) (o : Option Binding) → (look_up ss name ≡ Some b → IsBoundTo name b ss)
     → found name s ≡ o → or_else o (look_up ss name) ≡ Some b → IsBoundTo name b (s ∷ ss)
@@ -67,8 +48,8 @@ bound_is name (s ∷ ss) b e = bound_by name s ss b (found name s) (bound_is nam
 
 pub is_bound : (name : List ℕ) (ss : List Scope) (b : Binding) → IsBoundTo name b ss → look_up ss name ≡ Some b
 is_bound name [] b h = absurd h
-is_bound name (s ∷ ss) b (inl h) = ap (λ o. or_else o (look_up ss name)) (is_found name b s h)
-is_bound name (s ∷ ss) b (inr h) = ap (λ o. or_else o (look_up ss name)) (not_lost name s h.0) ∙ is_bound name ss b h.1
+is_bound name (s ∷ ss) b (inl h) = ap (λ o. or_else o (look_up ss name)) (there_back name b s h)
+is_bound name (s ∷ ss) b (inr h) = ap (λ o. or_else o (look_up ss name)) (there_not name s h.0) ∙ is_bound name ss b h.1
 
 unbound_by : (name : List ℕ) (s : Scope) (ss : List Scope) (o : Option Binding) → (look_up ss name ≡ None → IsUnbound name ss)
     → found name s ≡ o → or_else o (look_up ss name) ≡ None → IsUnbound name (s ∷ ss)
@@ -78,7 +59,3 @@ unbound_by name s ss None rest f g = (lost_not name s f, rest g)
 pub unbound_is : (name : List ℕ) (ss : List Scope) → look_up ss name ≡ None → IsUnbound name ss
 unbound_is name [] e = tt
 unbound_is name (s ∷ ss) e = unbound_by name s ss (found name s) (unbound_is name ss) refl e
-
-pub is_unbound : (name : List ℕ) (ss : List Scope) → IsUnbound name ss → look_up ss name ≡ None
-is_unbound name [] h = refl
-is_unbound name (s ∷ ss) h = ap (λ o. or_else o (look_up ss name)) (not_lost name s h.0) ∙ is_unbound name ss h.1

@@ -1,5 +1,6 @@
 -- What a walk finds in statements.
 use Rattle.std.proofs.Common.{◌≡◌, ◌⊎◌, inl, inr, ℕ, Bool, true, false, not, ◌||◌, List, [], ◌∷◌, ◌++◌, Option, Some, None, option_map, refl, sym, ap, subst, ◌∙◌, true≢false}
+use Rattle.std.proofs.lemmas.Bool.{not-true}
 use Rattle.c_types.specs.declared.kinds.IntKind.{IntKind}
 use Rattle.c_grammar.specs.Terms.{Term, first_of}
 use Rattle.c_grammar.specs.Items.{Label, Named, Case, Default, Declaration, Start, NoStart, StartValue, StartNames, Item, Declares, States, Plain, From, Statement, Null, Evaluate, If, IfElse, While, DoWhile, For, Switch, Block, Goto, Break, Continue, Return, Unread, Body, Braces, Lone, Items, NoItem, Then, items_in, item_first, stated_first}
@@ -34,21 +35,14 @@ use Rattle.c_violation_laws.proofs.AlikeTerms.{typed_alike}
 use Rattle.c_violation_laws.proofs.Declared.{value_at, dropped_at, constant_at, any_at, declarators}
 use Rattle.c_violation_laws.proofs.Entries.{body as entries_alike, switch_entries}
 use Rattle.c_violation_laws.proofs.WrittenLabels.{label_known, known_label}
-
-not_true : (b : Bool) → not b ≡ true → b ≡ false
-not_true true e = absurd (true≢false (sym e))
-not_true false e = refl
+use Rattle.c_violation_laws.proofs.CallFaults.{not_true}
 
 neither : (a b : Bool) → not (a || b) ≡ true → (a ≡ false) × (b ≡ false)
 neither true b e = absurd (true≢false (sym e))
-neither false b e = (refl, not_true b e)
+neither false b e = (refl, not-true b e)
 
 neither_back : (a b : Bool) → a ≡ false → b ≡ false → not (a || b) ≡ true
 neither_back a b e g = ap (λ x. not (x || b)) e ∙ ap not g
-
-not_known : (b : Bool) → (b ≡ true → ⊥) → not b ≡ true
-not_known true f = absurd (f refl)
-not_known false f = refl
 
 -- walks, and the rule of the statement that has them
 in_front : (g : Faults → Faults) (P Q : Rule) → ((v : Fault) → P v → ⊥) → Finds g Q → Finds g (λ v. P v ⊎ Q v)
@@ -100,7 +94,7 @@ module _ (word : ℕ → List ℕ) (notes : Anchor → List (List ℕ)) (names :
   label around w p (Default at after) e s =
       finds_same (fault_if (not around.switch) at 29) _ (λ v. LabelBreaks (places.names f p) p.around (Default at after) v) (finds_if (not around.switch) at 29)
       (λ v q. subst (LabelBreaks (places.names f p) p.around (Default at after)) (sym q.1)
-      (LabelBreaks.default_outside (ap (λ a. a.switch) e ∙ not_true around.switch q.0))) fro
+      (LabelBreaks.default_outside (ap (λ a. a.switch) e ∙ not-true around.switch q.0))) fro
     where
       fro : (v : Fault) → LabelBreaks (places.names f p) p.around (Default at after) v → (not around.switch ≡ true) × (v ≡ broken at 29)
       fro v (LabelBreaks.default_outside g) = (ap not (ap (λ a. a.switch) (sym e) ∙ g), refl)
@@ -113,7 +107,7 @@ module _ (word : ℕ → List ℕ) (notes : Anchor → List (List ℕ)) (names :
       to : (v : Fault) → ((not around.switch ≡ true) × (v ≡ broken at 29)) ⊎ ExpressionBreaks (places.names f p t) NeedsConstant t v →
           LabelBreaks (places.names f p) p.around (Case at after t) v
       to v (inl q) = subst (LabelBreaks (places.names f p) p.around (Case at after t)) (sym q.1)
-          (LabelBreaks.case_outside (ap (λ a. a.switch) e ∙ not_true around.switch q.0))
+          (LabelBreaks.case_outside (ap (λ a. a.switch) e ∙ not-true around.switch q.0))
       to v (inr q) = LabelBreaks.bad_case q
 
       fro : (v : Fault) → LabelBreaks (places.names f p) p.around (Case at after t) v →
@@ -149,7 +143,7 @@ module _ (word : ℕ → List ℕ) (notes : Anchor → List (List ℕ)) (names :
   continues around first p s = finds_same (fault_if (not around.loop) first 28) _ (λ v. Own p first Continue v) (finds_if (not around.loop) first 28) to fro
     where
       to : (v : Fault) → (not around.loop ≡ true) × (v ≡ broken first 28) → StatementBreaks f p.around first Continue v
-      to v q = subst (StatementBreaks f p.around first Continue) (sym q.1) (StatementBreaks.continue_outside (ap (λ a. a.loop) s ∙ not_true around.loop q.0))
+      to v q = subst (StatementBreaks f p.around first Continue) (sym q.1) (StatementBreaks.continue_outside (ap (λ a. a.loop) s ∙ not-true around.loop q.0))
 
       fro : (v : Fault) → StatementBreaks f p.around first Continue v → (not around.loop ≡ true) × (v ≡ broken first 28)
       fro v (StatementBreaks.continue_outside e) = (ap not (ap (λ a. a.loop) (sym s) ∙ e), refl)
@@ -160,10 +154,10 @@ module _ (word : ℕ → List ℕ) (notes : Anchor → List (List ℕ)) (names :
     where
       to : (v : Fault) → (not (has_label (numbers names) (word at)) ≡ true) × (v ≡ broken at 33) → StatementBreaks f p.around first (Goto at) v
       to v q = subst (StatementBreaks f p.around first (Goto at)) (sym q.1)
-          (StatementBreaks.unknown_label (λ h. true≢false (sym (known_label names (word at) h) ∙ not_true (has_label (numbers names) (word at)) q.0)))
+          (StatementBreaks.unknown_label (λ h. true≢false (sym (known_label names (word at) h) ∙ not-true (has_label (numbers names) (word at)) q.0)))
 
       fro : (v : Fault) → StatementBreaks f p.around first (Goto at) v → (not (has_label (numbers names) (word at)) ≡ true) × (v ≡ broken at 33)
-      fro v (StatementBreaks.unknown_label g) = (not_known (has_label (numbers names) (word at)) (λ e. g (label_known names (word at) e)), refl)
+      fro v (StatementBreaks.unknown_label g) = (not_true (has_label (numbers names) (word at)) (λ e. g (label_known names (word at) e)), refl)
 
   swapped : (g : Faults → Faults) (P Q : Rule) → Finds g (λ v. P v ⊎ Q v) → Finds g (λ v. Q v ⊎ P v)
   swapped g P Q h = finds_same g (λ v. P v ⊎ Q v) (λ v. Q v ⊎ P v) h (λ v k. elim k [ inl a ↦ inr a | inr b ↦ inl b ])

@@ -43,6 +43,6 @@ pub tells_of : (a b : Written) (f g : ℕ) (bytes : List ℕ) (done : Bool) → 
 tells_of a b f g bytes true p = inl p
 tells_of a b f g bytes false p = inr p
 
--- the same of a value that is read another way
+-- a value that is read another way is told alike
 pub ended_as : (a b : Written) (f g : ℕ) (y z : ℤ) → y ≡ z → Tells a b f g (ended_line y) → Tells a b f g (ended_line z)
 ended_as a b f g y z e t = subst (λ x. Tells a b f g (ended_line x)) e t

@@ -36,10 +36,6 @@ Plain (EndsSection ∷ k) = Plain k
 Plain (Out ∷ k) = Plain k
 Plain (_ ∷ k) = ⊥
 
-pub plain_items : (a : Forest) (k : List Task) → Plain k → Plain (items a k)
-plain_items Nil k h = h
-plain_items (Then x a) k h = plain_items a k h
-
 -- ---- the core of such tasks drops no value
 
 pub undropped_items : (a : Forest) (k : List Task) → is_dropped k ≡ false → is_dropped (items a k) ≡ false

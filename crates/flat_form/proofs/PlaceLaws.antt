@@ -1,9 +1,6 @@
 -- Places of labels, entered one after another.
-use Rattle.std.proofs.Common.{◌≡◌, ℕ, suc, ◌+◌, ◌<◌, Bool, true, false, cond, eqb, List, [], ◌∷◌, ◌++◌, length, get_or, Option, Some, None, option_map, arith, refl, sym, ap, ◌∙◌}
+use Rattle.std.proofs.Common.{◌≡◌, ℕ, suc, ◌+◌, Bool, true, false, cond, eqb, List, [], ◌∷◌, ◌++◌, length, Option, Some, None, option_map, arith, refl, sym, ap, ◌∙◌}
 use Rattle.std.specs.Option.{option_map_or}
-use Rattle.std.proofs.Math.ListN.{set}
-use Rattle.std.proofs.lemmas.Bool.{eqb-true, eqb-false, eq-eqb}
-use Rattle.std.proofs.lemmas.List.{get_or-set_same, get_or-set_other}
 use Rattle.flat_laws.specs.FlatForm.{place_in}
 use Rattle.flat_form.specs.Places.{with_place}
 
@@ -52,28 +49,3 @@ none_yet false = refl
 pub place_push : (ms : List ℕ) (m c : ℕ) → place_if (ms ++ m ∷ []) c ≡ with_place (place_if ms c) m (length ms) c
 place_push [] m c = none_yet (eqb m c)
 place_push (x ∷ xs) m c = pushed (eqb x c) (place_if (xs ++ m ∷ []) c) (place_if xs c) m (length xs) c (place_push xs m c)
-
--- an entry where there was none
-pub enter_none : (t : List (Option ℕ)) (d p : ℕ) → d < length t → get_or t d None ≡ None → (c : ℕ) →
-    get_or (set t d (Some p)) c None ≡ with_place (get_or t c None) d p c
-enter_none t d p h e c = elim (eqb d c) as (λ y. eqb d c ≡ y → get_or (set t d (Some p)) c None ≡ with_place (get_or t c None) d p c) [
-  | true ↦ λ q.
-      let s : d ≡ c = eqb-true d c q in
-      ap (λ x. get_or (set t d (Some p)) x None) (sym s) ∙ get_or-set_same t d (Some p) None h ∙
-      sym (ap (λ x. with_place (get_or t x None) d p x) (sym s) ∙ ap (λ o. with_place o d p d) e ∙ ap (λ y. cond y (Some p) None) (eq-eqb d d refl))
-  | false ↦ λ q.
-      get_or-set_other t d c (Some p) None (λ s. eqb-false d c q (sym s)) ∙ sym (kept (get_or t c None) d p c q)
-] refl where
-  kept : (o : Option ℕ) (d p c : ℕ) → eqb d c ≡ false → with_place o d p c ≡ o
-  kept None d p c q = ap (λ y. cond y (Some p) None) q
-  kept (Some x) d p c q = refl
-
--- and where there was one
-pub enter_some : (t : List (Option ℕ)) (d p x : ℕ) → get_or t d None ≡ Some x → (c : ℕ) → get_or t c None ≡ with_place (get_or t c None) d p c
-enter_some t d p x e c = elim (eqb d c) as (λ y. eqb d c ≡ y → get_or t c None ≡ with_place (get_or t c None) d p c) [
-  | true ↦ λ q. let s : d ≡ c = eqb-true d c q in let f = ap (λ z. get_or t z None) (sym s) ∙ e in f ∙ sym (ap (λ o. with_place o d p c) f)
-  | false ↦ λ q. sym (kept (get_or t c None) d p c q)
-] refl where
-  kept : (o : Option ℕ) (d p c : ℕ) → eqb d c ≡ false → with_place o d p c ≡ o
-  kept None d p c q = ap (λ y. cond y (Some p) None) q
-  kept (Some x) d p c q = refl

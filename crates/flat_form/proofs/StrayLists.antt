@@ -1,6 +1,7 @@
 -- A body in which no case label is stray.
-use Rattle.std.proofs.Common.{◌≡◌, ℕ, Bool, true, false, not, List, [], ◌∷◌, ◌++◌, Option, refl, sym, ap, ◌∙◌}
+use Rattle.std.proofs.Common.{◌≡◌, ℕ, true, false, not, List, [], ◌∷◌, ◌++◌, Option, refl, sym, ap, ◌∙◌}
 use Rattle.std.specs.Prelude.{IfOk, Result, Ok, Err}
+use Rattle.std.proofs.lemmas.Bool.{not-false}
 use Rattle.c_tree.specs.ExpressionTrees.{ExpressionTree}
 use Rattle.c_tree.specs.TextItems.{is_empty}
 use Rattle.c_tree.specs.Trees.{Tree, Forest, Nil, Then, If, While, Do, For, Block, Arrival, join}
@@ -32,12 +33,8 @@ mutual
   none_behind (Arrival e) b h = cc
   none_behind x b h = refl
 
-is_true : (b : Bool) → not b ≡ false → b ≡ true
-is_true true h = refl
-is_true false h = cc
-
 pub none_stray_counts : (a : Forest) → not (is_empty (arrivals a)) ≡ false → bound_counts a ≡ flat_counts a
-none_stray_counts a h = ap bound_counts (sym (none_stray a (is_true (is_empty (arrivals a)) h)))
+none_stray_counts a h = ap bound_counts (sym (none_stray a (not-false (is_empty (arrivals a)) h)))
 
 pub none_stray_answer : {E : Type 0} (r : Result (Option (ℕ × ℕ)) E) (a : Forest) → not (is_empty (arrivals a)) ≡ false →
     IfOk r (λ it. it ≡ bound_counts a) → IfOk r (λ it. it ≡ flat_counts a)

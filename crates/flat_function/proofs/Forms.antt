@@ -197,7 +197,7 @@ module _ (s : Setting) where
 
 -- ---- block variables
 
-named_kind : (b : Bool) (taken used : List (List ℕ)) (s : Slot) → (s.kind ≡ (slot_named b taken used s).kind) × (s.cells ≡ (slot_named b taken used s).cells)
+pub named_kind : (b : Bool) (taken used : List (List ℕ)) (s : Slot) → (s.kind ≡ (slot_named b taken used s).kind) × (s.cells ≡ (slot_named b taken used s).cells)
 named_kind true taken used s = (refl, refl)
 named_kind false taken used s = (refl, refl)
 

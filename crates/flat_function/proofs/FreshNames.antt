@@ -6,7 +6,6 @@ use Rattle.std.specs.Fmt.{decimal, digits, digits_onto, digit_glyph}
 use Rattle.std.specs.Ordering.{match_ordering}
 use Rattle.std.specs.declared.cmp.Ordering.{Ordering}
 use Rattle.std.specs.declared.cmp.Ordering.TheVariants.{Less, Equal, Greater}
-use Rattle.std.proofs.lemmas.Bool.Decides.{nat_tests}
 use Rattle.std.proofs.lemmas.Slice.Eq.{bytes_eq-Decides}
 use Rattle.std.proofs.lemmas.Bool.{and_from, or_right, or_left}
 use Rattle.c_types.specs.Words.{name_cmp, is_letter, is_digit, is_word_byte, is_word, keywords, is_keyword}
@@ -15,7 +14,7 @@ use Rattle.c_copies.proofs.Rising.{has_name-with_name}
 use Rattle.c_fresh_names.specs.Fresh.{numbered, first_free, fresh}
 use Rattle.c_fresh_names.proofs.NameSets.{found_unused}
 use Rattle.c_resolved_defs.specs.PrintableExpressions.{IsName}
-use Rattle.whole_laws.proofs.GuardWords.{IsTail, tail_append, decimal_tail, and_first, and_second}
+use Rattle.whole_laws.proofs.GuardWords.{IsTail, tail_append, decimal_tail, and_first, and_second, glyph_digit}
 
 -- ---- words that end in a digit
 
@@ -31,9 +30,6 @@ digit_more c (d ∷ w) e = e
 digit_append : (a b : List ℕ) → last_digit b ≡ true → last_digit (a ++ b) ≡ true
 digit_append [] b e = e
 digit_append (c ∷ a) b e = digit_more c (a ++ b) (digit_append a b e)
-
-glyph_digit : (d : ℕ) → d < 10 → is_digit (digit_glyph false d) ≡ true
-glyph_digit d h = grind (arith, nat_tests)
 
 choose : (b : Bool) (x y : List ℕ) → last_digit x ≡ true → last_digit y ≡ true → last_digit (cond b x y) ≡ true
 choose true x y h k = h

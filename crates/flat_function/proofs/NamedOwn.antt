@@ -5,6 +5,7 @@ use Rattle.std.specs.List.{list_any}
 use Rattle.std.specs.Str.{bytes_eq}
 use Rattle.std.proofs.lemmas.Slice.Eq.{bytes_eq-Decides}
 use Rattle.std.proofs.lemmas.Bool.{or_parts, or_left}
+use Rattle.std.proofs.lemmas.List.{drop-append-le}
 use Rattle.c_types.specs.Words.{is_known, known_functions}
 use Rattle.c_copies.specs.Names.{has_name, with_names, enum_name, enums_name, top_name, tops_name}
 use Rattle.c_tree.specs.declared.tree.EnumItem.{EnumItem}
@@ -22,7 +23,7 @@ use Rattle.c_resolved_defs.specs.Within.{Each, AllDiffer}
 use Rattle.c_resolved_defs.specs.PrintableExpressions.{IsName}
 use Rattle.whole_laws.specs.Names.{TopIsOther, IsFreeIn, HasOwnNames}
 use Rattle.whole_laws.proofs.GuardsOwn.{first_not, has_append, tops_other, differ_append}
-use Rattle.whole_laws.proofs.PlainLists.{each_map, each_append, drop_append}
+use Rattle.whole_laws.proofs.PlainLists.{each_map, each_append}
 use Rattle.flat_function.specs.Laws.{named_flat}
 use Rattle.flat_function.specs.Own.{IsNamedIn, FlatNamesAreOwn}
 use Rattle.flat_function.proofs.Forms.{kinds, numbers_named, named_length, first_same}
@@ -126,7 +127,7 @@ module _ (p : Program) (names file : List (List ℕ)) (f : Function) (old new : 
   blocks = drop f.params named.slots
 
   behind : drop f.params (named.slots ++ g.variables) ≡ blocks ++ g.variables
-  behind = let l = named_length f.params taken g.used f.slots in drop_append f.params named.slots g.variables (omega (arith, l, params))
+  behind = let l = named_length f.params taken g.used f.slots in drop-append-le f.params named.slots g.variables (omega (arith, l, params))
 
   front : take f.params (named.slots ++ g.variables) ≡ take f.params f.slots
   front = first_same g.variables (kinds cs) (numbers_named 1 cs (none_given used) [] tt) f.params taken g.used f.slots params

@@ -55,8 +55,3 @@ all_entered p ms k b e inv (Some n) =
     let place : 0 + place_of (Some n) ms ≡ place_of (Some n) ms = omega arith in
     ap (λ o. unwrap_or o p.behind) (inv n ∙ ap (λ z. sought (Some n) (drop z ms) z) all) ∙ ap (unwrap_or (sought (Some n) ms 0)) (b ∙ same) ∙
     sought_is n ms 0 ∙ place
-
--- where there are none
-pub none_there : (p : P.CasePlaces) → p.table.entries ≡ [] → p.behind ≡ 0 → (n : Option ℤ) → place_at p n ≡ place_of n []
-none_there p e b None = b
-none_there p e b (Some n) = rw (e, b) refl

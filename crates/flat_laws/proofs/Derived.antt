@@ -13,10 +13,11 @@ use Rattle.jump_meaning.specs.Step.{switch_kind}
 use Rattle.flat_laws.specs.Pieces.{Aim, Stays, Becomes, Absent, mark_of, IsMoved, Names, wanted_among, case_marks, assign_number, tests_among}
 use Rattle.flat_laws.specs.Loose.{Setting, In, slot_of, IsLocal, AreGone, IsGone, Mode, Open, Ended, Jumped, IsLast, in_open, in_last, Arrivals, NoArrival, Arrives, IsOtherwise, LooserItem, lo_evaluate, lo_return, lo_return_none, lo_note, lo_if, lo_while, lo_do, lo_for, lo_for_while, lo_block, lo_declares, lo_break_end, lo_goto, lo_switch, lo_scatter, Looser, la_nil, la_then, la_last, LooserSections, lc_none, lc_section, lc_ended, Spread, ls_none, ls_last, ls_falls}
 use Rattle.c_tree.specs.TextItems.{is_empty}
+use Rattle.c_tree.proofs.TreeLaws.{join-nil}
 use Rattle.flat_laws.specs.Parts.{is_some_number, arrivals, arrivals_in, is_scattered, switch_labels, has_default, ends_some, leaves, holds_jump, Here, past, past_item, inside, Ending, Gone, Breaks, Jumps, Otherwise, later, gone_or, if_jumps, ending, ending_of, last_ending, is_gone, trimmed, trimmed_item, section_list, kept_breaks, ends_then}
 use Rattle.flat_laws.specs.FlatForm.{Plan, names_of, scatter_aim, otherwise_label, end_goto, aim, is_jumpy_switch, mark_if, dissolved, if_breaks, flat_for, flat, flat_item, flat_last, flat_last_item, flat_sections, spread}
 use Rattle.flat_laws.specs.Source.{AreInitialisers, IsSourceItem, IsVariable, IfTrue, HaveVariables, HasVariables, HaveVariablesAmong}
-use Rattle.flat_laws.proofs.LooserItems.{false_true, join_nil, Kept, kept_aim, kept_left, kept_right, aim_moved, Allowed, allowed_left, allowed_right, item_break, item_continue, item_arrival, item_local, is_live, is_dead, item_mark, scatter_moved, otherwise, Unended, unended_left, unended_right, unended_scatter, kept_scatter, spread_as}
+use Rattle.flat_laws.proofs.LooserItems.{false_true, Kept, kept_aim, kept_left, kept_right, aim_moved, Allowed, allowed_left, allowed_right, item_break, item_continue, item_arrival, item_local, is_live, is_dead, item_mark, scatter_moved, otherwise, Unended, unended_left, unended_right, unended_scatter, kept_scatter, spread_as}
 
 -- ---- the derivation
 
@@ -170,7 +171,7 @@ module _ (p : Plan) (s : Setting) (labels : (l : ℕ) → s.labels l ≡ cond (p
       → (y ≡ true → LooserItem s n b c r x ys) → (y ≡ true → AreGone s xs) → (y ≡ true → zs ≡ Nil) →
       (y ≡ false → Looser s n b c r (Then x xs) (join ys zs)) → Looser s n b c r (Then x xs) (join ys zs)
   jumps_as {n = n} {b = b} {c = c} {r = r} x xs ys zs true last q f g e m =
-      subst (λ z. Looser s n b c r (Then x xs) z) (sym (ap (join ys) (e refl) ∙ join_nil ys)) (la_last last (f refl) (g refl))
+      subst (λ z. Looser s n b c r (Then x xs) z) (sym (ap (join ys) (e refl) ∙ join-nil ys)) (la_last last (f refl) (g refl))
   jumps_as x xs ys zs false last q f g e m = m refl
 
   last_list : {c : Aim} {names : Names} (cases : List ExpressionTree) (default ends : Bool) (a ys : Forest) → ends ≡ false →
@@ -180,7 +181,7 @@ module _ (p : Plan) (s : Setting) (labels : (l : ℕ) → s.labels l ≡ cond (p
   last_list cases default true a ys e fa = false_true (sym e)
   last_list {c = c} {names = names} cases default false a ys e fa =
       subst (λ z. Spread s Jumped Absent c names (Section cases default a false NoSection) (join (case_marks names cases default) z))
-      (sym (join_nil ys)) (ls_last cases default fa)
+      (sym (join-nil ys)) (ls_last cases default fa)
 
   spread_on : {c : Aim} {names : Names} (cases : List ExpressionTree) (default ends : Bool) (a ys : Forest) (d : Sections) (zs : Forest) →
       ends ≡ false → Looser s Open Absent c (Arrives names) a ys → Spread s Jumped Absent c names d zs

@@ -1,5 +1,5 @@
 -- The premises of the laws can be met: a loop with a label inside, and a `continue` and a `break` that become gotos.
-use Rattle.std.proofs.Common.{ℕ, ◌≤◌, pos, Bool, true, false, cond, eqb, List, [], ◌∷◌, Some, None, inl, inr, ◌≡◌, refl, sym, ◌∙◌, subst, arith, true≢false, eqb-true}
+use Rattle.std.proofs.Common.{ℕ, pos, Bool, true, false, cond, eqb, List, [], ◌∷◌, Some, None, inl, inr, ◌≡◌, refl, sym, ◌∙◌, subst, arith, true≢false, eqb-true}
 use Rattle.c_types.specs.declared.kinds.IntKind.TheVariants.{Int}
 use Rattle.c_tree.specs.declared.tree.Slot.{Slot}
 use Rattle.c_tree.specs.ExpressionTrees.{ExpressionTree, Typed, Number}
@@ -20,6 +20,7 @@ use Rattle.flat_laws.specs.FlatLaws.{IsSourceBody}
 use Rattle.flat_laws.proofs.Counts.{one_if}
 use Rattle.flat_laws.proofs.Once.{flat_once}
 use Rattle.flat_laws.proofs.Flattened.{of_functions}
+use Rattle.flat_laws.proofs.FlatWellMadeInstance.{below_one, no_mark}
 
 abbrev e : ExpressionTree
 e = Typed (Some Int) (Number (pos 1))
@@ -64,10 +65,6 @@ one_goto l = omega arith
 one_mark : (l : ℕ) → total (mark_bit l) body ≡ one_if (eqb l 0)
 one_mark l = omega arith
 
-below_one : (b : Bool) → one_if b ≤ 1
-below_one true = omega arith
-below_one false = omega arith
-
 is_zero : (l : ℕ) (b : Bool) → eqb l 0 ≡ b → is_some_number (one_if b) ≡ true → l ≡ 0
 is_zero l true q h = eqb-true l 0 q
 is_zero l false q h = absurd (true≢false (sym h))
@@ -84,10 +81,6 @@ source = record {
   variables = (tt, (((tt, tt), (tt, (((tt, tt), tt), (((tt, tt), tt), (((tt, tt), tt), tt))))), (tt, tt)));
   bound = refl;
 }
-
-no_mark : (l : ℕ) (b : Bool) → 1 ≤ l → eqb l 0 ≡ b → one_if b ≡ 0
-no_mark l true h q = let e = eqb-true l 0 q in absurd (omega (arith, h, e))
-no_mark l false h q = refl
 
 own : HasOwnLabels 1 body
 own = record {

@@ -50,7 +50,7 @@ good = record {
   };
 }
 
-below_one : (b : Bool) → one_if b ≤ 1
+pub below_one : (b : Bool) → one_if b ≤ 1
 below_one true = omega arith
 below_one false = omega arith
 
@@ -60,7 +60,7 @@ one_goto l = omega arith
 one_mark : (l : ℕ) → total (mark_bit l) body ≡ one_if (eqb l 0)
 one_mark l = omega arith
 
-no_mark : (l : ℕ) (b : Bool) → 1 ≤ l → eqb l 0 ≡ b → one_if b ≡ 0
+pub no_mark : (l : ℕ) (b : Bool) → 1 ≤ l → eqb l 0 ≡ b → one_if b ≡ 0
 no_mark l true h q = let e = eqb-true l 0 q in absurd (omega (arith, h, e))
 no_mark l false h q = refl
 

@@ -21,7 +21,7 @@ abbrev is_some_number : Option ℕ → Bool
 is_some_number (Some n) = true
 is_some_number None = false
 
-live_if : (b : Bool) (m n : ℕ) → cond b (Some m) None ≡ Some n → b ≡ true
+pub live_if : (b : Bool) (m n : ℕ) → cond b (Some m) None ≡ Some n → b ≡ true
 live_if true m n e = refl
 live_if false m n e = absurd (true≢false (sym (ap is_some_number e)))
 

@@ -1,5 +1,6 @@
 -- What holds no jump and no named label holds none in its flat form, where no exit becomes a goto.
 use Rattle.std.proofs.Common.{ℕ, zero, suc, ◌+◌, ◌-◌, Bool, true, false, cond, ◌&&◌, ◌||◌, List, [], ◌∷◌, length, Option, Some, None, ◌≡◌, refl, ap, arith, true≢false}
+use Rattle.std.proofs.lemmas.Bool.{or_parts}
 use Rattle.c_types.specs.declared.kinds.IntKind.{IntKind}
 use Rattle.c_tree.specs.ExpressionTrees.{ExpressionTree}
 use Rattle.c_tree.specs.Everywhere.{total_in, Everywhere, EverywhereOf, EverywhereIn}
@@ -15,10 +16,6 @@ use Rattle.flat_laws.specs.Parts.{is_some_number, is_scattered, holds_jump, hold
 use Rattle.flat_laws.specs.FlatForm.{Plan, names_of, scatter_aim, aim, exit, is_moved, is_jumpy_switch, assigned, mark_if, dissolved, if_breaks, flat_for, flat, flat_item, flat_last, flat_last_item, flat_sections, spread}
 use Rattle.flat_laws.specs.FlatMade.{hop_of, hops, AreFirst}
 use Rattle.flat_laws.proofs.LiveGotos.{IsGoodItem}
-
-pub or_false : (x y : Bool) → (x || y) ≡ false → (x ≡ false) × (y ≡ false)
-or_false true y e = absurd (true≢false e)
-or_false false y e = (refl, e)
 
 -- exits that stay, or none
 abbrev pub IsSilent : Aim → ℕ → Type 0
@@ -47,7 +44,7 @@ calm true c n e h = e
 calm false Stays n e h = refl
 calm false _ n e h = ap is_some_number h
 
-some_number : (n : ℕ) → is_some_number n ≡ false → n ≡ 0
+pub some_number : (n : ℕ) → is_some_number n ≡ false → n ≡ 0
 some_number zero e = refl
 some_number (suc n) e = absurd (true≢false e)
 
@@ -127,7 +124,7 @@ module _ (p : Plan) where
         IsSilent b (breaks xs) → IsSilent c (continues xs) → hops (flat p h b c r xs) ≡ 0
     no_hops Nil h b c r g e m n = refl
     no_hops (Then x xs) h b c r g e m n =
-        let q = or_false (holds_jump_in p.live x) (holds_jump p.live xs) e in
+        let q = or_parts (holds_jump_in p.live x) (holds_jump p.live xs) e in
         let i = no_hops_in x h b c r g.0 q.0 (silent_left b (breaks_of x) (breaks xs) m) (silent_left c (continues_of x) (continues xs) n) in
         let j = no_hops xs (past_item x h) b c r g.1 q.1 (silent_right b (breaks_of x) (breaks xs) m) (silent_right c (continues_of x) (continues xs) n) in
         let k = total-join hop_of (flat_item p h b c r x) (flat p (past_item x h) b c r xs) in omega (arith, i, j, k)
@@ -135,7 +132,7 @@ module _ (p : Plan) where
     no_hops_in : (x : Tree) (h : Here) (b c : Aim) (r : Arrivals) → EverywhereOf (IsGoodItem p.live) x → holds_jump_in p.live x ≡ false →
         IsSilent b (breaks_of x) → IsSilent c (continues_of x) → hops (flat_item p h b c r x) ≡ 0
     no_hops_in (If t x y) h b c r g e m n =
-        let q = or_false (holds_jump p.live x) (holds_jump p.live y) e in
+        let q = or_parts (holds_jump p.live x) (holds_jump p.live y) e in
         let i = no_hops x h b c r g.1 q.0 (silent_left b (breaks x) (breaks y) m) (silent_left c (continues x) (continues y) n) in
         let j = no_hops y (past x h) b c r g.2 q.1 (silent_right b (breaks x) (breaks y) m) (silent_right c (continues x) (continues y) n) in
         omega (arith, i, j)
@@ -178,7 +175,7 @@ module _ (p : Plan) where
     no_hops_in (Mark l) h b c r g e m n = mark_hops (p.live l) (p.source l) e
     no_hops_in (Arrival x) h b c r g e m n = absurd (true≢false e)
     no_hops_in (Switch s d) h b c r g e m n =
-        let q = or_false (is_scattered d) (holds_jump_among p.live d) e in
+        let q = or_parts (is_scattered d) (holds_jump_among p.live d) e in
         let h' = inside (Switch s d) h in
         let y = is_jumpy_switch p c d in
         let z = calm (holds_jump_among p.live d) c (continues_in d) q.1 n in
@@ -199,7 +196,7 @@ module _ (p : Plan) where
         IsSilent b (breaks_in d) → IsSilent c (continues_in d) → total_in hop_of (flat_sections p h y b c d) ≡ 0
     no_hops_among NoSection h y b c g e m n = refl
     no_hops_among (Section cases default a ends d) h y b c g e m n =
-        let q = or_false (holds_jump p.live a) (holds_jump_among p.live d) e in
+        let q = or_parts (holds_jump p.live a) (holds_jump_among p.live d) e in
         let m' = silent_left b (breaks a) (breaks_in d) m in
         let n' = silent_left c (continues a) (continues_in d) n in
         let i = no_hops_last a h b c NoArrival g.0 q.0 m' n' in
@@ -212,7 +209,7 @@ module _ (p : Plan) where
         IsSilent b (breaks xs) → IsSilent c (continues xs) → hops (flat_last p h b c r xs) ≡ 0
     no_hops_last Nil h b c r g e m n = refl
     no_hops_last (Then x xs) h b c r g e m n =
-        let q = or_false (holds_jump_in p.live x) (holds_jump p.live xs) e in
+        let q = or_parts (holds_jump_in p.live x) (holds_jump p.live xs) e in
         let m' = silent_left b (breaks_of x) (breaks xs) m in
         let n' = silent_left c (continues_of x) (continues xs) n in
         let i = no_hops_in x h b c r g.0 q.0 m' n' in

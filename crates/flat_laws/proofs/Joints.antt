@@ -1,5 +1,5 @@
 -- Where a step of a program leads, a looser one comes too: the calls of a looser function.
-use Rattle.std.proofs.Common.{ℕ, zero, suc, ◌≤◌, ◌<◌, ◌+◌, inl, inr, ℤ, Bool, true, false, cond, List, [], ◌∷◌, length, Option, Some, None, IfSome, ◌≡◌, refl, sym, ◌∙◌, ap, subst, arith}
+use Rattle.std.proofs.Common.{ℕ, zero, suc, ◌≤◌, ◌<◌, ◌+◌, inl, inr, ℤ, Bool, true, false, cond, List, [], ◌∷◌, length, Option, Some, None, IfSome, ◌≡◌, refl, sym, ◌∙◌, ap, subst, arith, lt-ltb}
 use Rattle.c_types.specs.declared.kinds.IntKind.{IntKind}
 use Rattle.c_tree.specs.declared.tree.Home.TheVariants as H
 use Rattle.c_tree.specs.ExpressionTrees.{ExpressionTree}
@@ -32,7 +32,7 @@ use Rattle.flat_laws.proofs.Locate.{locate}
 use Rattle.flat_laws.proofs.Entries.{entry_lo}
 use Rattle.flat_laws.proofs.Tests as tests
 use Rattle.flat_laws.proofs.Stores.{of_shape, number_place, cell_place, zero_cells}
-use Rattle.flat_laws.proofs.Names.{HasShape, opens_of, IsShapedFor, open_below, opens, Shapes, AlikeIn, RefersIn, RefersAllIn, number_shaped, zeros_shaped}
+use Rattle.flat_laws.proofs.Names.{HasShape, opens_of, IsShapedFor, opens, Shapes, AlikeIn, RefersIn, RefersAllIn, number_shaped, zeros_shaped}
 use Rattle.flat_laws.proofs.Running.{body, rn_still, rn_evaluates, Stack, Related, rl_at, falls}
 
 -- what bounds the steps of items that are gone in the second
@@ -142,7 +142,7 @@ module _ (p q : Code) (lo : LooserCode p q) where
 
     in_both : (e : ExpressionTree) → In S e → OpSlots (λ x. opens_of (lo.functions f) x ≡ true) (Computes e)
     in_both e i = expression_more (λ x. x < length S.old) (λ x. opens_of (lo.functions f) x ≡ true)
-        (λ x b. subst (λ z. opens_of z x ≡ true) (sym eq) (open_below x (length S.old) b)) e i
+        (λ x b. subst (λ z. opens_of z x ≡ true) (sym eq) (lt-ltb x (length S.old) b)) e i
 
     module _ (w : World) (s : Owner → Variable) (c : w.calls ≡ suc d) (a : AlikeIn p q lo names w s) where
       abbrev JT : List Task → List Task → List Value → List Value → Type 0
@@ -189,7 +189,7 @@ module _ (p q : Code) (lo : LooserCode p q) where
 
       pub open_here : (x : ℕ) → x < length S.old → opens p q lo names w.calls x ≡ true
       open_here x b = ap (λ n. opens_of (lo.functions (names n)) x) c ∙ ap (λ n. opens_of (lo.functions n) x) here ∙ ap (λ z. opens_of z x) eq ∙
-          open_below x (length S.old) b
+          lt-ltb x (length S.old) b
 
       pub agree_here : (x : ℕ) → x < length S.old → w.variables (OfCall w.calls x) ≡ s (OfCall w.calls x)
       agree_here x b = a.agree (OfCall w.calls x) (omega arith, open_here x b)

@@ -15,10 +15,6 @@ use Rattle.flat_laws.specs.Source.{AreInitialisers}
 pub false_true : {A : Type 0} → false ≡ true → A
 false_true e = absurd (true≢false (sym e))
 
-pub join_nil : (a : Forest) → join a Nil ≡ a
-join_nil Nil = refl
-join_nil (Then x a) = ap (Then x) (join_nil a)
-
 pub empty_left : {A : Type 0} (xs ys : List A) → is_empty (xs ++ ys) ≡ true → is_empty xs ≡ true
 empty_left [] ys e = refl
 empty_left (x ∷ xs) ys e = e
@@ -112,7 +108,7 @@ first_some : (x y : Bool) (l : ℕ) (o p : Option ℕ) → o ≡ some_if x l →
 first_some true y l o p e f = ap (λ z. or_else z p) e
 first_some false y l o p e f = ap (λ z. or_else z p) e ∙ f
 
-default_append : (xs ys : List (Option ExpressionTree)) → has_default (xs ++ ys) ≡ (has_default xs || has_default ys)
+pub default_append : (xs ys : List (Option ExpressionTree)) → has_default (xs ++ ys) ≡ (has_default xs || has_default ys)
 default_append [] ys = refl
 default_append (Some e ∷ xs) ys = default_append xs ys
 default_append (None ∷ xs) ys = refl

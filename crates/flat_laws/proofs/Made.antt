@@ -28,17 +28,11 @@ use Rattle.flat_laws.proofs.ExitsLeft.{aim_left, fewer, fewer_among}
 use Rattle.flat_laws.proofs.Hopless.{calm_back, no_hops, no_hops_among}
 use Rattle.flat_laws.proofs.Converting.{cases_as, if_some}
 use Rattle.flat_laws.proofs.Arrived.{spread_labels}
+use Rattle.flat_laws.proofs.Unscattered.{whole}
+use Rattle.flat_laws.proofs.LooserItems.{empty_left, empty_right}
 
 false_true : {A : Type 0} → false ≡ true → A
 false_true e = absurd (true≢false (sym e))
-
-pub empty_left : {A : Type 0} (xs ys : List A) → is_empty (xs ++ ys) ≡ true → is_empty xs ≡ true
-empty_left [] ys e = refl
-empty_left (x ∷ xs) ys e = e
-
-pub empty_right : {A : Type 0} (xs ys : List A) → is_empty (xs ++ ys) ≡ true → is_empty ys ≡ true
-empty_right [] ys e = e
-empty_right (x ∷ xs) ys e = false_true e
 
 -- the Arrivals that a list has are allowed
 abbrev Allowed : Arrivals → List (Option ExpressionTree) → Type 0
@@ -52,10 +46,6 @@ allowed_left (Arrives names) xs ys h = tt
 allowed_right : (r : Arrivals) (xs ys : List (Option ExpressionTree)) → Allowed r (xs ++ ys) → Allowed r ys
 allowed_right NoArrival xs ys h = empty_right xs ys h
 allowed_right (Arrives names) xs ys h = tt
-
-unscattered : (x y : Bool) → (not x || y) ≡ false → (x ≡ true) × (y ≡ false)
-unscattered true y e = (refl, e)
-unscattered false y e = absurd (true≢false e)
 
 same_one : (l : ℕ) → one_if (eqb l l) ≡ 1
 same_one l = ap one_if (eq-eqb l l refl)
@@ -466,7 +456,7 @@ module _ (G : ℕ → Type 0) where
           Leads c → MarkedIn (flat_sections p h y b c d) → EverywhereIn (IsFlatItem G) (flat_sections p h y b c d)
       sections_made NoSection h y b c g e i j m = tt
       sections_made (Section cases default a ends d) h y b c g e i j m =
-          let q = unscattered (is_empty (arrivals a)) (is_scattered d) e in (
+          let q = whole (is_empty (arrivals a)) (is_scattered d) e in (
             breaks_flat (ending p.live a) (flat_last p h b c NoArrival a) (flat p h b c NoArrival a) (λ L n. m L (omega (arith, n)))
                 (λ n. last_made a h b c NoArrival g.0 q.0 i j n) (λ n. flat_made a h b c NoArrival g.0 q.0 i j n),
             sections_made d (past a h) y b c g.1 q.1 i j (λ L n. m L (omega (arith, n))),

@@ -1,6 +1,6 @@
 -- The calls of a program and of a looser one: what each slot of each call has in common, how calls begin and end.
 use mathlib.Core.Path.{ap₂}
-use Rattle.std.proofs.Common.{ℕ, zero, suc, pred, ◌≤◌, ◌<◌, ◌+◌, ◌-◌, ℤ, pos, Bool, true, false, cond, eqb, nat_lt, List, [], ◌∷◌, length, Result, Ok, Err, ◌≡◌, refl, sym, ◌∙◌, ap, subst, arith, eqb-true, eq-eqb}
+use Rattle.std.proofs.Common.{ℕ, zero, suc, pred, ◌≤◌, ◌<◌, ◌+◌, ◌-◌, ℤ, pos, Bool, true, false, cond, eqb, nat_lt, List, [], ◌∷◌, length, Result, Ok, Err, ◌≡◌, refl, sym, ◌∙◌, ap, subst, arith, eqb-true, eq-eqb, ltb-true, le-ltb}
 use Rattle.std.specs.Option.{option_map_or}
 use Rattle.c_types.specs.declared.trap.Trap.{Trap}
 use Rattle.c_tree.specs.declared.tree.Slot.{Slot}
@@ -49,10 +49,6 @@ pub same_result : {f h : FunctionTree} → LooserFunction f h → f.result ≡ h
 same_result (lf_same e) = ap (λ f. f.result) e
 same_result (lf_looser l) = l.result
 
-pub same_params : {f h : FunctionTree} → LooserFunction f h → f.params ≡ h.params
-same_params (lf_same e) = ap (λ f. f.params) e
-same_params (lf_looser l) = l.params
-
 -- a slot of both has the same kind and cells
 entry_extend : (ss ts : List Slot) (x : ℕ) → ExtendSlots ss ts → x < length ss →
     ((entry_or no_slot ss x).kind ≡ (entry_or no_slot ts x).kind) × ((entry_or no_slot ss x).cells ≡ (entry_or no_slot ts x).cells)
@@ -67,19 +63,10 @@ parameter_as s t v e c = ap₂ (λ k n. parameter (record { name = []; kind = k;
 zeros_as : (s t : Slot) → s.kind ≡ t.kind → s.cells ≡ t.cells → zeros s ≡ zeros t
 zeros_as s t e c = ap₂ (λ k n. Holds k n (λ i. pos 0)) e c
 
-nat_lt_true : (x n : ℕ) → nat_lt x n ≡ true → x < n
-nat_lt_true x n e = grind (arith, e)
-
-nat_lt_false : (x n : ℕ) → n ≤ x → nat_lt x n ≡ false
-nat_lt_false x n e = grind (arith, e)
-
-pub open_below : (x n : ℕ) → x < n → nat_lt x n ≡ true
-open_below x n e = grind (arith, e)
-
 start_alike : {f h : FunctionTree} (l : LooserFunction f h) (vs : List Value) (x : ℕ) → opens_of l x ≡ true → slot_at_start f vs x ≡ slot_at_start h vs x
 start_alike (lf_same e) vs x o = ap (λ f. slot_at_start f vs x) e
 start_alike {f} {h} (lf_looser l) vs x o =
-    let b : x < length f.slots = subst (λ ss. x < length ss) l.same_old (nat_lt_true x (length l.setting.old) o) in
+    let b : x < length f.slots = subst (λ ss. x < length ss) l.same_old (ltb-true x (length l.setting.old) o) in
     let p = entry_extend f.slots h.slots x l.slots b in
     let s = entry_or no_slot f.slots x in
     let t = entry_or no_slot h.slots x in
@@ -89,7 +76,7 @@ start_alike {f} {h} (lf_looser l) vs x o =
 start_shaped : {f h : FunctionTree} (l : LooserFunction f h) (vs : List Value) (x : ℕ) → IsShapedFor l x (slot_at_start h vs x)
 start_shaped (lf_same e) vs x = tt
 start_shaped {f} {h} (lf_looser l) vs x = λ b.
-    let n : nat_lt x h.params ≡ false = nat_lt_false x h.params (subst (λ z. z ≤ x) (l.same_params ∙ l.params) b) in
+    let n : nat_lt x h.params ≡ false = le-ltb x h.params (subst (λ z. z ≤ x) (l.same_params ∙ l.params) b) in
     subst (λ y. HasShape (slot_of l.setting x) (cond y (parameter (entry_or no_slot h.slots x) (entry_or Missing vs x))
     (zeros (entry_or no_slot h.slots x)))) (sym n)
     (subst (λ ss. HasShape (entry_or no_slot ss x) (zeros (entry_or no_slot h.slots x))) (sym l.same_new) (refl, refl))

@@ -10,9 +10,10 @@ use Rattle.jump_meaning.specs.World.{World, Outcome, Gives, Traps, Exits, push, 
 use Rattle.jump_meaning.specs.Operations.{holds, converted_value}
 use Rattle.jump_meaning.specs.Known.{call_without_body}
 use Rattle.jump_meaning.specs.Calls.{is_missing, returned, fallen}
-use Rattle.jump_meaning.specs.Effects.{Op, Drops, Effect, effect}
+use Rattle.jump_meaning.specs.Effects.{Op, Effect, effect}
 use Rattle.jump_meaning.specs.Tasks.{Task, Works, items, works}
 use Rattle.jump_meaning.specs.Step.{Guards, no_guards, with_guard, Frame, Waits, State, At, HasEnded, HasTrapped, View, Finishes, Goes, Guarding, Yields, Takes, Arming, Acts, is_dropped, settle, leave, begin_call, invoke, perform, move}
+use Rattle.core_laws.proofs.All.{op_dropped}
 use Rattle.flat_laws.specs.Loose.{Setting, IsLooser, LooserFunction, lf_same, lf_looser, LooserCode}
 use Rattle.flat_laws.proofs.Worlds.{over}
 use Rattle.flat_laws.proofs.Effects.{OpSlots, OpsSlots, OutcomeAlike, oa_gives, oa_traps, oa_exits, EffectAlike, ea_does, ea_fails, ea_stops, ea_invokes, ea_leaves, effect_alike}
@@ -28,10 +29,6 @@ works_append (o ∷ os) ps k = ap (λ j. Works o ∷ j) (works_append os ps k)
 
 -- ---- whether the value is dropped
 
-ops_dropped : (o : Op) (k k' : List Task) → is_dropped (Works o ∷ k) ≡ is_dropped (Works o ∷ k')
-ops_dropped Drops k k' = refl
-ops_dropped _ k k' = refl
-
 waiting_dropped : {s : Setting} {B : Forest} {d : ℕ} {k k' : List Task} {v v' : List Value} → Waiting s B d k k' v v' → is_dropped k ≡ is_dropped k'
 waiting_dropped (wt_drops h) = refl
 waiting_dropped wt_ends = refl
@@ -44,7 +41,7 @@ waiting_dropped (wt_selects j b' names v l n z w c t o fs al h) = refl
 works_dropped : {s : Setting} {B : Forest} {d : ℕ} {k k' : List Task} {v v' : List Value} (os : List Op) → Waiting s B d k k' v v' →
     is_dropped (works os k) ≡ is_dropped (works os k')
 works_dropped [] h = waiting_dropped h
-works_dropped {k = k} {k' = k'} (o ∷ os) h = ops_dropped o (works os k) (works os k')
+works_dropped {k = k} {k' = k'} (o ∷ os) h = op_dropped o (works os k) (works os k')
 
 module _ (p q : Code) (lo : LooserCode p q) where
   abbrev pub body : List ℕ → Forest

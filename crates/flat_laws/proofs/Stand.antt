@@ -20,37 +20,37 @@ first_bits l (Then (Evaluate e) xs) f = let i = first_bits l xs f.1 in omega (ar
 first_bits l (Then (Local x es) xs) f = let i = first_bits l xs f.1 in omega (arith, i)
 first_bits l (Then x xs) f = absurd f.0
 
-switch_stays : (b : Bool) (e : Ending) → cond b (if_jumps e) Otherwise ≡ Gone → ⊥
+pub switch_stays : (b : Bool) (e : Ending) → cond b (if_jumps e) Otherwise ≡ Gone → ⊥
 switch_stays false e h = cc
 switch_stays true Gone h = cc
 switch_stays true Breaks h = cc
 switch_stays true Jumps h = cc
 switch_stays true Otherwise h = cc
 
-switch_no_break : (b : Bool) (e : Ending) → cond b (if_jumps e) Otherwise ≡ Breaks → ⊥
+pub switch_no_break : (b : Bool) (e : Ending) → cond b (if_jumps e) Otherwise ≡ Breaks → ⊥
 switch_no_break false e h = cc
 switch_no_break true Gone h = cc
 switch_no_break true Breaks h = cc
 switch_no_break true Jumps h = cc
 switch_no_break true Otherwise h = cc
 
-later_gone : (e f : Ending) → later e f ≡ Gone → (e ≡ Gone) × (f ≡ Gone)
+pub later_gone : (e f : Ending) → later e f ≡ Gone → (e ≡ Gone) × (f ≡ Gone)
 later_gone Gone f h = (refl, h)
 later_gone _ f h = cc
 
-later_last : (e f g : Ending) → later e f ≡ g → is_gone e ≡ true → (e ≡ Gone) × (f ≡ g)
+pub later_last : (e f g : Ending) → later e f ≡ g → is_gone e ≡ true → (e ≡ Gone) × (f ≡ g)
 later_last Gone f g h q = (refl, h)
 later_last _ f g h q = absurd (true≢false (sym q))
 
-later_else : (e f g : Ending) → later e f ≡ g → is_gone e ≡ false → e ≡ g
+pub later_else : (e f g : Ending) → later e f ≡ g → is_gone e ≡ false → e ≡ g
 later_else Gone f g h q = absurd (true≢false q)
 later_else _ f g h q = h
 
-gone_else : (b : Bool) → gone_or b ≡ Gone → b ≡ false
+pub gone_else : (b : Bool) → gone_or b ≡ Gone → b ≡ false
 gone_else false e = refl
 gone_else true e = cc
 
-gone_or_no_break : (b : Bool) → gone_or b ≡ Breaks → ⊥
+pub gone_or_no_break : (b : Bool) → gone_or b ≡ Breaks → ⊥
 gone_or_no_break false e = cc
 gone_or_no_break true e = cc
 

@@ -1,6 +1,6 @@
 -- Assignments to a variable of a call, run: to the place of each, and whole rows of zeros.
 use mathlib.Core.Path.{ap₂, fun_ext}
-use Rattle.std.proofs.Common.{ℕ, zero, suc, ◌≤◌, ◌<◌, ◌+◌, ℤ, pos, Bool, true, false, cond, eqb, nat_lt, List, [], ◌∷◌, Some, None, ◌≡◌, refl, sym, ◌∙◌, ap, arith, eqb-true}
+use Rattle.std.proofs.Common.{ℕ, zero, suc, ◌<◌, ◌+◌, ℤ, pos, Bool, true, false, cond, eqb, nat_lt, List, [], ◌∷◌, Some, None, ◌≡◌, refl, sym, ◌∙◌, ap, arith, eqb-true, lt-ltb, le-ltb}
 use Rattle.c_types.specs.declared.kinds.IntKind.{IntKind}
 use Rattle.c_types.specs.declared.kinds.IntKind.TheVariants.{Char, UChar, Int, UInt, Long, ULong}
 use Rattle.c_types.specs.declared.trap.Trap.{Trap}
@@ -59,12 +59,6 @@ zero_converted UInt = refl
 zero_converted Long = refl
 zero_converted ULong = refl
 
-lt_false : (j i : ℕ) → i ≤ j → nat_lt j i ≡ false
-lt_false j i h = grind (arith, h)
-
-lt_true : (j i : ℕ) → j < i → nat_lt j i ≡ true
-lt_true j i h = grind (arith, h)
-
 no_zeros : (k : IntKind) (n : ℕ) (cells : ℕ → ℤ) → with_zeros n (Holds k (Some n) cells) ≡ Holds k (Some n) cells
 no_zeros k n cells = ap (Holds k (Some n)) (fun_ext (λ j. at j (nat_lt j n)))
   where
@@ -80,10 +74,10 @@ one_zero k n i cells l = ap (Holds k (Some n)) (fun_ext (λ j. at j (eqb i j) re
         (cond (nat_lt j n) (pos 0) (cond b (converted k (pos 0)) (cells j))) ≡ cond (nat_lt j i) (cells j) (cond (nat_lt j n) (pos 0) (cells j))
     at j true e =
         let d : i ≡ j = eqb-true i j e in
-        ap (λ b. cond b (converted k (pos 0)) (cond (nat_lt j n) (pos 0) (converted k (pos 0)))) (lt_true j (suc i) (omega (arith, d)))
+        ap (λ b. cond b (converted k (pos 0)) (cond (nat_lt j n) (pos 0) (converted k (pos 0)))) (lt-ltb j (suc i) (omega (arith, d)))
         ∙ zero_converted k
-        ∙ sym (ap (λ b. cond b (cells j) (cond (nat_lt j n) (pos 0) (cells j))) (lt_false j i (omega (arith, d))) ∙
-        ap (λ b. cond b (pos 0) (cells j)) (lt_true j n (omega (arith, d, l))))
+        ∙ sym (ap (λ b. cond b (cells j) (cond (nat_lt j n) (pos 0) (cells j))) (le-ltb j i (omega (arith, d))) ∙
+        ap (λ b. cond b (pos 0) (cells j)) (lt-ltb j n (omega (arith, d, l))))
     at j false e = ap (λ b. cond b (cells j) (cond (nat_lt j n) (pos 0) (cells j))) (same j e)
       where
         same : (j : ℕ) → eqb i j ≡ false → nat_lt j (suc i) ≡ nat_lt j i
@@ -107,7 +101,7 @@ module _ (q : Code) (f : List ℕ) (g : Guards) (cs : List Frame) where
       let o : owner (H.Slot x) w ≡ OfCall w.calls x = ap (holder (OfCall w.calls x)) held in
       let c : cell (H.Slot x) (pos i) w ≡ Gives (Designates (OfCall w.calls x) i) w =
       ap (λ z. cell_of z (pos i) w) o ∙ ap (λ v. cond (nat_lt i (cells_held v)) (Gives (Designates (OfCall w.calls x) i) w) (Traps Trap.Index w)) held
-      ∙ ap (λ y. cond y (Gives (Designates (OfCall w.calls x) i) w) (Traps Trap.Index w)) (lt_true i n b) in
+      ∙ ap (λ y. cond y (Gives (Designates (OfCall w.calls x) i) w) (Traps Trap.Index w)) (lt-ltb i n b) in
       more tt (more tt (more tt (more tt
       (more tt (turn q f g cs w (ap (λ z. perform q (left z []) f g (Works (Computes e) ∷ Works Stores ∷ Works Drops ∷ K) cs) c) stay)))))
 

@@ -1,9 +1,10 @@
 -- A function without jumps, without its labels, is looser.
-use Rattle.std.proofs.Common.{ℕ, [], Option, Some, None, ◌≡◌, refl, sym, ◌∙◌, ap, subst, true≢false}
+use Rattle.std.proofs.Common.{ℕ, [], Option, Some, None, ◌≡◌, sym, ◌∙◌, subst, true≢false}
 use Rattle.c_tree.specs.TestTrees.{Source, On, Off, AndOff, OrOn, Selects, Pick}
 use Rattle.c_tree.specs.Everywhere.{Everywhere, EverywhereOf, EverywhereIn}
 use Rattle.c_tree.specs.Trees.{Tree, Forest, Nil, Then, Sections, NoSection, Section, Evaluate, Return, If, While, Do, For, Switch, Block, Local, Break, Continue, Goto, Mark, Note, join}
 use Rattle.c_tree.specs.Changed.{one}
+use Rattle.c_tree.proofs.TreeLaws.{join-nil}
 use Rattle.jump_meaning.specs.Code.{FunctionTree, items_of}
 use Rattle.flat_laws.specs.Pieces.{Stays}
 use Rattle.flat_laws.specs.Placed.{IsUnlabelled, IsUnlabelledAmong, IsOnce}
@@ -11,10 +12,6 @@ use Rattle.flat_laws.specs.Loose.{Setting, Open, NoArrival, LooserItem, lo_evalu
 use Rattle.flat_laws.proofs.ControlFacts.{unlabelled_placed}
 use Rattle.flat_laws.proofs.Placing.{once_placed}
 use Rattle.flat_laws.specs.Unlabelled.{unlabelled, unlabelled_item, unlabelled_among, IsCalmItem, IsUnlabelledFrom}
-
-join_nil : (a : Forest) → join a Nil ≡ a
-join_nil Nil = refl
-join_nil (Then x a) = ap (Then x) (join_nil a)
 
 unlabelled_join : (a b : Forest) → IsUnlabelled a → IsUnlabelled b → IsUnlabelled (join a b)
 unlabelled_join Nil b h k = k
@@ -59,19 +56,19 @@ module _ (s : Setting) (dropped : (l : ℕ) → s.labels l ≡ None) where
     kept_item (If (AndOff l t) a b) g = absurd g.0
     kept_item (If (OrOn l t) a b) g = absurd g.0
     kept_item (While (Source t) a) g = subst (λ z. LooserItem s Open Stays Stays NoArrival (While (Source t) a) (one (While (Source t) z)))
-        (join_nil (unlabelled a)) (lo_while t Stays Stays g.0 (kept a g.1))
+        (join-nil (unlabelled a)) (lo_while t Stays Stays g.0 (kept a g.1))
     kept_item (While (On l) a) g = absurd g.0
     kept_item (While (Off l) a) g = absurd g.0
     kept_item (While (AndOff l t) a) g = absurd g.0
     kept_item (While (OrOn l t) a) g = absurd g.0
     kept_item (Do a (Source t)) g = subst (λ z. LooserItem s Open Stays Stays NoArrival (Do a (Source t)) (one (Do z (Source t))))
-        (join_nil (unlabelled a)) (lo_do t Stays Stays g.0 (kept a g.1))
+        (join-nil (unlabelled a)) (lo_do t Stays Stays g.0 (kept a g.1))
     kept_item (Do a (On l)) g = absurd g.0
     kept_item (Do a (Off l)) g = absurd g.0
     kept_item (Do a (AndOff l t)) g = absurd g.0
     kept_item (Do a (OrOn l t)) g = absurd g.0
     kept_item (For first t u a) g =
-        subst (λ z. LooserItem s Open Stays Stays NoArrival (For first t u a) (one (For (unlabelled first) t u z))) (join_nil (unlabelled a))
+        subst (λ z. LooserItem s Open Stays Stays NoArrival (For first t u a) (one (For (unlabelled first) t u z))) (join-nil (unlabelled a))
         (lo_keep_for t u Stays Stays (none_left first) g.0.0 g.0.1 (kept first g.1) (kept a g.2))
     kept_item (Switch (Selects e) d) g = lo_switch e Stays g.0 (kept_among d g.1)
     kept_item (Switch (Pick l n t) d) g = absurd g.0

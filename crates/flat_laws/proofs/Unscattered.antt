@@ -12,11 +12,11 @@ no_elements : {A : Type 0} (xs : List A) → is_empty xs ≡ true → xs ≡ []
 no_elements [] e = refl
 no_elements (x ∷ xs) e = absurd (true≢false (sym e))
 
-whole : (x y : Bool) → (not x || y) ≡ false → (x ≡ true) × (y ≡ false)
+pub whole : (x y : Bool) → (not x || y) ≡ false → (x ≡ true) × (y ≡ false)
 whole true y e = (refl, e)
 whole false y e = absurd (true≢false e)
 
-cases_append : (xs ys : List (Option ExpressionTree)) → cases_among (xs ++ ys) ≡ cases_among xs ++ cases_among ys
+pub cases_append : (xs ys : List (Option ExpressionTree)) → cases_among (xs ++ ys) ≡ cases_among xs ++ cases_among ys
 cases_append [] ys = refl
 cases_append (Some e ∷ xs) ys = ap (λ l. e ∷ l) (cases_append xs ys)
 cases_append (None ∷ xs) ys = cases_append xs ys
@@ -26,7 +26,7 @@ nones_append [] ys = omega arith
 nones_append (Some e ∷ xs) ys = nones_append xs ys
 nones_append (None ∷ xs) ys = let h = nones_append xs ys in omega (arith, h)
 
-section_cases : (cases : List ExpressionTree) (default : Bool) → cases_among (section_labels cases default) ≡ cases
+pub section_cases : (cases : List ExpressionTree) (default : Bool) → cases_among (section_labels cases default) ≡ cases
 section_cases [] true = refl
 section_cases [] false = refl
 section_cases (e ∷ es) default = ap (λ l. e ∷ l) (section_cases es default)

@@ -35,7 +35,7 @@ use Rattle.flat_laws.proofs.Converting.{convert_made, unjumping_same}
 use Rattle.flat_laws.proofs.Made.{flat_made}
 use Rattle.flat_laws.proofs.Stand.{stands}
 
-some_number : (n : ℕ) → 0 < n → is_some_number n ≡ true
+pub some_number : (n : ℕ) → 0 < n → is_some_number n ≡ true
 some_number zero h = absurd (omega (arith, h))
 some_number (suc n) h = refl
 

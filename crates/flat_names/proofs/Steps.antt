@@ -1,10 +1,9 @@
 -- Names given one after another.
-use Rattle.std.proofs.Common.{◌≡◌, ℕ, suc, ◌+◌, ◌-◌, ◌<◌, ◌≤◌, List, [], ◌∷◌, ◌++◌, length, drop, get_or, append_assoc, arith, refl, sym, ap, ◌∙◌}
+use Rattle.std.proofs.Common.{◌≡◌, ℕ, suc, ◌+◌, ◌-◌, ◌<◌, ◌≤◌, List, [], ◌∷◌, ◌++◌, length, drop, get_or, append_assoc, arith, sym, ap, ◌∙◌}
 use Rattle.std.proofs.lemmas.List.{at_drop_more, at_drop_all, append-nil}
-use Rattle.c_tree.specs.declared.tree.Slot.{Slot}
 use Rattle.flat_names.specs.declared.constructs.Construct.{Construct}
 use Rattle.flat_names.specs.declared.giving.Made.{Made}
-use Rattle.flat_names.specs.FlatNames.{Given, Named, name_case, name_cases, name_construct, name_constructs, naming, label_of, chosen, used_then, label_names, with_slot, before_named}
+use Rattle.flat_names.specs.FlatNames.{Given, name_case, name_cases, name_construct, name_constructs, naming, label_of, chosen, used_then, label_names}
 
 pub cases_step : (k i n : ℕ) (g : Given) → i < n → name_cases k (i + 1) (n - i) g ≡ name_cases k (i + 1 + 1) (n - (i + 1)) (name_case k (i + 1) g)
 cases_step k i n g h = let e : n - i ≡ suc (n - (i + 1)) = omega arith in ap (λ m. name_cases k (i + 1) m g) e
@@ -30,9 +29,3 @@ labels_step labels m used cs i d out h =
 pub labels_end : (labels : List (List ℕ)) (m : Made) (used : List (List ℕ)) (cs : List ℕ) (i : ℕ) (out : List (List ℕ)) → length cs ≤ i →
     out ++ label_names labels m used (drop i cs) ≡ out
 labels_end labels m used cs i out h = ap (λ z. out ++ z) (at_drop_all (label_names labels m used) cs i h) ∙ append-nil out
-
-same_named : {a b : List Slot} {u v : List (List ℕ)} → a ≡ b → u ≡ v → (let n : Named = record { slots = a; used = u } in n) ≡ record { slots = b; used = v }
-same_named e f = cc
-
-moved : (out : List Slot) (s : Slot) (n : Named) → before_named out (with_slot s n) ≡ before_named (out ++ s ∷ []) n
-moved out s n = same_named (sym (append_assoc out (s ∷ []) n.slots)) refl

@@ -2,7 +2,7 @@
 use Rattle.std.proofs.Common.{◌≡◌, ℕ, ◌≤◌, Bool, true, false, cond, List, [], ◌∷◌, map, Some, refl, sym, ap, subst, ◌∙◌, arith, Bor}
 use Rattle.std.specs.declared.cmp.Ordering.{Ordering}
 use Rattle.std.specs.declared.cmp.Ordering.TheVariants.{Less, Equal, Greater}
-use Rattle.std.specs.Ordering.{nat_cmp, match_ordering, is_eq}
+use Rattle.std.specs.Ordering.{nat_cmp, match_ordering}
 use Rattle.std.specs.Cmp.Lexicographic.{slice_cmp}
 use Rattle.std.specs.BTreeMap.{is_at, insert_entry}
 use Rattle.std.specs.Map.{lookup}
@@ -12,7 +12,7 @@ use Rattle.std.proofs.lemmas.Map.Text.{is_eq-slice_cmp}
 use Rattle.std.proofs.lemmas.Slice.Eq.{bytes_eq-Decides}
 use Rattle.c_types.specs.Words.{name_cmp}
 use Rattle.c_copies.specs.Names.{has_name, with_name}
-use Rattle.c_copies.proofs.Rising.{has_name-with_name}
+use Rattle.c_copies.proofs.Rising.{has_name-with_name, same_name}
 use Rattle.c_fresh_names.specs.Fresh.{numbered}
 use Rattle.flat_names.specs.Numbers.{Numbers, found, or_first, with_number, IsUsedBelow, AreUsedBelow}
 
@@ -57,10 +57,6 @@ next_is used name (e ∷ es) h = at (bytes_eq name e.0) refl (next_is used name 
     at : (b : Bool) → bytes_eq name e.0 ≡ b → IsNext used name (or_first (found name es)) → IsNext used name (or_first (cond b (Some e.1) (found name es)))
     at true i rest = subst (λ m. IsNext used m e.1) (sym ((bytes_eq-Decides name e.0).0 i)) h.0
     at false i rest = rest
-
--- one more number
-same_name : (n x : List ℕ) → name_cmp n x ≡ Equal → n ≡ x
-same_name n x e = (bytes_eq-Decides n x).0 (sym (is_eq-slice_cmp n x) ∙ ap is_eq e)
 
 pub number_kept : (used : List (List ℕ)) (name : List ℕ) (n : ℕ) (es : Numbers) → AreUsedBelow used es → IsNext used name n →
     AreUsedBelow used (with_number name n es)

@@ -1,5 +1,5 @@
 -- Each property of a list as that of its first item, or of the rest.
-use Rattle.std.proofs.Common.{◌≡◌, ℕ, ℤ, zero, suc, ◌+◌, Bool, true, false, not, ◌||◌, List, [], ◌∷◌, ◌++◌, map, Option, Some, None, append_assoc, arith, refl, sym, ap, ◌∙◌}
+use Rattle.std.proofs.Common.{◌≡◌, ℕ, ℤ, zero, suc, ◌+◌, Bool, true, false, not, ◌||◌, List, [], ◌∷◌, ◌++◌, map, Option, append_assoc, arith, refl, sym, ap, ◌∙◌}
 use Rattle.std.proofs.lemmas.List.{map-append}
 use Rattle.c_types.specs.declared.kinds.IntKind.{IntKind}
 use Rattle.c_tree.specs.ExpressionTrees.{ExpressionTree}
@@ -8,6 +8,8 @@ use Rattle.c_tree.specs.Cases.{case_number}
 use Rattle.c_tree.specs.TextItems.{is_empty}
 use Rattle.c_tree.specs.Trees.{Sections, trees_of, expression_trees}
 use Rattle.flat_laws.specs.Parts.{is_some_number, arrivals, section_labels, switch_labels, cases_among, has_default}
+use Rattle.flat_laws.proofs.Unscattered.{cases_append, section_cases}
+use Rattle.flat_laws.proofs.LooserItems.{default_append}
 use Rattle.flat_questions.specs.Reading.{default_in}
 use Rattle.c_tree.specs.Views.{before}
 
@@ -18,16 +20,6 @@ or_assoc false b c = refl
 pub some_append : {A : Type 0} (xs ys : List A) → not (is_empty (xs ++ ys)) ≡ (not (is_empty xs) || not (is_empty ys))
 some_append [] ys = refl
 some_append (a ∷ xs) ys = refl
-
-pub default_append : (xs ys : List (Option ExpressionTree)) → has_default (xs ++ ys) ≡ (has_default xs || has_default ys)
-default_append [] ys = refl
-default_append (None ∷ xs) ys = refl
-default_append (Some e ∷ xs) ys = default_append xs ys
-
-pub cases_append : (xs ys : List (Option ExpressionTree)) → cases_among (xs ++ ys) ≡ cases_among xs ++ cases_among ys
-cases_append [] ys = refl
-cases_append (None ∷ xs) ys = cases_append xs ys
-cases_append (Some e ∷ xs) ys = ap (λ z. e ∷ z) (cases_append xs ys)
 
 pub some_sum : (a b : ℕ) → is_some_number (a + b) ≡ (is_some_number a || is_some_number b)
 some_sum zero b = let e : zero + b ≡ b = omega arith in ap is_some_number e
@@ -46,11 +38,6 @@ default_more c d =
     ∙ ap (λ y. y || has_default (a ++ switch_labels d)) (section_default (expression_trees o.cases) o.default)
     ∙ ap (λ y. o.default || y) (default_append a (switch_labels d))
     ∙ sym (or_assoc o.default (has_default a) (has_default (switch_labels d)))
-
-section_cases : (cases : List ExpressionTree) (d : Bool) → cases_among (section_labels cases d) ≡ cases
-section_cases [] true = refl
-section_cases [] false = refl
-section_cases (e ∷ es) d = ap (λ z. e ∷ z) (section_cases es d)
 
 -- the numbers of the cases of a section and of those nested in it
 abbrev pub numbers_in : IntKind → Real.Section → List (Option ℤ)

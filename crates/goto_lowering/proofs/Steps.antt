@@ -1,5 +1,5 @@
 -- Names given one after another.
-use Rattle.std.proofs.Common.{◌≡◌, ◌≤◌, ℕ, ◌+◌, ◌<◌, ◌%◌, ◌/◌, Bool, true, false, cond, eqb, List, [], ◌∷◌, ◌++◌, length, drop, get_or, Option, append_assoc, arith, refl, sym, ap, ◌∙◌}
+use Rattle.std.proofs.Common.{◌≡◌, ◌≤◌, ℕ, ◌+◌, ◌<◌, ◌%◌, ◌/◌, Bool, true, false, cond, eqb, List, [], ◌∷◌, ◌++◌, length, drop, get_or, Option, append_assoc, refl, sym, ap, ◌∙◌}
 use Rattle.std.proofs.lemmas.List.{at_drop_more, at_drop_all, append-nil}
 use Rattle.std.specs.Prelude.{codes}
 use Rattle.c_types.specs.declared.kinds.IntKind.{IntKind}
@@ -34,9 +34,3 @@ module _ (labels used : List (List ℕ)) (n : ℕ) where
 
   pub labels_end : (cs : List ℕ) (i : ℕ) (out : List (List ℕ)) → length cs ≤ i → out ++ label_names labels used n (drop i cs) ≡ out
   labels_end cs i out h = ap (λ z. out ++ z) (at_drop_all (label_names labels used n) cs i h) ∙ append-nil out
-
-pub next_less : (n i c m : ℕ) → n ≤ i + 1 → m ≡ next_then n c → m ≤ i + 1 + 1
-next_less n i c m h e = by (eqb (c % 7) 0) e where
-  by : (y : Bool) → m ≡ cond y n (n + 1) → m ≤ i + 1 + 1
-  by true q = omega arith
-  by false q = omega arith

@@ -83,7 +83,3 @@ has_number kind k s e es h f n = none (constant_value e) (All-contains (λ x. Is
       none : (o : Option ℤ) → IsSome o → option_map (converted kind) o ≡ None → ⊥
       none None p q = absurd (true≢false (sym p))
       none (Some v) p q = cc
-
-pub append_nil : {X : Type 0} (xs : List X) → xs ++ [] ≡ xs
-append_nil [] = refl
-append_nil (x ∷ xs) = ap (λ l. x ∷ l) (append_nil xs)

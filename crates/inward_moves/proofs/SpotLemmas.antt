@@ -1,5 +1,5 @@
 -- An item after a Leap, in the list in which the items between are under the guard.
-use Rattle.std.proofs.Common.{◌≡◌, ℕ, zero, suc, ◌+◌, ◌-◌, ◌<◌, ◌≤◌, ℤ, List, [], ◌∷◌, ◌++◌, Some, IsSome, Bool, true, false, cond, nat_eq, length, take, drop, slice_range, slice_get, slice_set, get_or, refl, sym, ap, subst, ◌∙◌, arith, rules, add-one, length-append}
+use Rattle.std.proofs.Common.{◌≡◌, ℕ, ◌+◌, ◌-◌, ◌<◌, ◌≤◌, ℤ, List, [], ◌∷◌, ◌++◌, Some, IsSome, Bool, true, false, cond, nat_eq, length, take, drop, slice_range, slice_get, slice_set, get_or, refl, sym, ap, subst, ◌∙◌, arith, rules, add-one, length-append}
 use Rattle.std.specs.Option.{option_map_or}
 use Rattle.std.proofs.Math.ListN.{length-take, length-drop}
 use Rattle.std.proofs.lemmas.Bool.{eqb-true, eqb-false}
@@ -13,6 +13,7 @@ use Rattle.c_tree.specs.Inward.{entered, moved_in, CanMoveIn}
 use Rattle.c_tree.proofs.PathLemmas.{stepped}
 use Rattle.c_tree.proofs.ExchangeLemmas.{list-append}
 use Rattle.c_tree.proofs.RuleChanges.{held_some}
+use Rattle.c_tree.proofs.MoveLemmas.{drop_at}
 
 get_behind : {X : Type 0} (a b : List X) (x : X) → slice_get (a ++ x ∷ b) (length a) ≡ Some x
 get_behind [] b x = refl
@@ -21,11 +22,6 @@ get_behind (y ∷ a) b x = get_behind a b x
 set_behind : {X : Type 0} (a b : List X) (x y : X) → slice_set (a ++ x ∷ b) (length a) y ≡ a ++ y ∷ b
 set_behind [] b x y = refl
 set_behind (z ∷ a) b x y = ap (λ l. z ∷ l) (set_behind a b x y)
-
-drop_there : {X : Type 0} (xs : List X) (j : ℕ) (x : X) → slice_get xs j ≡ Some x → drop j xs ≡ x ∷ drop (suc j) xs
-drop_there [] j x e = cc
-drop_there (y ∷ ys) zero x e = let h : y ≡ x = cc in ap (λ z. z ∷ ys) h
-drop_there (y ∷ ys) (suc j) x e = drop_there ys j x e
 
 guarded_none : (l i j : ℕ) (xs : List Item) → i + 1 ≡ j → length (guarded l (slice_range xs (i + 1) j)) ≡ 0
 guarded_none l i j xs e = empty (slice_range xs (i + 1) j) (omega (arith, length-take (j - (i + 1)) (drop (i + 1) xs), length-drop (i + 1) xs)) where
@@ -61,7 +57,7 @@ module _ (l i j : ℕ) (xs : List Item) (x : Item) (h : i < j) (e : slice_get xs
 
   whole : joined_after l i j xs ≡ front ++ x ∷ drop (j + 1) xs
   unfolding front
-  whole = ap (λ d. take i xs ++ guarded l (slice_range xs (i + 1) j) ++ d) (rw add-one (drop_there xs j x e))
+  whole = ap (λ d. take i xs ++ guarded l (slice_range xs (i + 1) j) ++ d) (rw add-one (drop_at xs j x e))
 
   pub item_there : (p : ℕ) → p ≡ i + length (guarded l (slice_range xs (i + 1) j)) → slice_get (joined_after l i j xs) p ≡ Some x
   item_there p q = ap (λ a. slice_get a p) whole ∙ ap (slice_get (front ++ x ∷ drop (j + 1) xs)) (q ∙ sym front_length) ∙ get_behind front (drop (j + 1) xs) x

@@ -52,7 +52,7 @@ either P false x y p q = q
 
 -- ---- primitives
 
-store_events : (p : Value) (z : ℤ) (w : World) → (store p z w).events ≡ w.events
+pub store_events : (p : Value) (z : ℤ) (w : World) → (store p z w).events ≡ w.events
 store_events (Integer n) z w = refl
 store_events (Designates o i) z w = refl
 store_events (Lends o) z w = refl

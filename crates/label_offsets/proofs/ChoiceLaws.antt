@@ -61,7 +61,7 @@ layer_branch B.Else (O.If t x z) a e j c f = tt
 layer_branch (B.Section k) (O.Switch s cs) a e j c f = tt
 layer_branch _ _ a e j c f = cc
 
-leap_jumps : (a : List Item) (i l : ℕ) → slice_get a i ≡ Some (Leap l) → 0 < jumps (trees_of a)
+pub leap_jumps : (a : List Item) (i l : ℕ) → slice_get a i ≡ Some (Leap l) → 0 < jumps (trees_of a)
 leap_jumps a i l e =
     let split = trees-split a i (Leap l) e ∙ ap (λ z. join (trees_of (take i a)) (join (one z) (trees_of (drop (suc i) a)))) (tree-Leap l) in
     subst (λ z. 0 < jumps z) (sym split) (left_jumps l (trees_of (take i a)) (trees_of (drop (suc i) a)))

@@ -52,7 +52,7 @@ under_first : (i : ℕ) (b : Branch) (ps : List Path) (p : Path) → first (unde
 under_first i b [] p e = cc
 under_first i b (q ∷ ps) p e = let same : stepped_in i b q ≡ p = cc in (q, refl, sym same)
 
-none_first : (ps : List Path) → first ps ≡ None → length ps ≡ 0
+pub none_first : (ps : List Path) → first ps ≡ None → length ps ≡ 0
 none_first [] e = refl
 none_first (p ∷ ps) e = cc
 
@@ -167,7 +167,8 @@ found_section (e ∷ cs) i k at h = elim (either (under i (B.Section k) (section
     ]
 
 layer : (y : Item-F I C) (i : ℕ) (at : Path)
-    → first (paths_step S.Leap (map-Item Item Section (ℕ → List Path) (List Path) leaps_of section_leaps (map-Item I C Item Section item_of section_of y)) i) ≡ Some at
+    → first (paths_step S.Leap (map-Item Item Section (ℕ → List Path) (List Path) leaps_of section_leaps
+    (map-Item I C Item Section item_of section_of y)) i) ≡ Some at
     → FoundIn (roll-Item (map-Item I C Item Section item_of section_of y)) i at
 layer (Leap l) i at h = let same : record { steps = []; item = i } ≡ at = cc in here l (out-roll-Item (Leap l)) (sym same)
 layer (If t a b) i at h = elim (either (under i B.Then (leaps_from 0 (map item_of a))) (under i B.Else (leaps_from 0 (map item_of b))) at h) [

@@ -73,7 +73,8 @@ sections_length i k (e ∷ cs) =
     ∙ (λ j. (under_length i (B.Section k) (section_leaps e.0) ∙ e.1) j + sections_length i (k + 1) cs j)
 
 layer : (y : Item-F I C) (i : ℕ)
-    → length (paths_step S.Leap (map-Item Item Section (ℕ → List Path) (List Path) leaps_of section_leaps (map-Item I C Item Section (λ e. e.0) (λ e. e.0) y)) i)
+    → length (paths_step S.Leap (map-Item Item Section (ℕ → List Path) (List Path) leaps_of section_leaps
+    (map-Item I C Item Section (λ e. e.0) (λ e. e.0) y)) i)
     ≡ leap_layer (map-Item Item Section ℕ ℕ leaps_in leaps_in_section (map-Item I C Item Section (λ e. e.0) (λ e. e.0) y))
 layer (Leap l) i = refl
 layer (If t a b) i = length-append (under i B.Then _) (under i B.Else _) ∙ (λ j. held_length i B.Then a j + held_length i B.Else b j)

@@ -1,5 +1,5 @@
 -- The Land that a search finds, and what it says where it finds none.
-use Rattle.std.proofs.Common.{◌≡◌, ℕ, zero, suc, ◌+◌, ◌-◌, ◌<◌, ◌≤◌, List, [], ◌∷◌, Option, Some, None, inl, inr, true, false, length, take, drop, get_or, slice_get, option_map, option_and_then, refl, sym, ap, subst, ◌∙◌, arith}
+use Rattle.std.proofs.Common.{◌≡◌, ℕ, zero, suc, ◌+◌, ◌-◌, ◌<◌, ◌≤◌, List, [], ◌∷◌, Option, Some, None, true, false, length, take, drop, get_or, sym, ap, subst, ◌∙◌, arith}
 use Rattle.std.specs.Prelude.{IfNone}
 use Rattle.std.proofs.lemmas.List.{at_drop_more}
 use Rattle.std.proofs.lemmas.Option.{slice_get-get_or}
@@ -10,16 +10,15 @@ use Rattle.c_tree.specs.declared.tree.Branch.{Branch}
 use Rattle.c_tree.specs.declared.tree.Branch.TheVariants as B
 use Rattle.c_tree.specs.declared.tree.Path.{Path}
 use Rattle.c_tree.specs.declared.tree.Step.{Step}
-use Rattle.c_tree.specs.Paths.{list_of, child_F, child, list_at, item_at}
+use Rattle.c_tree.specs.Paths.{list_of, child_F, item_at}
 use Rattle.c_tree.specs.Trees.{Tree, SectionTree, tree_of, trees_of, sections_of}
 use Rattle.c_tree.specs.Everywhere.{Everywhere, EverywhereOf, EverywhereIn}
 use Rattle.c_tree.specs.Labels.{lands}
 use Rattle.c_tree.specs.WellMade.{IsPlainFor}
 use Rattle.c_tree.proofs.TreeLaws.{trees-none, trees-more, sections-more, section-parts}
 use Rattle.c_tree.proofs.ChangeLemmas.{layer_tree, tree-out}
-use Rattle.c_tree.proofs.RuleChanges.{held_some}
 use Rattle.label_offsets.specs.Marks.{is_land, held}
-use Rattle.label_offsets.specs.Standing.{IsPlaceOf, IsUnder, IsInside_F, IsInside, HasPlainFors_F, HasPlainFors, HasNoLandAt}
+use Rattle.label_offsets.specs.Standing.{IsUnder, HasPlainFors_F, HasPlainFors, HasNoLandAt}
 use Rattle.label_offsets.proofs.HeldLaws.{land-is, lands-more, lands-all, lands-cut, is_land-none}
 
 -- the Land is an item of the list itself
@@ -30,37 +29,11 @@ place_here l xs i x ss h e t f =
 
 -- it stands in an item
 
-under_place : (l k : ℕ) (b : Branch) (a : List Item) (x : Item) (xs : List Item) (p : Path) → slice_get xs k ≡ Some x → child b x ≡ Some a →
-    IsUnder l k b a p → IsPlaceOf l xs p
-under_place l k b a x xs p e f u =
-    let within : list_at xs (record { item = k; branch = b } ∷ u.rest) ≡ list_at a u.rest =
-    ap (option_and_then (λ x. option_and_then (λ a. list_at a u.rest) (child b x))) e ∙ ap (option_and_then (λ a. list_at a u.rest)) f in
-    ap (λ (z : List Step). item_at xs z p.item) u.steps ∙ ap (option_and_then (λ z. slice_get z p.item)) within ∙ u.land
-
 record Way (l k : ℕ) (y : Item-F Item Section) (p : Path) : Type 0 where
   branch : Branch
   list : List Item
   there : child_F branch y ≡ Some list
   under : IsUnder l k branch list p
-
-way : (l k : ℕ) (y : Item-F Item Section) (p : Path) → IsInside_F l k y p → Way l k y p
-way l k (O.If t a b) p h = elim h [
-  | inl u ↦ record { branch = B.Then; list = a; there = refl; under = u }
-  | inr u ↦ record { branch = B.Else; list = b; there = refl; under = u }
-]
-way l k (O.While t a) p h = record { branch = B.Body; list = a; there = refl; under = h }
-way l k (O.Do a t) p h = record { branch = B.Body; list = a; there = refl; under = h }
-way l k (O.For f t u a) p h = record { branch = B.Body; list = a; there = refl; under = h }
-way l k (O.Block a) p h = record { branch = B.Body; list = a; there = refl; under = h }
-way l k (O.Switch s cs) p h =
-    let q = held_some (λ c. IsUnder l k (B.Section h.section) (list_of c) p) (slice_get cs h.section) h.under in
-    record { branch = B.Section h.section; list = list_of q.0; there = ap (option_map list_of) q.1; under = q.2 }
-way l k _ p h = absurd h
-
-pub place_inside : (l k : ℕ) (x : Item) (xs : List Item) (p : Path) → k < length xs → x ≡ get_or xs k x → IsInside l k x p → IsPlaceOf l xs p
-place_inside l k x xs p h e i =
-    let w = way l k (out-Item x) p i in
-    under_place l k w.branch w.list x xs p (slice_get-get_or xs k x h ∙ ap Some (sym e)) w.there w.under
 
 -- what holds everywhere holds of each item
 

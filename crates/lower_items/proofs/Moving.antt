@@ -1,7 +1,8 @@
 -- Items and initialisers that are moved, one after another.
-use Rattle.std.proofs.Common.{◌≡◌, List, [], ◌∷◌, length, arith, refl, sym, ap, ◌∙◌}
+use Rattle.std.proofs.Common.{◌≡◌, List, [], ◌∷◌, sym, ap, ◌∙◌}
 use Rattle.std.specs.Vec.Iter.{into_iter_items, into_iter_len}
 use Rattle.std.specs.declared.vec.IntoIter.{IntoIter}
+use Rattle.std.proofs.lemmas.List.{nil_from_length}
 use Rattle.c_tree.specs.Changed.{one}
 use Rattle.c_tree.specs.declared.tree.Item.{Item}
 use Rattle.c_tree.specs.Trees.{Forest, trees_of, join}
@@ -10,14 +11,9 @@ use Rattle.c_tree.specs.Views.{tree_at}
 use Rattle.c_tree.proofs.Views.{trees-first}
 use Rattle.flat_items.proofs.Joining.{one_more}
 
--- what is left of a list that is empty
-pub nothing_left : {X : Type 0} (xs : List X) → length xs ≡ 0 → xs ≡ []
-nothing_left [] h = refl
-nothing_left (x ∷ xs) h = absurd (omega arith)
-
 -- an iterator that gave its last item has none left
 pub emptied : {X Z : Type 0} (it : IntoIter X Z) → into_iter_len it ≡ 0 → into_iter_items it ≡ []
-emptied it h = nothing_left (into_iter_items it) (sym it.rest.ok.0 ∙ h)
+emptied it h = nil_from_length (into_iter_items it) (sym it.rest.ok.0 ∙ h)
 
 pub all_step : (x : Item) (xs : List Item) (out new all : Forest) → new ≡ join out (one (tree_at x)) → join out (trees_of (x ∷ xs)) ≡ all →
     join new (trees_of xs) ≡ all

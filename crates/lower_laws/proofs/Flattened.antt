@@ -1,5 +1,5 @@
 -- A body on its way to a flat list becomes that list where its loops and `if`s become gotos.
-use Rattle.std.proofs.Common.{ℕ, zero, suc, ◌+◌, inl, inr, ℤ, Bool, true, false, not, cond, ◌||◌, List, [], ◌∷◌, Option, Some, None, ◌≡◌, refl, sym, ap, subst, arith}
+use Rattle.std.proofs.Common.{ℕ, zero, suc, ◌+◌, inl, inr, ℤ, Bool, true, false, not, cond, ◌||◌, List, [], ◌∷◌, Option, Some, None, ◌≡◌, refl, sym, subst, arith}
 use Rattle.std.specs.Option.{option_map_or}
 use Rattle.c_types.specs.declared.kinds.IntKind.{IntKind}
 use Rattle.c_tree.specs.ExpressionTrees.{ExpressionTree}
@@ -9,6 +9,7 @@ use Rattle.c_tree.specs.Everywhere.{Everywhere, EverywhereOf, EverywhereIn}
 use Rattle.c_tree.specs.Exits.{breaks, breaks_of, breaks_in, continues, continues_of, continues_in}
 use Rattle.c_tree.specs.Changed.{one}
 use Rattle.c_tree.specs.Trees.{Tree, Forest, Nil, Then, Sections, NoSection, Section, Evaluate, Return, If, While, Do, For, Switch, Block, Local, Break, Continue, Goto, Mark, Arm, Leap, Land, Arrival, Note, join}
+use Rattle.c_tree.proofs.TreeLaws.{join-join, join-nil}
 use Rattle.jump_meaning.specs.Code.{entry_or}
 use Rattle.jump_meaning.specs.World.{no_slot}
 use Rattle.jump_meaning.specs.Step.{switch_kind}
@@ -22,14 +23,6 @@ use Rattle.lower_laws.specs.Straight.{jump_if, while_items, StraightItem, st_eva
 use Rattle.lower_laws.specs.Lowered.{Layout, past, past_item, inside, jump_of, lowered_if, lowered_do, lowered_for, break_aim, for_aim, continue_aim, lowered, lowered_item, lowered_among, placed}
 use Rattle.lower_laws.specs.Opened.{opened_if, opened_while, opened_do, opened_for, opened, opened_item, opened_among, Naming}
 use Rattle.flat_laws.proofs.LooserItems.{false_true, Allowed, allowed_left, allowed_right}
-
-join_nil : (a : Forest) → join a Nil ≡ a
-join_nil Nil = refl
-join_nil (Then x a) = ap (Then x) (join_nil a)
-
-join_more : (a b c : Forest) → join (join a b) c ≡ join a (join b c)
-join_more Nil b c = refl
-join_more (Then x a) b c = ap (Then x) (join_more a b c)
 
 pub naming_left : (l : ℕ) (xs ys : Forest) → Naming l xs → Naming l (join xs ys)
 naming_left l Nil ys n = absurd n
@@ -99,19 +92,19 @@ module _ (A : Forest) (ls : List ℕ) where
   -- ---- lists
 
   unit : {x : Tree} {ys : Forest} → StraightItem A s x ys → S None (one x) ys
-  unit {x = x} {ys = ys} fi = subst (λ z. S None (one x) z) (join_nil ys) (sl_then fi sl_nil)
+  unit {x = x} {ys = ys} fi = subst (λ z. S None (one x) z) (join-nil ys) (sl_then fi sl_nil)
 
   joined : {o : Option ℕ} {xs xs' ys ys' : Forest} → S None xs xs' → S o ys ys' → S o (join xs ys) (join xs' ys')
   joined sl_nil g = g
   joined (sl_declares x f) g = sl_declares x (joined f g)
   joined {o = o} {ys = ys} {ys' = ys'} (sl_then {x = x} {ys = zs} {xs = xs} {xs' = xs'} fi f) g =
-      subst (λ z. S o (Then x (join xs ys)) z) (sym (join_more zs xs' ys')) (sl_then fi (joined f g))
+      subst (λ z. S o (Then x (join xs ys)) z) (sym (join-join zs xs' ys')) (sl_then fi (joined f g))
   joined {o = o} {ys = ys} {ys' = ys'} (sl_while t h b e {a = a} {a' = a'} {xs = xs} {xs' = xs'} fa f) g =
-      subst (λ z. S o (Then (While (Source t) a) (Then (Mark e) (join xs ys))) z) (sym (join_more (while_items (Source t) h b (s e) a') xs' ys'))
+      subst (λ z. S o (Then (While (Source t) a) (Then (Mark e) (join xs ys))) z) (sym (join-join (while_items (Source t) h b (s e) a') xs' ys'))
       (sl_while t h b e fa (joined f g))
 
   any_end : {o : Option ℕ} {xs xs' : Forest} → S None xs xs' → S o xs xs'
-  any_end {o = o} {xs = xs} {xs' = xs'} f = subst (λ z. S o z xs') (join_nil xs) (subst (λ z. S o (join xs Nil) z) (join_nil xs') (joined f sl_nil))
+  any_end {o = o} {xs = xs} {xs' = xs'} f = subst (λ z. S o z xs') (join-nil xs) (subst (λ z. S o (join xs Nil) z) (join-nil xs') (joined f sl_nil))
 
   marked : (b : Aim) → S None (mark_of b) (mark_of (to b))
   marked Stays = sl_nil
@@ -253,9 +246,9 @@ module _ (A : Forest) (ls : List ℕ) where
         (q.plan.break_label h.construct) a')
     while_item h t {a = a} {a' = a'} f =
         subst (λ z. S None (opened_while p h (Source t) a) z)
-        (join_nil (while_items (Source t) (q.head_label h.construct) (q.list_label h.construct) (q.plan.break_label h.construct) a'))
+        (join-nil (while_items (Source t) (q.head_label h.construct) (q.list_label h.construct) (q.plan.break_label h.construct) a'))
         (sl_while t (q.head_label h.construct) (q.list_label h.construct) (p.plan.break_label h.construct)
-        (subst (λ z. S (Some (q.head_label h.construct)) (join a (one (Mark (p.head_label h.construct)))) z) (join_nil a')
+        (subst (λ z. S (Some (q.head_label h.construct)) (join a (one (Mark (p.head_label h.construct)))) z) (join-nil a')
         (joined f (sl_end (p.head_label h.construct)))) sl_nil)
 
     do_item : (h : Here) (t : ExpressionTree) (b c : Aim) {a a' : Forest} → S None a a' →
@@ -267,7 +260,7 @@ module _ (A : Forest) (ls : List ℕ) where
     for_item h None u c y f = sl_then (st_ever (q.head_label h.construct) (with_thirds u c f)) (marked (for_aim p h None y))
     for_item h (Some t) u c y {a = a} {a' = a'} f =
         subst (λ z. S None (opened_for (Some t) u a (for_aim p h (Some t) y) c) z)
-        (join_nil (while_items (Source t) (q.head_label h.construct) (q.list_label h.construct) (q.plan.break_label h.construct) (with_third a' (to c) u)))
+        (join-nil (while_items (Source t) (q.head_label h.construct) (q.list_label h.construct) (q.plan.break_label h.construct) (with_third a' (to c) u)))
         (sl_while t (q.head_label h.construct) (q.list_label h.construct) (p.plan.break_label h.construct) (any_end (with_thirds u c f)) sl_nil)
 
     mutual

@@ -1,5 +1,5 @@
 -- A program and one whose functions have flat lists of gotos for their bodies behave the same.
-use Rattle.std.proofs.Common.{ℕ, zero, suc, inr, Bool, true, false, cond, List, [], Some, None, ◌≡◌, refl, sym, ◌∙◌, subst, All}
+use Rattle.std.proofs.Common.{ℕ, zero, suc, inr, List, [], Some, None, refl, sym, ◌∙◌, subst, All}
 use Rattle.c_tree.specs.declared.tree.Program.{Program}
 use Rattle.c_tree.specs.InRange.{IsUnguarded, IsProgramInRange}
 use Rattle.c_tree.specs.Trees.{Tree, Forest, Arm, Leap, Land, join}
@@ -19,6 +19,7 @@ use Rattle.flat_laws.proofs.Lifted.{loose_laws}
 use Rattle.flat_laws.proofs.Placing.{once_placed}
 use Rattle.flat_laws.proofs.Plain.{new_unguarded}
 use Rattle.flat_laws.specs.FlatForm.{place_in}
+use Rattle.flat_laws.proofs.Flattened.{live_if}
 use Rattle.lower_laws.specs.Straight.{Straight, sl_declares, IsStraight}
 use Rattle.lower_laws.specs.Rewritten.{Rewritten, rw_same, rw_by, RewrittenCode, RewrittenTops}
 use Rattle.lower_laws.specs.Lowered.{declarations}
@@ -39,10 +40,6 @@ unarmed (Arm l e) h = h
 unarmed (Leap l) h = h
 unarmed (Land l) h = h
 unarmed _ h = tt
-
-live_if : (b : Bool) (m n : ℕ) → cond b (Some m) None ≡ Some n → b ≡ true
-live_if true m n e = refl
-live_if false m n e = cc
 
 declared : (A : Forest) (x n : ℕ) {xs ys : Forest} → Straight A (place_in []) None xs ys → Straight A (place_in []) None xs (join (declarations x n) ys)
 declared A x zero f = f

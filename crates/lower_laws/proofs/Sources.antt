@@ -13,6 +13,7 @@ use Rattle.lower_laws.specs.Straight.{while_items, StraightItem, st_evaluate, st
 use Rattle.lower_laws.specs.Lowered.{Layout, past, past_item, inside, is_bare, only_goto, jump_of, break_aim, for_aim, continue_aim}
 use Rattle.lower_laws.specs.Opened.{opened_if, opened_for, opened, opened_item, opened_among}
 use Rattle.flat_laws.proofs.LooserItems.{false_true}
+use Rattle.flat_laws.proofs.Counts.{places_join}
 use Rattle.lower_laws.proofs.Standing.{has_left, has_right, both_of}
 
 module _ (p : Layout) (m : ℕ) (live : p.plan.live m ≡ true) where
@@ -104,10 +105,6 @@ module _ (p : Layout) (m : ℕ) (live : p.plan.live m ≡ true) where
         (has_right g xs (join es ds) (has_right g es ds (stays_among d (past a h) b c names n)))
 
 -- ---- labels that stand once
-
-places_join : (l : ℕ) (xs ys : Forest) → places l (join xs ys) ≡ places l xs + places l ys
-places_join l Nil ys = omega arith
-places_join l (Then x xs) ys = let h = places_join l xs ys in omega (arith, h)
 
 module _ (A : Forest) (l : ℕ) where
   abbrev R : Option ℕ → Forest → Forest → Type 0

@@ -5,7 +5,7 @@ use Rattle.c_types.specs.declared.kinds.IntKind.{IntKind}
 use Rattle.c_copies.specs.Names.{has_name, with_name}
 use Rattle.c_tree.specs.declared.tree.Slot.{Slot}
 use Rattle.c_fresh_names.specs.Fresh.{numbered, fresh}
-use Rattle.c_fresh_names.proofs.NameSets.{no_more}
+use Rattle.c_fresh_names.proofs.NameSets.{one_more}
 use Rattle.c_resolved_defs.specs.Within.{Each, AllDiffer}
 use Rattle.c_resolved_defs.specs.PrintableExpressions.{IsName}
 use Rattle.flat_function.proofs.FreshNames.{numbered_name, fresh_name, fresh_unused, Grows, grows_self, grows_then, grows_with, own_with}
@@ -28,9 +28,6 @@ out_of us vs g m e = at (has_name us m) refl
     at : (b : Bool) → has_name us m ≡ b → Out us m
     at true i = absurd (true≢false (sym (g.0 m i) ∙ e))
     at false i = i
-
-pub one_more : (us : List (List ℕ)) (n : List ℕ) → length (with_name us n) ≤ length us + 1
-one_more us n = let h = no_more us (n ∷ []) in omega (arith, h)
 
 -- ---- variables of switches
 

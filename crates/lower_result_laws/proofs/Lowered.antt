@@ -1,5 +1,5 @@
 -- What a function of a resolved program is lowered to has the flat list of gotos of its body.
-use Rattle.std.proofs.Common.{◌≡◌, ℕ, zero, suc, ◌+◌, ◌-◌, ◌≤◌, ◌<◌, arith, false, cond, List, [], ◌∷◌, ◌++◌, length, Option, Some, None, option_map, IsSome, refl, sym, ap, subst, ◌∙◌}
+use Rattle.std.proofs.Common.{◌≡◌, ℕ, ◌+◌, ◌-◌, ◌≤◌, ◌<◌, arith, false, cond, List, ◌++◌, length, Some, None, refl, sym, ap, subst, ◌∙◌}
 use Rattle.std.specs.Option.{option_map_or}
 use Rattle.c_tree.specs.declared.tree.Item.{Item}
 use Rattle.c_tree.specs.declared.tree.Slot.{Slot}
@@ -11,8 +11,7 @@ use Rattle.c_tree.specs.Numerals.{constant}
 use Rattle.c_tree.specs.TextItems.{is_empty}
 use Rattle.c_tree.specs.Trees.{Forest, Nil, join, trees_of}
 use Rattle.c_tree.specs.Exits.{breaks, continues}
-use Rattle.jump_meaning.specs.Code.{function_tree, items_of, entry_or}
-use Rattle.jump_meaning.specs.World.{no_slot}
+use Rattle.jump_meaning.specs.Code.{function_tree, items_of}
 use Rattle.flat_laws.specs.Pieces.{Stays}
 use Rattle.flat_laws.specs.Placed.{IsOnce, Has}
 use Rattle.flat_laws.specs.Loose.{Setting, NoArrival, ExtendSlots}
@@ -33,6 +32,7 @@ use Rattle.c_resolved_laws.proofs.GoodSource.{good_source}
 use Rattle.c_resolved_laws.proofs.SourceGiven.{function_source, function_calm}
 use Rattle.flat_function.proofs.Forms.{named_length}
 use Rattle.lower_laws.specs.Lowering.{constructs, lowered_names}
+use Rattle.whole_laws.proofs.Flattened.{cells_stay, defined, items_body}
 use Rattle.lower_result_laws.proofs.Variables.{kinds, more_variables, variables_are, more_numbers, have, at_numbers, extended}
 use Rattle.lower_result_laws.proofs.OwnLabels.{function_own}
 
@@ -40,18 +40,6 @@ use Rattle.lower_result_laws.proofs.OwnLabels.{function_own}
 
 pub body_is : (f : Function) (a : List Item) → f.body ≡ Some a → body_of f ≡ trees_of a
 body_is f a e = ap (λ o. option_map_or trees_of o Nil) e
-
-items_body : (f : Function) (a : List Item) → f.body ≡ Some a → items_of (function_tree f) ≡ body_of f
-items_body f a e = ap (λ o. option_map_or (λ (x : Forest). x) (option_map trees_of o) Nil) e ∙ sym (body_is f a e)
-
-defined : (f : Function) (a : List Item) → f.body ≡ Some a → IsSome (function_tree f).body
-defined f a e = subst (λ (o : Option (List Item)). IsSome (option_map trees_of o)) (sym e) refl
-
-cells_stay : (ss ts : List Slot) → ExtendSlots ss ts → (x : ℕ) → x < length ss → (entry_or no_slot ts x).cells ≡ (entry_or no_slot ss x).cells
-cells_stay [] ts h x b = absurd (omega (arith, b))
-cells_stay (s ∷ ss) [] h x b = absurd h
-cells_stay (s ∷ ss) (t ∷ ts) h zero b = sym h.1
-cells_stay (s ∷ ss) (t ∷ ts) h (suc x) b = cells_stay ss ts h.2 x (omega (arith, b))
 
 no_sum : (m n : ℕ) → m + n ≡ 0 → (m ≡ 0) × (n ≡ 0)
 no_sum m n e = (omega (arith, e), omega (arith, e))

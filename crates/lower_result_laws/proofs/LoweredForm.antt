@@ -23,7 +23,7 @@ use Rattle.c_resolved_defs.specs.Limits.{FlatCounts}
 use Rattle.c_resolved_defs.specs.Resolved.{IsResolvedFunction}
 use Rattle.c_resolved_laws.specs.Laws.{IsUndeclaring}
 use Rattle.c_resolved_laws.proofs.LabelsGiven.{count_in}
-use Rattle.c_resolved_laws.proofs.Ranged.{function_ranged}
+use Rattle.c_resolved_laws.proofs.Ranged.{function_ranged, numbers_below}
 use Rattle.whole_laws.proofs.PlainForms.{gathered_join}
 use Rattle.lower_laws.specs.Lowering.{label_codes}
 use Rattle.lower_result_laws.proofs.Lowered.{body_is, result, is_lowered}
@@ -96,10 +96,6 @@ flat_undeclared (Then x xs) w u = at (view x w.0) u.0 (flat_undeclared xs w.1 u.
 pub declared : (x n : ℕ) → gathered declared_slot (declarations x n) ≡ numbers_from x n
 declared x zero = refl
 declared x (suc n) = ap (λ l. x ∷ l) (declared (suc x) n)
-
-numbers_below : (i n m : ℕ) → i + n ≤ m → Each (λ l. l < m) (numbers_from i n)
-numbers_below i zero m h = tt
-numbers_below i (suc n) m h = (omega (arith, h), numbers_below (suc i) n m (omega (arith, h)))
 
 -- ---- codes
 

@@ -4,6 +4,7 @@ use Rattle.std.specs.Prelude.{IsSomeAnd}
 use Rattle.std.specs.Option.{option_map_or}
 use Rattle.std.specs.List.{AllByRecursion}
 use Rattle.std.proofs.lemmas.Option.{unwrap_or-slice_get}
+use Rattle.std.proofs.lemmas.Bool.{cases_lt}
 use Rattle.c_types.specs.declared.kinds.IntKind.{IntKind}
 use Rattle.c_types.specs.Numbers.{converted}
 use Rattle.c_types.specs.Words.{is_word}
@@ -91,15 +92,6 @@ no_slot_there [] x b = refl
 no_slot_there (s ∷ ss) zero b = absurd (omega (arith, b))
 no_slot_there (s ∷ ss) (suc x) b = no_slot_there ss x (omega (arith, b))
 
-is_below : (x n : ℕ) → (x < n) ⊎ (n ≤ x)
-is_below x zero = inr (omega arith)
-is_below zero (suc n) = inl (omega arith)
-is_below (suc x) (suc n) = up (is_below x n)
-  where
-    up : (x < n) ⊎ (n ≤ x) → (suc x < suc n) ⊎ (suc n ≤ suc x)
-    up (inl h) = inl (omega (arith, h))
-    up (inr h) = inr (omega (arith, h))
-
 length_at : (n : ℕ) (ss : List Slot) (x : ℕ) (s : Slot) → AreLengths IsLength (drop n ss) → n ≤ x → slice_get ss x ≡ Some s → IsLength s.cells
 length_at n ss x s h b e = in_drop (λ (r : Slot). IsLength r.cells) n ss x s (as_each (drop n ss) h) b e
   where
@@ -126,7 +118,7 @@ module _ (f : Function) (params : f.params ≤ length f.slots) (used taken : Lis
       subst IsName (sym (named_at G x (entry_or no_slot G x) e)) (in_drop (λ (s : Slot). IsName s.name) f.params G x (entry_or no_slot G x) own.words p e)
 
   pub names_over : (x : ℕ) → IsName (slot_name f.slots x) → IsName (slot_name G x)
-  names_over x h = at (is_below x f.params) (is_below x (length G))
+  names_over x h = at (cases_lt x f.params) (cases_lt x (length G))
     where
       at : (x < f.params) ⊎ (f.params ≤ x) → (x < length G) ⊎ (length G ≤ x) → IsName (slot_name G x)
       at (inl b) o = subst IsName (sym (first_name x f.params f.slots G (same_parameters f params used taken a) b)) h

@@ -1,5 +1,5 @@
 -- Each label of a resolved function stands at most once, and each of its switches has different cases.
-use Rattle.std.proofs.Common.{◌≤◌, ◌≢◌, ℤ, List, [], ◌∷◌, map, length, Option, Some, None, option_map, ◌≡◌, sym, subst}
+use Rattle.std.proofs.Common.{◌≢◌, ℤ, List, [], ◌∷◌, length, Option, Some, None, option_map, ◌≡◌}
 use Rattle.std.specs.Prelude.{IsSomeAnd}
 use Rattle.c_types.specs.declared.kinds.IntKind.{IntKind}
 use Rattle.c_types.specs.Numbers.{promoted}
@@ -7,30 +7,20 @@ use Rattle.c_tree.specs.declared.tree.Function.{Function}
 use Rattle.c_tree.specs.declared.tree.Top.{Top}
 use Rattle.c_tree.specs.TestTrees.{SelectorTree}
 use Rattle.c_tree.specs.Constants.{kind_of}
-use Rattle.c_tree.specs.Cases.{selector_source, selector_kind, case_number}
-use Rattle.c_tree.specs.Trees.{Tree, Sections, Evaluate, Return, If, While, Do, For, Switch, Block, Local, Break, Continue, Goto, Mark, Arm, Leap, Land, Arrival, Note}
+use Rattle.c_tree.specs.Cases.{selector_source, selector_kind}
+use Rattle.c_tree.specs.Trees.{Tree, Evaluate, Return, If, While, Do, For, Switch, Block, Local, Break, Continue, Goto, Mark, Arm, Leap, Land, Arrival, Note}
 use Rattle.c_tree.specs.InRange.{body_of}
 use Rattle.c_tree.proofs.WellMoved.{everywhere_map, everywhere_both}
 use Rattle.jump_meaning.specs.Operations.{operand_kind}
 use Rattle.jump_meaning.specs.Step.{switch_kind}
 use Rattle.flat_laws.specs.Parts as P
-use Rattle.flat_laws.specs.Source.{nones, AreDifferent}
 use Rattle.lower_laws.specs.Source.{HasOwnCases, HasOwnLabels}
 use Rattle.c_resolved_defs.specs.Within.{Each}
 use Rattle.c_resolved_defs.specs.Form.{HasSourceForm}
-use Rattle.c_resolved_defs.specs.Switches.{switch_labels, cases_among, AreLabels, HasCases}
+use Rattle.c_resolved_defs.specs.Switches.{switch_labels, AreLabels, HasCases}
 use Rattle.c_resolved_defs.specs.Limits.{FlatCounts}
 use Rattle.c_resolved_defs.specs.Resolved.{IsResolvedFunction}
-use Rattle.c_resolved_laws.proofs.LabelsGiven.{labels_same, cases_same, nones_same, different, function_labels}
-
-own_labels : (k : IntKind) (c : Sections) → AreLabels k (switch_labels c) →
-    (nones (P.switch_labels c) ≤ 1) × AreDifferent (map (case_number k) (P.cases_among (P.switch_labels c)))
-own_labels k c h =
-    subst (λ ls. (nones ls ≤ 1) × AreDifferent (map (case_number k) (P.cases_among ls))) (sym (labels_same c)) (
-      subst (λ n. n ≤ 1) (sym (nones_same (switch_labels c))) h.single,
-      subst (λ es. AreDifferent (map (case_number k) es)) (sym (cases_same (switch_labels c)))
-          (different k (cases_among (switch_labels c)) h.constant h.distinct),
-    )
+use Rattle.c_resolved_laws.proofs.LabelsGiven.{function_labels, own_labels}
 
 -- a fact of the kind of a selector, and of the kind in which its switch compares
 pub kind_there : (s : SelectorTree) (Q : IntKind → Type 0) → IsSomeAnd (selector_kind s) Q → Q (switch_kind s)

@@ -4,7 +4,7 @@ use Rattle.std.specs.Prelude.{IfSome, nat_lt}
 use Rattle.std.specs.List.{list_any}
 use Rattle.std.specs.Str.{bytes_eq}
 use Rattle.std.proofs.lemmas.Bool.{or_left, or_right, or_parts, false_from_ne_true}
-use Rattle.std.proofs.lemmas.List.{append-nil}
+use Rattle.std.proofs.lemmas.List.{append-nil, drop-append-le, take-append-le}
 use Rattle.std.proofs.lemmas.List.Folds.{list_any-append}
 use Rattle.std.proofs.lemmas.Slice.Eq.{bytes_eq-Decides}
 use Rattle.c_types.specs.Words.{is_word, is_known, known_functions}
@@ -20,7 +20,7 @@ use Rattle.c_tree.specs.Trees.{Forest, trees_of}
 use Rattle.c_tree.proofs.TreeLaws.{trees-none}
 use Rattle.flat_names.specs.FlatNames.{Named, with_known, slot_named, slot_taken, slot_used, named_slots, flat_names_beside}
 use Rattle.c_fresh_names.specs.Fresh.{fresh}
-use Rattle.c_fresh_names.proofs.NameSets.{in_either, no_more}
+use Rattle.c_fresh_names.proofs.NameSets.{in_either, no_more, one_more}
 use Rattle.c_resolved_defs.specs.Within.{Each, AllDiffer}
 use Rattle.c_resolved_defs.specs.Form.{gathered, declared_slot, marked_label}
 use Rattle.c_resolved_defs.specs.Limits.{FlatCounts}
@@ -29,7 +29,7 @@ use Rattle.c_resolved_defs.specs.Resolved.{IsResolvedFunction}
 use Rattle.c_resolved_defs.specs.Spelling.{BodyIsSpelled, FunctionIsSpelled}
 use Rattle.whole_laws.specs.Names.{IsFreeIn, HasOwnNames}
 use Rattle.whole_laws.proofs.GuardsOwn.{tops_other, differ_append}
-use Rattle.whole_laws.proofs.PlainLists.{each_map, each_both, each_append, each_taken, each_dropped, drop_append, take_append}
+use Rattle.whole_laws.proofs.PlainLists.{each_map, each_both, each_append, each_taken, each_dropped}
 use Rattle.flat_function.specs.Own.{used_at_end, IsNamedIn}
 use Rattle.flat_function.proofs.Forms.{named_length}
 use Rattle.flat_function.proofs.FreshNames.{Grows, grows_self, grows_with, own_with}
@@ -42,7 +42,7 @@ use Rattle.lower_laws.specs.Lowering.{most_held, constructs}
 use Rattle.lower_result_laws.proofs.Variables.{used_behind, counted}
 use Rattle.lower_result_laws.proofs.Lowered.{body_is, blocks as the_blocks, switches, slots_are}
 use Rattle.lower_result_laws.proofs.LoweredFacts.{new_slots, slots_length}
-use Rattle.lower_result_laws.proofs.FreshOnes.{In, Out, in_out, out_of, one_more, switches_grow, switches_few, IsNewName, names_of, AreNewNames, switches_new}
+use Rattle.lower_result_laws.proofs.FreshOnes.{In, Out, in_out, out_of, switches_grow, switches_few, IsNewName, names_of, AreNewNames, switches_new}
 
 -- ---- names that don't stand in a file
 
@@ -271,10 +271,10 @@ module _ (counts : FlatCounts) (p : Program) (f : Function) (resolved : IsResolv
       enough = let l = named_length f.params taken used f.slots in omega (arith, l, params)
 
       behind : drop f.params (new_slots f params used taken a) ≡ drop f.params blocks.slots ++ more
-      behind = ap (drop f.params) (slots_are used taken f a) ∙ drop_append f.params blocks.slots more enough
+      behind = ap (drop f.params) (slots_are used taken f a) ∙ drop-append-le f.params blocks.slots more enough
 
       front : take f.params (new_slots f params used taken a) ≡ take f.params blocks.slots
-      front = ap (take f.params) (slots_are used taken f a) ∙ take_append f.params blocks.slots more enough
+      front = ap (take f.params) (slots_are used taken f a) ∙ take-append-le f.params blocks.slots more enough
 
       each_slot : (P : List ℕ → Type 0) (ss : List Slot) → Each P (names_of ss) → Each (λ (s : Slot). P s.name) ss
       each_slot P [] h = tt

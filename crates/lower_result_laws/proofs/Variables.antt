@@ -1,5 +1,5 @@
 -- The variables of a lowered function: those of its source, and behind them one number for each switch.
-use Rattle.std.proofs.Common.{◌≡◌, ℕ, zero, suc, ◌+◌, ◌-◌, ◌≤◌, Bool, true, false, codes, List, [], ◌∷◌, ◌++◌, length, drop, Option, Some, None, refl, sym, ap, subst, ◌∙◌, arith, append_assoc, length-append}
+use Rattle.std.proofs.Common.{◌≡◌, ℕ, zero, suc, ◌+◌, ◌-◌, ◌≤◌, false, codes, List, [], ◌∷◌, ◌++◌, length, drop, Option, Some, None, refl, sym, ap, subst, ◌∙◌, arith, append_assoc, length-append}
 use Rattle.std.specs.Prelude.{nat_lt}
 use Rattle.std.specs.List.{AllByRecursion}
 use Rattle.std.proofs.lemmas.Bool.{le-ltb}
@@ -20,7 +20,7 @@ use Rattle.flat_names.specs.FlatNames.{Named, number_slot, slot_named, slot_take
 use Rattle.lower_laws.specs.Lowered.{variables_of, past, past_item, inside}
 use Rattle.lower_laws.specs.Source.{HaveVariables, HasVariables, HaveVariablesAmong}
 use Rattle.lower_laws.specs.Lowering.{constructs, constructs_in, constructs_among, with_variable, with_variables}
-use Rattle.flat_function.proofs.Forms.{AreNumbers}
+use Rattle.flat_function.proofs.Forms.{AreNumbers, named_kind}
 
 -- ---- the variables of switches
 
@@ -156,10 +156,6 @@ module _ (s : Setting) where
       )
 
 -- ---- the variables of the source
-
-named_kind : (b : Bool) (taken used : List (List ℕ)) (s : Slot) → (s.kind ≡ (slot_named b taken used s).kind) × (s.cells ≡ (slot_named b taken used s).cells)
-named_kind true taken used s = (refl, refl)
-named_kind false taken used s = (refl, refl)
 
 only_numbers : (ks : List IntKind) (vs : List Slot) → AreNumbers ks vs → ExtendSlots [] vs
 only_numbers [] [] h = tt

@@ -1,5 +1,5 @@
 -- What one simplification is, by its kind, and a body on the way.
-use Rattle.std.proofs.Common.{ℕ, refl, ◌≡◌, ◌≢◌, inl, inr, List, Option, Some, None, IsSome, Result, Ok, Err, OnOk, OnErr, sym, ◌∙◌}
+use Rattle.std.proofs.Common.{refl, ◌≡◌, ◌≢◌, inl, inr, List, Some, None, Result, Ok, Err, OnOk, OnErr, sym, ◌∙◌}
 use Rattle.c_tree.specs.declared.tree.Item.{Item}
 use Rattle.c_tree.specs.Trees.{trees_of}
 use Rattle.report_moves.specs.declared.moves.MoveKind.TheVariants.{Z1, Z2, Z3, Z4, Z5}
@@ -7,10 +7,7 @@ use Rattle.guard_simplify.specs.declared.choice.Choice.{Choice}
 use Rattle.guard_simplify.specs.Choice.{Among, choices, barred, first}
 use Rattle.guard_simplify.specs.Application.{IsApplied, IsNext}
 use Rattle.guard_simplify.proofs.Members.{located}
-
-none_some : (o : Option ℕ) → o ≡ None → IsSome o → ⊥
-none_some None e h = cc
-none_some (Some l) e h = cc
+use Rattle.guard_simplify.proofs.Placed.{none_some}
 
 -- which has a label
 pub has_label : (c : Choice) (old : List Item) → Among c (choices (trees_of old)) → c.kind ≡ Z5 → c.label ≢ None

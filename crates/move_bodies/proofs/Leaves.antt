@@ -1,10 +1,8 @@
 -- What the driver knows while a Leap goes out, and when it goes in.
-use Rattle.std.proofs.Common.{◌≡◌, ℕ, zero, suc, ◌<◌, List, [], ◌∷◌, ◌++◌, Bool, true, false, inl, inr, cond, Option, Some, None, option_and_then, length, slice_get, slice_range, get_or, refl, sym, ap, subst, ◌∙◌, arith}
-use Rattle.std.specs.List.{position, position_or_len}
-use Rattle.std.proofs.lemmas.List.Sums.{fails_before_first}
+use Rattle.std.proofs.Common.{◌≡◌, ℕ, zero, suc, ◌<◌, List, [], ◌∷◌, ◌++◌, Bool, true, false, inl, inr, cond, Option, Some, None, option_and_then, slice_get, slice_range, refl, sym, ap, subst, ◌∙◌, arith}
+use Rattle.std.specs.List.{position}
 use Rattle.std.proofs.lemmas.List.Quantifiers.{position-Some}
 use Rattle.std.proofs.lemmas.Option.{slice_get-get_or, slice_get_within, get_or_from_slice_get}
-use Rattle.std.proofs.lemmas.Bool.{true≢false, cases_lt, lt-ltb}
 use Rattle.c_tree.specs.declared.tree.Item.{Item, Leap, Land, out-Item}
 use Rattle.c_tree.specs.declared.tree.Path.{Path}
 use Rattle.c_tree.specs.declared.tree.Step.{Step}
@@ -22,8 +20,9 @@ use Rattle.c_tree.proofs.RuleChanges.{Stands, stands}
 use Rattle.label_offsets.specs.Marks.{is_land}
 use Rattle.label_offsets.proofs.HeldLaws.{land-is, lands-parts, held-is}
 use Rattle.label_offsets.proofs.ItemFacts.{holds_at}
-use Rattle.label_offsets.proofs.ChoiceLaws.{one_land}
+use Rattle.label_offsets.proofs.ChoiceLaws.{one_land, leap_jumps}
 use Rattle.sibling_elim.specs.Sibling.{HasSibling}
+use Rattle.sibling_elim.proofs.PairLemmas.{present}
 use Rattle.outward_moves.specs.Leaving.{IsHeldElsewhere}
 use Rattle.inward_moves.specs.Entering.{LeadsTo, IsHeldAfter}
 use Rattle.report_moves.specs.declared.moves.MoveKind.{MoveKind}
@@ -32,7 +31,7 @@ use Rattle.move_order_laws.specs.Next.{Point, GoesOut, MovesBy}
 use Rattle.move_order_laws.proofs.ListTotals.{lands_within}
 use Rattle.move_order_laws.proofs.Parts.{there_is, ends, lift_parts, out_parts, in_parts, lifted_list, entered_list}
 use Rattle.move_order_laws.proofs.MovesLeft.{lands-leap, range_held}
-use Rattle.move_order_laws.proofs.SomeMove.{snoc, branch_of, leap_jumps, none_or_some, ElementWith, element_with, layer_way}
+use Rattle.move_order_laws.proofs.SomeMove.{snoc, branch_of, none_or_some, ElementWith, element_with, layer_way}
 use Rattle.move_bodies.specs.Moving.{IsMove}
 use Rattle.move_bodies.specs.Leaving.{LeadsOn, IsAhead, AheadIf}
 
@@ -92,16 +91,6 @@ module _ (body : List Item) (at : Path) (l : ℕ) (w : IsWellMade (trees_of body
       }
 
 -- a list without the Land itself
-
-present : {X : Type 0} (p : X → Bool) (xs : List X) (k : ℕ) (d : X) → k < length xs → p (get_or xs k d) ≡ true → position p xs ≡ None → ⊥
-present p xs k d h t e = elim (cases_lt k (position_or_len p xs)) [
-  | inl b ↦ true≢false (sym t ∙ fails_before_first p xs k d b)
-  | inr b ↦
-      let within : position_or_len p xs < length xs = omega arith in
-      let some : Some (position_or_len p xs) ≡ None = sym (ap (λ b. cond b (Some (position_or_len p xs)) None)
-      (lt-ltb (position_or_len p xs) (length xs) within)) ∙ e in
-      cc
-]
 
 no_land : (l : ℕ) (xs : List Item) (k : ℕ) (x : Item) → position (is_land l) xs ≡ None → slice_get xs k ≡ Some x → is_land l x ≡ true → ⊥
 no_land l xs k x e f t =

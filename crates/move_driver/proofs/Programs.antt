@@ -8,12 +8,14 @@ use Rattle.c_tree.specs.declared.tree.Top.{Top}
 use Rattle.c_tree.specs.declared.tree.Top.TheVariants as T
 use Rattle.c_tree.specs.declared.tree.Program.{Program}
 use Rattle.c_tree.specs.InRange.{IsProgramInRange}
+use Rattle.c_tree.proofs.MoveLemmas.{drop_at}
 use Rattle.c_copies.specs.Names.{names, file_names}
 use Rattle.jump_meaning.specs.Laws.{IsTopUnflat}
 use Rattle.move_order_laws.specs.Moved.{IsTopMovable, MovedTops}
 use Rattle.move_order_laws.proofs.Joined.{moved_laws}
+use Rattle.move_order_laws.proofs.Around.{drop_set}
 use Rattle.report_moves.specs.declared.moves.Move.{Move}
-use Rattle.move_programs.proofs.Tops.{dropped, dropped_set, taken_set, taken_all}
+use Rattle.move_programs.proofs.Tops.{taken_set, taken_all}
 use Rattle.c_resolved_laws.specs.Counts.{flat_counts, IsResolved}
 use Rattle.c_resolved_laws.proofs.TheLaws.{resolved_laws}
 use Rattle.plain_form.specs.Plain.{plain}
@@ -42,8 +44,8 @@ pub one_more : (names file : List (List ℕ)) (i : ℕ) (old now : List Top) (t 
     → AreFlatTo names file (suc i) old (slice_set now i u)
 one_more names file i old now t u e f h = record {
   continues = λ us r.
-      let rest : FlattenedTops names file (drop (suc i) now) us = subst (λ z. FlattenedTops names file z us) (dropped_set now i u) r in
-      let here : FlattenedTops names file (drop i now) (u ∷ us) = subst (λ z. FlattenedTops names file z (u ∷ us)) (sym (dropped now i t e)) (fd_more f rest) in
+      let rest : FlattenedTops names file (drop (suc i) now) us = subst (λ z. FlattenedTops names file z us) (drop_set now i u) r in
+      let here : FlattenedTops names file (drop i now) (u ∷ us) = subst (λ z. FlattenedTops names file z (u ∷ us)) (sym (drop_at now i t e)) (fd_more f rest) in
       subst (FlattenedTops names file old) (sym (taken_set now i t u us e)) (h.continues (u ∷ us) here);
 }
 

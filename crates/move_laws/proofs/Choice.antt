@@ -5,6 +5,7 @@ use Rattle.std.specs.List.{list_any}
 use Rattle.std.specs.Option.{IsSomeAnd, option_map_or}
 use Rattle.std.specs.Ordering.{int_eq}
 use Rattle.std.proofs.lemmas.Bool.Decides.{Decides-int_eq}
+use Rattle.std.proofs.lemmas.Bool.{false_from_ne_true, or_cases}
 use Rattle.c_types.specs.declared.kinds.IntKind.{IntKind}
 use Rattle.c_types.specs.Numbers.{promoted}
 use Rattle.c_tree.specs.declared.tree.Branch.TheVariants as B
@@ -70,21 +71,12 @@ some_eq n (Some m) e = ap Some (sym ((Decides-int_eq n m).0 e))
 eq_some : (n : ℤ) (o : Option ℤ) → o ≡ Some n → option_map_or (int_eq n) o false ≡ true
 eq_some n o e = ap (λ p. option_map_or (int_eq n) p false) e ∙ (Decides-int_eq n n).1 refl
 
-or_right : (b c : Bool) → (b || c) ≡ true → (b ≡ true) ⊎ (c ≡ true)
-or_right true c e = inl refl
-or_right false c e = inr e
-
 case_in : (k : IntKind) (n : ℤ) (cs : List ExpressionTree) → list_any (is_case k n) cs ≡ true → In (Some n) (map (case_number k) cs)
 case_in k n [] e = absurd (true≢false (sym e))
-case_in k n (x ∷ cs) e = elim (or_right (is_case k n x) (list_any (is_case k n) cs) e) [
+case_in k n (x ∷ cs) e = elim (or_cases (is_case k n x) (list_any (is_case k n) cs) e) [
   | inl h ↦ inl (some_eq n (case_number k x) h)
   | inr h ↦ inr (case_in k n cs h)
 ]
-
--- the test is false where it can't be true
-never : (b : Bool) → (b ≡ true → ⊥) → b ≡ false
-never true h = absurd (h refl)
-never false h = refl
 
 -- ---- the first section with a label
 
@@ -106,7 +98,7 @@ IsChosen kind n k c = IsFirst (ToCase kind n) k c ⊎ (NoneHas (ToCase kind n) c
 none_free : (kind : IntKind) (n : ℤ) (c : Sections) → (In (Some n) (case_numbers kind c) → ⊥) → NoneHas (ToCase kind n) c
 none_free kind n NoSection h = tt
 none_free kind n (Section cases default a ends c) h = (
-  never (list_any (is_case kind n) cases) (λ e. h (in_front (case_number kind) (Some n) cases (all_cases c) (case_in kind n cases e))),
+  false_from_ne_true (list_any (is_case kind n) cases) (λ e. h (in_front (case_number kind) (Some n) cases (all_cases c) (case_in kind n cases e))),
   none_free kind n c (λ i. h (in_back (case_number kind) (Some n) cases (all_cases c) i)),
 )
 
@@ -122,7 +114,7 @@ first_case kind n k NoSection e es p q h = absurd (let z : [] ≡ e ∷ es = q i
 first_case kind n zero (Section cases default a ends c) e es p q h =
     ap (list_any (is_case kind n)) q ∙ ap (λ b. b || list_any (is_case kind n) es) (eq_some n (case_number kind e) h)
 first_case kind n (suc k) (Section cases default a ends c) e es p q h = (
-  never (list_any (is_case kind n) cases)
+  false_from_ne_true (list_any (is_case kind n) cases)
       (λ t. apart_both (case_number kind) (Some n) cases (all_cases c) p (case_in kind n cases t)
       (in_all kind n k c (subst (λ l. In (Some n) (map (case_number kind) l)) (sym q) (inl h)))),
   first_case kind n k c e es (apart_back (case_number kind) cases (all_cases c) p) q h,

@@ -2,6 +2,7 @@
 use mathlib.Core.Path.{ap₂}
 use Rattle.std.proofs.Common.{ℕ, ℤ, pos, Bool, true, false, not, cond, List, [], ◌∷◌, eqb, Option, Some, None, option_map, Result, Ok, Err, ◌≡◌, refl, ap, sym, ◌∙◌, subst, eqb-true, true≢false}
 use Rattle.std.specs.Option.{option_map_or}
+use Rattle.std.proofs.lemmas.Bool.{false_from_ne_true}
 use Rattle.c_types.specs.declared.trap.Trap.{Trap}
 use Rattle.c_types.specs.Numbers.{promoted}
 use Rattle.c_tree.specs.Operators.{truth}
@@ -76,10 +77,6 @@ undropped_arms : (b : Bool) (l : ℕ) (k : List Task) → b ≡ false → is_dro
 undropped_arms true l k e = absurd (true≢false e)
 undropped_arms false l k e = refl
 
-not_true : (b : Bool) → (b ≡ true → ⊥) → b ≡ false
-not_true true h = absurd (h refl)
-not_true false h = refl
-
 drop_seen : (d : ℕ → Bool) (f : List ℕ) (o : Op) (k : List Task) → Fits d o k → (IsNoCall o → ⊥) → AllTasks NoFact f k →
     is_dropped (task_drop d k) ≡ is_dropped k
 drop_seen d f o [] i n h = refl
@@ -90,7 +87,7 @@ drop_seen d f o (Branches a b ∷ k) i n h = refl
 drop_seen d f o (Turns x ∷ k) i n h = refl
 drop_seen d f o (Loops x ∷ k) i n h = refl
 drop_seen d f o (Heads t u a ∷ k) i n h = refl
-drop_seen d f o (Arms l ∷ k) i n h = undropped_arms (d l) l (task_drop d k) (not_true (d l) (λ e. n (i e)))
+drop_seen d f o (Arms l ∷ k) i n h = undropped_arms (d l) l (task_drop d k) (false_from_ne_true (d l) (λ e. n (i e)))
 drop_seen d f o _ i n h = refl
 
 -- ---- the two programs

@@ -19,6 +19,7 @@ use Rattle.jump_meaning.specs.Steady.{IsUnjumping, IsUnarmed}
 use Rattle.move_laws.proofs.RangesKept.{item_slots_kept}
 use Rattle.move_laws.specs.Simplifications.{DropsAnd, and_here, and_in_and, and_in_or, DropsOr, or_here, or_in_and, or_in_or, ShorterTest, again_and, again_or, only_off, shorter_and, shorter_or, DropsPick, pick_here, pick_in, ShorterSelector, again_pick, shorter_pick, IsOff, round, Simplified, empty_if, shorter_if, shorter_while, shorter_do, shorter_switch, neighbours, nested}
 use Rattle.move_laws.proofs.Numbers.{changed_full, counts_jumps, changed_total_in, SameNumbers, same_numbers, section_breaks}
+use Rattle.move_laws.proofs.Simpler.{same_source}
 
 -- ---- tests and selectors with one wrapper fewer
 
@@ -90,12 +91,8 @@ module _ (P : SelectorTree → Type 0) (out : (l : ℕ) (n : ℤ) (s : SelectorT
   selector_kept (again_pick m n {s = s} {u = u} r) h = inwards m n s u h (pick_dropped m r (out m n s h))
   selector_kept (shorter_pick l n {s = s} {u = u} r) h = inwards l n s u h (selector_kept r (out l n s h))
 
-source_dropped : (m : ℕ) {s u : SelectorTree} → DropsPick m s u → selector_source s ≡ selector_source u
-source_dropped m (pick_here n s) = refl
-source_dropped m (pick_in l n r) = source_dropped m r
-
 source_kept : {s u : SelectorTree} → ShorterSelector s u → selector_source s ≡ selector_source u
-source_kept (again_pick m n r) = source_dropped m r
+source_kept (again_pick m n r) = same_source m r
 source_kept (shorter_pick l n r) = source_kept r
 
 -- ---- what is kept

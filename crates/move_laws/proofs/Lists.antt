@@ -1,8 +1,7 @@
 -- The ways through joined lists and through lists under a guard, and their cores.
 use Rattle.std.proofs.Common.{ℕ, Bool, true, false, not, cond, eqb, ◌≡◌, refl, ap, sym, ◌∙◌}
 use mathlib.Core.Path.{fun_ext}
-use Rattle.c_tree.specs.Trees.{Tree, Forest, Nil, Then, join}
-use Rattle.c_tree.specs.Changed.{one}
+use Rattle.c_tree.specs.Trees.{Forest, Nil, Then, join}
 use Rattle.c_tree.specs.Moves.{guarded}
 use Rattle.c_tree.proofs.TreeLaws.{join-nil, join-join}
 use Rattle.core_laws.specs.Ways.{Known, Way, Past, Lost, ◌▷◌, on_peeled, walk, walks, Follow, before}
@@ -27,12 +26,6 @@ core-join (Then x a) b w =
     ∙ sym (join-join (core_of x (before a (before b w))) (core a (before b w)) (core b w))
 
 -- ---- one item
-
-pub walks-one : (l : ℕ) (x : Tree) → walks l (one x) ≡ walk l x
-walks-one l x = way_past (walk l x)
-
-pub core-one : (x : Tree) (w : Follow) → core (one x) w ≡ core_of x w
-core-one x w = join-nil (core_of x w)
 
 -- ---- lists under a guard
 

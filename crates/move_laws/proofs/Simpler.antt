@@ -36,7 +36,7 @@ without_pick : (m : ℕ) {s u : SelectorTree} → DropsPick m s u → (g : Guard
 without_pick m (pick_here n s) g e = S.pick_inside m n s g e
 without_pick m (pick_in l n r) g e = ap (λ p. cond (g l) (KnownSelector n) p) (without_pick m r g e)
 
-same_source : (m : ℕ) {s u : SelectorTree} → DropsPick m s u → selector_source s ≡ selector_source u
+pub same_source : (m : ℕ) {s u : SelectorTree} → DropsPick m s u → selector_source s ≡ selector_source u
 same_source m (pick_here n s) = refl
 same_source m (pick_in l n r) = same_source m r
 

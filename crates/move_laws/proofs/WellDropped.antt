@@ -21,7 +21,7 @@ defaults_drop : (d : ℕ → Bool) (c : Sections) → defaults (dropped_sections
 defaults_drop d NoSection = refl
 defaults_drop d (Section cases default a ends c) = ap (λ n. cond default 1 0 + n) (defaults_drop d c)
 
-cases_drop : (d : ℕ → Bool) (c : Sections) → all_cases (dropped_sections d c) ≡ all_cases c
+pub cases_drop : (d : ℕ → Bool) (c : Sections) → all_cases (dropped_sections d c) ≡ all_cases c
 cases_drop d NoSection = refl
 cases_drop d (Section cases default a ends c) = ap (λ z. cases ++ z) (cases_drop d c)
 

@@ -2,6 +2,7 @@
 use Rattle.std.proofs.Common.{◌≡◌, ℕ, zero, suc, ◌+◌, ◌≤◌, List, [], ◌∷◌, ◌++◌, Some, take, drop, slice_get, slice_set, refl, sym, ap, ap₂, subst, ◌∙◌, arith}
 use Rattle.std.specs.Prelude.{max}
 use Rattle.std.specs.Option.{option_map_or}
+use Rattle.std.proofs.lemmas.List.{take-set}
 use Rattle.c_tree.specs.declared.tree.Item.{Item, Item-F, out-Item, out-roll-Item}
 use Rattle.c_tree.specs.declared.tree.Item.TheOpen as O
 use Rattle.c_tree.specs.declared.tree.Section.{Section}
@@ -46,12 +47,7 @@ nesting-split xs i x e =
 
 -- a list but for one place
 
-pub take_set : {A : Type 0} (xs : List A) (i : ℕ) (x : A) → take i (slice_set xs i x) ≡ take i xs
-take_set [] i x = refl
-take_set (y ∷ ys) zero x = refl
-take_set (y ∷ ys) (suc i) x = ap (λ l. y ∷ l) (take_set ys i x)
-
-drop_set : {A : Type 0} (xs : List A) (i : ℕ) (x : A) → drop (suc i) (slice_set xs i x) ≡ drop (suc i) xs
+pub drop_set : {A : Type 0} (xs : List A) (i : ℕ) (x : A) → drop (suc i) (slice_set xs i x) ≡ drop (suc i) xs
 drop_set [] i x = refl
 drop_set (y ∷ ys) zero x = refl
 drop_set (y ∷ ys) (suc i) x = drop_set ys i x
@@ -69,7 +65,7 @@ layer_beside_with (B.Section k) n (O.Switch s cs) w a e =
     let t = map_some list_of (slice_get cs k) a e in
     let made = with_list w t.0 in
     ap (λ (l : List Section). max (nesting_in (sections_of (take k l))) (max n (later_in (sections_of (drop (k + 1) l))))) (with_there k w cs t.0 t.1)
-    ∙ ap₂ (λ (l m : List Section). max (nesting_in (sections_of l)) (max n (later_in (sections_of m)))) (take_set cs k made) (drop_set_one cs k made)
+    ∙ ap₂ (λ (l m : List Section). max (nesting_in (sections_of l)) (max n (later_in (sections_of m)))) (take-set cs k made) (drop_set_one cs k made)
 layer_beside_with _ n _ w a e = cc
 
 pub beside_with : (b : Branch) (n : ℕ) (x : Item) (w a : List Item) → child b x ≡ Some a → beside b n (with_child b w x) ≡ beside b n x
@@ -182,7 +178,7 @@ around_step xs s ss n x a e f =
     ∙ ap (λ o. around_element xs s.item (beside s.branch (option_map_or (λ a. around a ss n) o n) x)) f
 
 around_element-set : (xs : List Item) (k n : ℕ) (y : Item) → around_element (slice_set xs k y) k n ≡ around_element xs k n
-around_element-set xs k n y = ap₂ (λ (l m : List Item). max (nesting (trees_of l)) (max (1 + n) (later (trees_of m)))) (take_set xs k y) (drop_set_one xs k y)
+around_element-set xs k n y = ap₂ (λ (l m : List Item). max (nesting (trees_of l)) (max (1 + n) (later (trees_of m)))) (take-set xs k y) (drop_set_one xs k y)
 
 pub around_put : (xs : List Item) (ss : List Step) (n : ℕ) (w a : List Item) → list_at xs ss ≡ Some a → around (put_at xs ss w) ss n ≡ around xs ss n
 around_put xs [] n w a e = refl

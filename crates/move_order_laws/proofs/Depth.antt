@@ -47,7 +47,7 @@ mutual
   changed_sections (in_section cases default ends c r) = let h = changed r in omega arith
   changed_sections (in_later cases default ends a r) = let h = changed_sections r in omega arith
 
-cond_depth : (b : Bool) (x y : Forest) (n : ℕ) → nesting x ≤ n → nesting y ≤ n → nesting (cond b x y) ≤ n
+pub cond_depth : (b : Bool) (x y : Forest) (n : ℕ) → nesting x ≤ n → nesting y ≤ n → nesting (cond b x y) ≤ n
 cond_depth true x y n p q = p
 cond_depth false x y n p q = q
 

@@ -58,7 +58,7 @@ named_joins f labels (k ∷ ks) =
 
 -- ---- simplifications
 
-no_join : (c : Choice) (body : List Item) → Among c (choices (trees_of body)) → is_join c.kind ≡ false
+pub no_join : (c : Choice) (body : List Item) → Among c (choices (trees_of body)) → is_join c.kind ≡ false
 no_join c body h =
     let l = located (λ l. barred l (trees_of body)) c.path.steps body c refl h in
     elim l.shape [

@@ -8,7 +8,7 @@ use Rattle.c_tree.specs.Changed.{one, Changed, ChangedSections, here, within, in
 use Rattle.c_tree.specs.Moves as M
 use Rattle.c_tree.specs.Moves.{Moved, guarded, later_guarded, SectionsLeft, left_here, left_later, SectionsEntered, entered_here, entered_later}
 use Rattle.c_tree.proofs.KeptLemmas.{total-join}
-use Rattle.c_tree.proofs.WellMoved.{changed_lands}
+use Rattle.c_tree.proofs.WellMoved.{changed_lands, lands-entered}
 use Rattle.move_order_laws.specs.Levels.{levels, levels_of}
 
 -- the second list has as many Lands of the label, and each is at most one level deeper; c Lands more are let
@@ -51,10 +51,6 @@ levels-sections_left l m (left_later cases default ends a r) = let p = levels-se
 levels-entered : (l m k : ℕ) {c d : Sections} → SectionsEntered m k c d → total_in (lands_inside l) d ≡ total_in (lands_inside l) c
 levels-entered l m _ (entered_here cases default ends a c z) = omega arith
 levels-entered l m _ (entered_later cases default ends a r) = let p = levels-entered l m _ r in omega arith
-
-lands-entered : (l m k : ℕ) {c d : Sections} → SectionsEntered m k c d → total_in (land_of l) d ≡ total_in (land_of l) c
-lands-entered l m _ (entered_here cases default ends a c z) = omega arith
-lands-entered l m _ (entered_later cases default ends a r) = let p = lands-entered l m _ r in omega arith
 
 entering : (l m : ℕ) (t : Forest) (x y : Tree) → levels_of l y ≤ levels_of l x + lands_of l x →
     levels l (join (guarded m t) (one y)) ≤ levels l (Then (Leap m) (join t (one x))) + lands l (Then (Leap m) (join t (one x)))

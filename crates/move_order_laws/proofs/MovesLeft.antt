@@ -27,6 +27,7 @@ use Rattle.report_moves.specs.declared.moves.MoveKind.TheVariants.{Out, Lift, In
 use Rattle.move_order_laws.proofs.LevelsMoved.{NoDeeper, no_deeper}
 use Rattle.move_order_laws.proofs.Parts.{there_is, OutParts, join_parts, lift_parts, out_parts, in_parts, lifted_list, entered_list, left_list}
 use Rattle.move_order_laws.proofs.ListTotals.{total-split, total-range, list_total, element_total, take_total, early_total, lands_within, other_lists}
+use Rattle.move_order_laws.proofs.SomeMove.{none_or_some}
 
 -- the bound, by how many Lands the list has
 
@@ -165,10 +166,6 @@ out_level l p q outer last t z =
     let e = ap (λ (b : List Item). levels l (trees_of b)) t.body in
     omega (arith, d, e)
 
-cases_zero : (n : ℕ) → (n ≡ 0) ⊎ (0 < n)
-cases_zero zero = inl refl
-cases_zero (suc n) = inr (omega arith)
-
 out_fewer : (l : ℕ) (p q : Point) → GoesOut l p q → lands l (trees_of p.body) ≡ 1 → moves_left l q.body q.at < moves_left l p.body p.at
 out_fewer l p q h one =
     let t = out_parts l p q h in
@@ -194,7 +191,7 @@ out_fewer l p q h one =
           (levels l (trees_of w)) k in
           omega (arith, before, shorter, after, f, all, part, one)
     ] in
-    goal (cases_zero (lands l (trees_of w)))
+    goal (none_or_some (lands l (trees_of w)))
 
 -- each rule but the join
 

@@ -1,10 +1,9 @@
 -- Where no path of a Leap is found in a well made body, none stands in it.
-use Rattle.std.proofs.Common.{◌≡◌, ℕ, ◌+◌, List, [], ◌∷◌, None, length, map, refl, sym, ap, subst, ◌∙◌, arith}
+use Rattle.std.proofs.Common.{◌≡◌, ℕ, ◌+◌, List, [], ◌∷◌, None, map, refl, sym, ap, subst, ◌∙◌, arith}
 use Rattle.c_tree.specs.declared.tree.Item.{Item, Item-F, roll-Item, ind-Item, map-Item}
 use Rattle.c_tree.specs.declared.tree.Item.TheOpen as O
 use Rattle.c_tree.specs.declared.tree.Section.{Section, roll-Section, fold-roll-Section}
 use Rattle.c_tree.specs.declared.tree.Section as Real
-use Rattle.c_tree.specs.declared.tree.Path.{Path}
 use Rattle.c_tree.specs.Trees.{Tree, Forest, Nil, Then, Sections, NoSection, Section as SectionOf, If, While, Do, For, Switch, Block, Leap, SectionTree, forest, sections, layer, section_layer, tree_of, trees_of, section_tree}
 use Rattle.c_tree.specs.Everywhere.{total_of, total_in, Everywhere, EverywhereOf, EverywhereIn}
 use Rattle.c_tree.specs.WellMade.{IsPlainFor, IsWellMade}
@@ -12,6 +11,7 @@ use Rattle.c_tree.proofs.ChangeLemmas.{tree-roll}
 use Rattle.label_offsets.specs.Leaps.{leaps_from, first}
 use Rattle.label_offsets.proofs.LeapCounts as C
 use Rattle.label_offsets.proofs.LeapCounts.{leap_layer, leap_section_layer, leaps_in, leaps_in_section, leaps_in_list, leaps_in-roll, length-leaps_from}
+use Rattle.label_offsets.proofs.FirstFound.{none_first}
 use Rattle.move_order_laws.specs.Leaps.{leap_of, leaps}
 
 -- without the first parts of `for`s, which are not searched
@@ -103,9 +103,5 @@ mutual
   all_found_in NoSection h = refl
   all_found_in (SectionOf cases default a ends c) h = let p = all_found a h.0 in let q = all_found_in c h.1 in omega (arith, p, q)
 
-none : (ps : List Path) → first ps ≡ None → length ps ≡ 0
-none [] e = refl
-none (p ∷ ps) e = cc
-
 pub no_leaps : (body : List Item) → IsWellMade (trees_of body) → first (leaps_from 0 body) ≡ None → leaps (trees_of body) ≡ 0
-no_leaps body w e = all_found (trees_of body) w.loops ∙ sym (found_list body) ∙ sym (length-leaps_from body 0) ∙ none (leaps_from 0 body) e
+no_leaps body w e = all_found (trees_of body) w.loops ∙ sym (found_list body) ∙ sym (length-leaps_from body 0) ∙ none_first (leaps_from 0 body) e

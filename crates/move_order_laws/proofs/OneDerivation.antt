@@ -80,7 +80,7 @@ one_elimination l (moves k p r ms new m d) (moves j q s ns other n f) e w =
       body_same = rest.body_same;
     }
 
-same_label : (l m : ℕ) (o : Option Item) → o ≡ Some (Leap l) → o ≡ Some (Leap m) → l ≡ m
+pub same_label : (l m : ℕ) (o : Option Item) → o ≡ Some (Leap l) → o ≡ Some (Leap m) → l ≡ m
 same_label l m o e f =
     let x : Leap l ≡ Leap m = some_same (sym e ∙ f) in
     some_same (sym (leap_label-Leap l) ∙ ap leap_label x ∙ leap_label-Leap m)

@@ -3,6 +3,7 @@ use Rattle.std.proofs.Common.{◌≡◌, inl, inr, ℕ, zero, suc, ◌+◌, ◌�
 use Rattle.std.specs.Prelude.{Contains}
 use Rattle.std.specs.Option.{IsSomeAnd}
 use Rattle.std.proofs.lemmas.Bool.{cases_lt}
+use Rattle.std.proofs.lemmas.List.{same_from_push}
 use Rattle.c_types.specs.declared.kinds.IntKind.{IntKind}
 use Rattle.c_tree.specs.declared.tree.Item.{Item, Item-F, Land, out-Item, roll-Item}
 use Rattle.c_tree.specs.declared.tree.Item.TheOpen as O
@@ -23,10 +24,11 @@ use Rattle.c_tree.specs.Labels.{land_of, lands, lands_of, lands_inside}
 use Rattle.c_tree.specs.Everywhere.{total_in}
 use Rattle.c_tree.specs.ExpressionTrees.{ExpressionTree}
 use Rattle.c_tree.specs.Cases.{SelectsBranch, IsNumberFor, IsFree, case_numbers, selector_kind, cases_at}
-use Rattle.c_tree.specs.Trees.{Sections, tree_of, trees_of, sections_of, SectionTree}
-use Rattle.c_tree.proofs.TreeLaws.{tree-Land, sections-more, section-parts}
+use Rattle.c_tree.specs.Trees.{Sections, tree_of, trees_of, sections_of}
+use Rattle.c_tree.proofs.TreeLaws.{tree-Land}
 use Rattle.c_tree.proofs.ChangeLemmas.{layer_tree, tree-out}
 use Rattle.c_tree.proofs.MoveLemmas.{some_same}
+use Rattle.label_offsets.proofs.HeldLaws.{section_lands-first}
 use Rattle.report_moves.specs.declared.moves.MoveKind.{MoveKind}
 use Rattle.report_moves.specs.declared.moves.MoveKind.TheVariants.{Out, Lift, Inward}
 use Rattle.move_order_laws.specs.Next.{Point, GoesOut, IsLifted, GoesIn, IsJoined, MovesBy}
@@ -144,40 +146,23 @@ module _ (l : ℕ) (p : Point) (one : lands l (trees_of p.body) ≡ 1) where
 
 -- rule O
 
-snoc_same : {A : Type 0} (xs ys : List A) (x y : A) → xs ++ x ∷ [] ≡ ys ++ y ∷ [] → (xs ≡ ys) × (x ≡ y)
-snoc_same [] [] x y e = let h : x ≡ y = cc in (refl, h)
-snoc_same [] (z ∷ []) x y e = cc
-snoc_same [] (z ∷ w ∷ ys) x y e = cc
-snoc_same (z ∷ []) [] x y e = cc
-snoc_same (z ∷ w ∷ xs) [] x y e = cc
-snoc_same (z ∷ xs) (w ∷ ys) x y e =
-    let h : z ≡ w = cc in
-    let g : xs ++ x ∷ [] ≡ ys ++ y ∷ [] = cc in
-    let r = snoc_same xs ys x y g in
-    (ap₂ (λ a b. a ∷ b) h r.0, r.1)
-
 points : (p q : Point) → p.body ≡ q.body → p.at ≡ q.at → p ≡ q
 points p q e f = ap₂ (λ (b : List Item) (a : Path). record { body = b; at = a }) e f
 
 one_out : (l : ℕ) (p q r : Point) → GoesOut l p q → GoesOut l p r → q ≡ r
 one_out l p q r h g =
-    let s = snoc_same h.outer g.outer h.last g.last (sym h.steps ∙ g.steps) in
+    let s = same_from_push h.outer g.outer h.last g.last (sym h.steps ∙ g.steps) in
     points q r
     (h.moves.body ∙ ap₂ (λ (o : List Step) (z : Step). moved_out_at l o z p.at.item p.body) s.0 s.1 ∙ sym g.moves.body)
     (h.moves.path ∙ ap₂ path_outside s.0 s.1 ∙ sym g.moves.path)
 
 -- rule I: the branch, and what the number does
 
-section_lands : (l : ℕ) (c : Section) (cs : List Section) → total_in (land_of l) (sections_of (c ∷ cs)) ≡ lands l (trees_of (list_of c)) + total_in
-    (land_of l) (sections_of cs)
-section_lands l c cs = ap (total_in (land_of l)) (sections-more c cs) ∙
-    ap (λ (z : SectionTree). lands l z.list + total_in (land_of l) (sections_of cs)) (section-parts c)
-
 section_some : (l : ℕ) (cs : List Section) (k : ℕ) (a : List Item) → option_map list_of (slice_get cs k) ≡ Some a →
     lands l (trees_of a) ≤ total_in (land_of l) (sections_of cs)
 section_some l [] k a e = cc
-section_some l (c ∷ cs) zero a e = let h : list_of c ≡ a = cc in let g = ap (λ z. lands l (trees_of z)) h in let m = section_lands l c cs in omega (arith, g, m)
-section_some l (c ∷ cs) (suc k) a e = let m = section_lands l c cs in let h = section_some l cs k a e in omega (arith, m, h)
+section_some l (c ∷ cs) zero a e = let h : list_of c ≡ a = cc in let g = ap (λ z. lands l (trees_of z)) h in let m = section_lands-first l c cs in omega (arith, g, m)
+section_some l (c ∷ cs) (suc k) a e = let m = section_lands-first l c cs in let h = section_some l cs k a e in omega (arith, m, h)
 
 one_section : (l : ℕ) (cs : List Section) (j k : ℕ) (a c : List Item) → option_map list_of (slice_get cs j) ≡ Some a →
     option_map list_of (slice_get cs k) ≡ Some c → 0 < lands l (trees_of a) → 0 < lands l (trees_of c)
@@ -185,12 +170,12 @@ one_section : (l : ℕ) (cs : List Section) (j k : ℕ) (a c : List Item) → op
 one_section l [] j k a c e f p q one = cc
 one_section l (x ∷ cs) zero zero a c e f p q one = refl
 one_section l (x ∷ cs) zero (suc k) a c e f p q one =
-    let h : list_of x ≡ a = cc in let g = ap (λ z. lands l (trees_of z)) h in let m = section_lands l x cs in let n = section_some l cs k c f in
+    let h : list_of x ≡ a = cc in let g = ap (λ z. lands l (trees_of z)) h in let m = section_lands-first l x cs in let n = section_some l cs k c f in
     absurd (omega (arith, g, m, n, p, q, one))
 one_section l (x ∷ cs) (suc j) zero a c e f p q one =
-    let h : list_of x ≡ c = cc in let g = ap (λ z. lands l (trees_of z)) h in let m = section_lands l x cs in let n = section_some l cs j a e in
+    let h : list_of x ≡ c = cc in let g = ap (λ z. lands l (trees_of z)) h in let m = section_lands-first l x cs in let n = section_some l cs j a e in
     absurd (omega (arith, g, m, n, p, q, one))
-one_section l (x ∷ cs) (suc j) (suc k) a c e f p q one = let m = section_lands l x cs in ap suc (one_section l cs j k a c e f p q (omega (arith, m, one)))
+one_section l (x ∷ cs) (suc j) (suc k) a c e f p q one = let m = section_lands-first l x cs in ap suc (one_section l cs j k a c e f p q (omega (arith, m, one)))
 
 while_body : (b : Branch) (t : Test) (x : List Item) → HasBranch_F b (O.While t x) → b ≡ B.Body
 while_body B.Body t x h = refl

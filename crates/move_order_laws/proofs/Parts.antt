@@ -24,7 +24,7 @@ use Rattle.c_tree.specs.Trees.{trees_of, tree_of}
 use Rattle.c_tree.proofs.PathLemmas.{map_some, get_set, stepped, list_step, list_put}
 use Rattle.c_tree.proofs.ExchangeLemmas.{list-append}
 use Rattle.c_tree.proofs.MoveLemmas.{some_same}
-use Rattle.c_tree.proofs.RuleChanges.{stands, held_some}
+use Rattle.c_tree.proofs.RuleChanges.{stands, held_some, item_there}
 use Rattle.move_order_laws.specs.Next.{Point, GoesOut, IsLifted, GoesIn, IsJoined}
 
 pub there_is : (xs : List Item) (steps : List Step) (a : List Item) → list_at xs steps ≡ Some a → list_there xs steps ≡ a
@@ -32,10 +32,6 @@ there_is xs steps a e = ap (λ o. unwrap_or o []) e
 
 pub same_list : (xs : List Item) (steps : List Step) (a b : List Item) → list_at xs steps ≡ Some a → list_at xs steps ≡ Some b → b ≡ a
 same_list xs steps a b e f = some_same (sym f ∙ e)
-
-item_there : (xs : List Item) (steps : List Step) (i : ℕ) (a : List Item) (x : Item) → list_at xs steps ≡ Some a → slice_get a i ≡ Some x →
-    item_at xs steps i ≡ Some x
-item_there xs steps i a x e f = ap (option_and_then (λ a. slice_get a i)) e ∙ f
 
 -- the item at a place of a list that is known
 item_in : (xs : List Item) (steps : List Step) (i : ℕ) (a : List Item) (x : Item) → list_at xs steps ≡ Some a → item_at xs steps i ≡ Some x →

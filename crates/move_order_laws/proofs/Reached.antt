@@ -2,7 +2,7 @@
 use Rattle.std.proofs.Common.{◌≡◌, ℕ, zero, suc, ◌+◌, ◌-◌, ◌≤◌, ◌<◌, ℤ, List, [], ◌∷◌, ◌++◌, Some, length, take, drop, slice_get, slice_set, slice_range, refl, sym, ap, ap₂, ◌∙◌, arith}
 use Rattle.std.specs.Prelude.{max}
 use Rattle.std.specs.Option.{option_map_or}
-use Rattle.std.proofs.lemmas.List.{take-append-drop, take_at, length-append, length-take-le}
+use Rattle.std.proofs.lemmas.List.{take-append-drop, take_at, length-append, length-take-le, take-set}
 use Rattle.std.proofs.lemmas.List.Folds.{drop_split}
 use Rattle.std.proofs.Math.Seq.{drop-append-add}
 use Rattle.std.proofs.lemmas.Option.{slice_get_within}
@@ -27,7 +27,7 @@ use Rattle.c_tree.proofs.MoveLemmas.{trees-three, trees-guarded}
 use Rattle.move_order_laws.specs.Nesting.{nesting, nesting_of, nesting_in, later, later_in, beside_F, beside, around_element, around, at_leap, reach}
 use Rattle.move_order_laws.specs.Next.{Point}
 use Rattle.move_order_laws.proofs.Parts.{there_is, LiftParts, InParts, lifted_child, child-Do, lifted_list, moved_in_is, entered_child, entered_at, entered_list}
-use Rattle.move_order_laws.proofs.Around.{nesting_some, nesting-join, later_more, later_most, nesting-split, beside_more, beside_nesting, around_step, around_put, around-append, around_more, nesting_around, around_nesting, take_set, drop_set_one}
+use Rattle.move_order_laws.proofs.Around.{nesting_some, nesting-join, later_more, later_most, nesting-split, beside_more, beside_nesting, around_step, around_put, around-append, around_more, nesting_around, around_nesting, drop_set_one}
 
 pub nesting-three : (a b : List Item) (x : Item) → nesting (trees_of (a ++ x ∷ b)) ≡ max (nesting (trees_of a))
     (max (1 + nesting_of (tree_of x)) (nesting (trees_of b)))
@@ -164,7 +164,7 @@ layer_beside_entered l n (B.Section k) m (O.Switch s cs) a e h =
     let made = with_list (Leap l ∷ list_of t.0) t.0 in
     ap (λ o. (λ (l : List Section). max (nesting_in (sections_of (take k l))) (max m (later_in (sections_of (drop (k + 1) l)))))
     (option_map_or (λ c. slice_set cs k (with_list (Leap l ∷ list_of c) c)) o cs)) t.1
-    ∙ ap₂ (λ (l r : List Section). max (nesting_in (sections_of l)) (max m (later_in (sections_of r)))) (take_set cs k made) (drop_set_one cs k made)
+    ∙ ap₂ (λ (l r : List Section). max (nesting_in (sections_of l)) (max m (later_in (sections_of r)))) (take-set cs k made) (drop_set_one cs k made)
 layer_beside_entered l n _ m _ a e h = absurd h
 
 beside_entered : (l : ℕ) (n : ℤ) (b : Branch) (m : ℕ) (x : Item) (a : List Item) → child b x ≡ Some a → HasBranch b x →

@@ -1,18 +1,16 @@
 -- Each well made body has a derivation, and how much deeper it makes the body.
-use Rattle.std.proofs.Common.{◌≡◌, ◌⊎◌, inl, inr, ℕ, zero, suc, ◌+◌, ◌*◌, ◌≤◌, ◌<◌, List, [], ◌∷◌, ◌++◌, Option, Some, None, option_and_then, length, take, drop, slice_get, refl, sym, ap, ◌∙◌, arith}
+use Rattle.std.proofs.Common.{◌≡◌, ◌⊎◌, inl, inr, ℕ, zero, suc, ◌+◌, ◌*◌, ◌≤◌, ◌<◌, List, [], ◌∷◌, ◌++◌, Option, Some, None, length, take, drop, slice_get, refl, sym, ap, ◌∙◌, arith}
 use Rattle.std.specs.Option.{option_map_or}
 use Rattle.std.proofs.lemmas.List.{length-append, length-take-le}
 use Rattle.std.proofs.lemmas.Option.{slice_get_within}
 use Rattle.c_tree.specs.declared.tree.Item.{Item, Leap, Land, roll-Item, roll-out-Item}
 use Rattle.c_tree.specs.declared.tree.Item.TheVariants.{rolls-Leap}
 use Rattle.c_tree.specs.declared.tree.Path.{Path}
-use Rattle.c_tree.specs.declared.tree.Step.{Step}
-use Rattle.c_tree.specs.Paths.{list_at, item_at}
-use Rattle.c_tree.specs.Labels.{lands}
+use Rattle.c_tree.specs.Paths.{item_at}
 use Rattle.c_tree.specs.Outward.{left, moved_out}
 use Rattle.c_tree.specs.Trees.{trees_of}
 use Rattle.c_tree.specs.WellMade.{IsWellMade}
-use Rattle.c_tree.proofs.RuleChanges.{stands}
+use Rattle.c_tree.proofs.RuleChanges.{stands, item_there}
 use Rattle.label_offsets.specs.Leaps.{leaps_from, first}
 use Rattle.label_offsets.proofs.FirstFound.{first_found}
 use Rattle.label_offsets.proofs.ChoiceLaws.{one_land}
@@ -37,10 +35,6 @@ use Rattle.move_order_laws.proofs.SomeMove.{SomeMove, SomeJoin, some_move}
 
 -- the Leap after a move
 
-item_of : (xs : List Item) (steps : List Step) (i : ℕ) (a : List Item) (x : Item) → list_at xs steps ≡ Some a → slice_get a i ≡ Some x →
-    item_at xs steps i ≡ Some x
-item_of xs steps i a x e f = ap (option_and_then (λ a. slice_get a i)) e ∙ f
-
 leap_out : (l : ℕ) (p q : Point) → GoesOut l p q → HasLeap l q
 leap_out l p q h =
     let t = out_parts l p q h in
@@ -53,7 +47,7 @@ leap_out l p q h =
     t.item_is ∙ one_more front x (Leap l ∷ back) in
     let size : length (front ++ x ∷ []) ≡ h.last.item + 1 = length-append front (x ∷ []) ∙ ap (λ m. m + 1)
     (length-take-le h.last.item t.list (omega (arith, n))) in
-    item_of q.body q.at.steps q.at.item (moved_out l h.last.item h.last.branch p.at.item t.list) (Leap l) (left_list l p q h.outer h.last t)
+    item_there q.body q.at.steps q.at.item (moved_out l h.last.item h.last.branch p.at.item t.list) (Leap l) (left_list l p q h.outer h.last t)
     (ap (slice_get (moved_out l h.last.item h.last.branch p.at.item t.list)) t.after ∙ ap (λ z. slice_get z (h.last.item + 1)) made ∙
     get_middle (front ++ x ∷ []) back (Leap l) (h.last.item + 1) size) where
       one_more : {A : Type 0} (ys : List A) (y : A) (zs : List A) → ys ++ y ∷ zs ≡ (ys ++ y ∷ []) ++ zs
@@ -62,9 +56,9 @@ leap_out l p q h =
 
 pub leap_after : (k : MoveKind) (l : ℕ) (p q : Point) → MovesBy k l p q → HasLeap l q
 leap_after Out l p q h = leap_out l p q h
-leap_after Lift l p q h = let t = lift_parts l p q h in item_of q.body q.at.steps q.at.item _ (Leap l) (lifted_list l p q h.place t)
+leap_after Lift l p q h = let t = lift_parts l p q h in item_there q.body q.at.steps q.at.item _ (Leap l) (lifted_list l p q h.place t)
     (ap (slice_get (Leap l ∷ _)) t.first)
-leap_after Inward l p q h = let t = in_parts l p q h in item_of q.body q.at.steps q.at.item _ (Leap l)
+leap_after Inward l p q h = let t = in_parts l p q h in item_there q.body q.at.steps q.at.item _ (Leap l)
     (entered_list l p q h.number h.place h.branch t) (ap (slice_get (Leap l ∷ _)) t.first)
 leap_after _ l p q h = absurd h
 
@@ -108,7 +102,7 @@ found_leap : (body : List Item) (at : Path) → first (leaps_from 0 body) ≡ So
 found_leap body at e =
     let f = first_found body at e in
     let x : f.item ≡ Leap f.label = sym (roll-out-Item f.item) ∙ ap roll-Item f.label_is ∙ rolls-Leap f.label in
-    (f.label, item_of body at.steps at.item f.list (Leap f.label) f.list_is (f.item_is ∙ ap (λ z. Some z) x))
+    (f.label, item_there body at.steps at.item f.list (Leap f.label) f.list_is (f.item_is ∙ ap (λ z. Some z) x))
 
 module _ (body : List Item) (w : IsWellMade (trees_of body))
     (rest : (mid : List Item) → leaps (trees_of mid) < leaps (trees_of body) → IsWellMade (trees_of mid) → HasDerivation mid) where
@@ -144,10 +138,6 @@ way l (moves k p q ms new m e) =
     let s = r.size in
     record { count = suc r.count; last = r.last; goes_there = goes k m r.goes_there; join = r.join; size = omega (arith, s) }
 
-all_lands : (l : ℕ) {n : ℕ} {p q : Point} → Goes l n p q → lands l (trees_of p.body) ≡ 1 →
-    (moves_left l q.body q.at + n ≤ moves_left l p.body p.at) × (lands l (trees_of q.body) ≡ 1)
-all_lands l r one = all_fewer l r one
-
 bounded : (l : ℕ) (p : Point) (land : Path) (ms : List Kept) (new : List Item) → IsWellMade (trees_of p.body) → Eliminates l p ms new →
     item_at p.body land.steps land.item ≡ Some (Land l)
     → length ms ≤ length p.at.steps + length land.steps + 3
@@ -155,7 +145,7 @@ bounded l p land ms new w e h =
     let leap = leap_first l e in
     let one = one_land p.body w l p.at leap in
     let r = way l e in
-    let f = (all_lands l r.goes_there one).0 in
+    let f = (all_fewer l r.goes_there one).0 in
     let s = join_some l r.last new r.join in
     let t = stands p.body p.at.steps p.at.item (Leap l) leap in
     let m = left_most l p.body p.at t.list t.list_is in
@@ -179,7 +169,7 @@ joined : (l : ℕ) (p : Point) (ms : List Kept) (new : List Item) → IsWellMade
 joined l p ms new w e =
     let one = one_land p.body w l p.at (leap_first l e) in
     let r = way l e in
-    no_deeper_joined l new r.goes_there r.join one (all_lands l r.goes_there one).1
+    no_deeper_joined l new r.goes_there r.join one (all_fewer l r.goes_there one).1
 
 derived : {body : List Item} {ms : List Kept} {new : List Item} → Derives body ms new → IsWellMade (trees_of body) →
     nesting (trees_of new) ≤ nesting (trees_of body) + 3 * leaps (trees_of body)
@@ -190,7 +180,7 @@ derived (chooses body at l ms ns mid new f e d) w =
     let c = eliminated_leaps l e in
     omega (arith, a, b, c)
 
-none_left : {body : List Item} {ms : List Kept} {new : List Item} → Derives body ms new → first (leaps_from 0 new) ≡ None
+pub none_left : {body : List Item} {ms : List Kept} {new : List Item} → Derives body ms new → first (leaps_from 0 new) ≡ None
 none_left (ends body e) = e
 none_left (chooses body at l ms ns mid new f e d) = none_left d
 

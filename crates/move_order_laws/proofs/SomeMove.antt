@@ -30,8 +30,8 @@ use Rattle.c_tree.specs.Join.{Holds, joined_at}
 use Rattle.c_tree.specs.Lift.{lifted_at, path_lifted}
 use Rattle.c_tree.specs.Outward.{HasBranch_F, HasBranch, moved_out_at, path_outside}
 use Rattle.c_tree.specs.Inward.{moved_in_at, path_inside}
-use Rattle.c_tree.specs.Labels.{land_of, lands, lands_of, lands_inside, jump_of, jumps}
-use Rattle.c_tree.specs.Everywhere.{total_of, total_in, Everywhere}
+use Rattle.c_tree.specs.Labels.{land_of, lands, lands_of, lands_inside, jumps}
+use Rattle.c_tree.specs.Everywhere.{total_in, Everywhere}
 use Rattle.c_tree.specs.TestTrees.{selector_tree}
 use Rattle.c_tree.specs.Trees.{Tree, tree_of, trees_of, sections_of}
 use Rattle.c_tree.specs.WellMade.{IsConverted, IsPlainFor, HasSelectorKind, HasCases, IsWellMade}
@@ -45,11 +45,10 @@ use Rattle.c_tree.proofs.RuleChanges.{Stands, stands}
 use Rattle.label_offsets.specs.Marks.{is_land}
 use Rattle.label_offsets.proofs.HeldLaws.{lands-parts, held-is, land-is, section_lands-first}
 use Rattle.label_offsets.proofs.ItemFacts.{holds_at}
-use Rattle.label_offsets.proofs.ChoiceLaws.{one_land}
+use Rattle.label_offsets.proofs.ChoiceLaws.{one_land, leap_jumps}
 use Rattle.report_moves.specs.declared.moves.MoveKind.{MoveKind}
 use Rattle.report_moves.specs.declared.moves.MoveKind.TheVariants.{Out, Lift, Inward}
 use Rattle.move_order_laws.specs.Next.{Point, IsJoined, MovesBy}
-use Rattle.move_order_laws.proofs.ListTotals.{total-split}
 use Rattle.move_order_laws.proofs.Parts.{there_is, ends}
 
 -- a number that no case has
@@ -192,12 +191,6 @@ branch_of B.Then (O.If t x z) a e j c f = tt
 branch_of B.Else (O.If t x z) a e j c f = tt
 branch_of (B.Section k) (O.Switch s cs) a e j c f = tt
 branch_of _ _ a e j c f = cc
-
-pub leap_jumps : (a : List Item) (i l : ℕ) → slice_get a i ≡ Some (Leap l) → 0 < jumps (trees_of a)
-leap_jumps a i l e =
-    let s = total-split jump_of a i (Leap l) e in
-    let t = ap (total_of jump_of) (tree-Leap l) in
-    omega (arith, s, t)
 
 -- an element that is the Land or holds it
 

@@ -21,7 +21,7 @@ use Rattle.move_order_laws.specs.Leaps.{leaps}
 use Rattle.move_order_laws.specs.MoveFunctionCounts.{joined}
 use Rattle.move_order_laws.specs.Next.{Point}
 use Rattle.move_order_laws.proofs.NoLeaps.{no_leaps}
-use Rattle.move_order_laws.proofs.OneDerivation.{leap_there}
+use Rattle.move_order_laws.proofs.OneDerivation.{leap_there, same_label}
 use Rattle.move_order_laws.proofs.OneMove.{one_move, join_alone}
 use Rattle.move_bodies.specs.Moving.{MovesTo, IsMove}
 use Rattle.move_bodies.specs.Lawful.{IsLawfulMove, IsMade}
@@ -29,7 +29,7 @@ use Rattle.whole_laws.proofs.Flattened.{body_is}
 use Rattle.restructure_laws.specs.Lawful.{IsLeapMoved, IsSimplifiedBy, IsMovedBy, this_function, none, more}
 use Rattle.restructure_laws.specs.Replayed.{IsTopWellMade, top_leaps}
 use Rattle.restructure_laws.proofs.Whole.{lawful_laws}
-use Rattle.restructure_laws.proofs.OneBody.{leap_some, same_label, moved_leap}
+use Rattle.restructure_laws.proofs.OneBody.{leap_some, moved_leap}
 
 -- ---- Leaps
 

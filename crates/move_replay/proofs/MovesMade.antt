@@ -1,5 +1,5 @@
 -- Moves in the functions of a program, one place after another.
-use Rattle.std.proofs.Common.{◌≡◌, ℕ, zero, suc, ◌+◌, ◌<◌, ◌≤◌, List, [], ◌∷◌, ◌++◌, map, Option, Some, None, IfSome, All, slice_get, slice_set, get_or, take, drop, length, refl, sym, ap, subst, ◌∙◌, arith}
+use Rattle.std.proofs.Common.{◌≡◌, ℕ, zero, suc, ◌+◌, ◌<◌, List, [], ◌∷◌, ◌++◌, map, Option, Some, None, IfSome, All, slice_get, slice_set, get_or, take, drop, length, sym, ap, subst, ◌∙◌, arith}
 use Rattle.std.proofs.lemmas.List.Elements.{All-head, All-tail}
 use Rattle.c_tree.specs.InRange.{body_of}
 use Rattle.c_tree.specs.declared.tree.Function.{Function}
@@ -16,12 +16,6 @@ use Rattle.restructure_laws.proofs.Whole.{lawful_laws}
 use Rattle.move_replay.specs.Steps.{IsFlatOf, IsLeaplessAt, IsPlaceOf, IsTopMoved}
 
 -- ---- lists
-
-pub taken : {A : Type 0} (xs : List A) (i : ℕ) → length xs ≤ i → take i xs ≡ xs
-taken [] zero h = refl
-taken [] (suc i) h = refl
-taken (x ∷ xs) zero h = absurd (omega arith)
-taken (x ∷ xs) (suc i) h = let g : length xs ≤ i = omega arith in ap (λ z. x ∷ z) (taken xs i g)
 
 pub got : {A : Type 0} (xs : List A) (i : ℕ) (x : A) → i < length xs → x ≡ get_or xs i x → slice_get xs i ≡ Some x
 got [] i x h e = absurd (omega arith)

@@ -9,7 +9,8 @@ use Rattle.c_tree.specs.declared.tree.Item.TheVariants.{rolls-Evaluate, rolls-If
 use Rattle.c_tree.specs.declared.tree.Section.{Section, roll-Section, fold-roll-Section}
 use Rattle.c_tree.specs.declared.tree.Selector as S
 use Rattle.c_tree.specs.declared.tree.Test as T
-use Rattle.plain_laws.specs.Plain.{item_step, section_step, plain_item, plain_section, plain_items, plain_test, plain_selector, ended, given, tidied_step, tidied_item, tidied_section, tidied}
+use Rattle.c_tree.specs.SectionLabels.{labels_passed}
+use Rattle.plain_laws.specs.Plain.{item_step, section_step, plain_item, plain_section, plain_items, plain_test, plain_selector, ended, tidied_step, tidied_item, tidied_section, tidied}
 use Rattle.plain_form.specs.declared.slots.Slots.{Slots}
 use Rattle.plain_form.specs.declared.slots.Guards.{Guards}
 use Rattle.plain_form.specs.declared.slots.Guards.TheVariants.{Kept, Variables}
@@ -125,7 +126,7 @@ module _ (s : Slots) where
   tidied-Do : (a : List Item) (t : T.Test) → tidied_item (V.Do a t) ≡ V.Do (tidied a) t
   tidied-Do a t = ap tidied_item (sym (rolls-Do a t)) ∙ tidied_roll (Do a t) ∙ rolls-Do (tidied a) t
 
-  tidied-Switch : (e : S.Selector) (cs : List Section) → tidied_item (V.Switch e cs) ≡ V.Switch e (given (map tidied_section cs))
+  tidied-Switch : (e : S.Selector) (cs : List Section) → tidied_item (V.Switch e cs) ≡ V.Switch e (labels_passed (map tidied_section cs))
   tidied-Switch e cs = ap tidied_item (sym (rolls-Switch e cs)) ∙ tidied_roll (Switch e cs)
 
   abbrev step : Item-F Item Section → Item
@@ -138,7 +139,7 @@ module _ (s : Slots) where
   variable_step (Do a t) = sym (tidied-Do _ (T.Source (plain_test (slot_in s) t)) ∙ ap (λ p. V.Do p (T.Source (plain_test (slot_in s) t))) (lists_then a))
   variable_step (Switch e cs) =
       sym (tidied-Switch (S.Source (plain_selector (slot_in s) e)) _ ∙
-      ap (λ p. V.Switch (S.Source (plain_selector (slot_in s) e)) (given p)) (sections_then cs))
+      ap (λ p. V.Switch (S.Source (plain_selector (slot_in s) e)) (labels_passed p)) (sections_then cs))
   variable_step (For f t u a) =
       sym (tidied_roll _ ∙ ap₂ (λ p q. roll-Item (For p t u q)) (lists_then f) (lists_then a))
   variable_step (Block a) = sym (tidied_roll _ ∙ ap (λ p. roll-Item (Block p)) (lists_then a))

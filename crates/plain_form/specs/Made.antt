@@ -1,5 +1,5 @@
 -- The plain form of a body as it is made: guards become variables or stay, and sections get their ends, in one walk.
-use Rattle.std.specs.Prelude.{ℕ, List, [], ◌∷◌, map, Option}
+use Rattle.std.specs.Prelude.{ℕ, List, map, Option}
 use Rattle.c_tree.specs.declared.tree.Expression.{Expression}
 use Rattle.c_tree.specs.declared.tree.Test.{Test, Source}
 use Rattle.c_tree.specs.declared.tree.Selector.{Selector}
@@ -9,7 +9,8 @@ use Rattle.c_tree.specs.declared.tree.Item.TheOpen as I
 use Rattle.c_tree.specs.declared.tree.Section.{Section, fold-Section}
 use Rattle.c_types.specs.declared.kinds.IntKind.TheVariants.{Int}
 use Rattle.std.specs.Prelude.{pos}
-use Rattle.plain_laws.specs.Plain.{number, guard_set, armed, plain_test, plain_selector, slot_among, ended, given}
+use Rattle.c_tree.specs.SectionLabels.{labels_passed}
+use Rattle.plain_laws.specs.Plain.{number, guard_set, armed, plain_test, plain_selector, slot_among, ended}
 use Rattle.plain_form.specs.declared.slots.Slots.{Slots}
 use Rattle.plain_form.specs.declared.slots.Guards.{Guards}
 use Rattle.plain_form.specs.declared.slots.Guards.TheVariants.{Kept, Variables}
@@ -45,7 +46,7 @@ made_step g (I.Land l) = land_made g l
 made_step g (I.If t a b) = If (test_made g t) a b
 made_step g (I.While t a) = While (test_made g t) a
 made_step g (I.Do a t) = Do a (test_made g t)
-made_step g (I.Switch s cs) = Switch (selector_made g s) (given cs)
+made_step g (I.Switch s cs) = Switch (selector_made g s) (labels_passed cs)
 made_step g x = roll-Item x
 
 -- an item
@@ -60,14 +61,6 @@ made_section g c = fold-Section Item Section (made_step g) ended c
 abbrev pub made_items : Guards → List Item → List Item
 made_items g xs = map (made_item g) xs
 
--- sections, without what they give to each other
+-- sections, before they pass labels to each other
 abbrev pub made_sections : Guards → List Section → List Section
 made_sections g cs = map (made_section g) cs
-
--- ---- sections, one after another
-
--- what is made of sections, of which the last may still give to the next, and of those that follow
-abbrev pub given_after : List Section → List Section → List Section
-given_after [] cs = given cs
-given_after (c ∷ []) cs = given (c ∷ cs)
-given_after (c ∷ d ∷ ds) cs = c ∷ given_after (d ∷ ds) cs

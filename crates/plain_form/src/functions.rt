@@ -5,12 +5,11 @@ ghost use Rattle.plain_laws.specs.Plain.{guard_slot, numbers_from, variable_decl
 use crate::expressions::number;
 use crate::items::{plain_items, tidied_items};
 use crate::left::{Left, guards_left};
-use crate::sections::joined;
 use crate::slots::Slots;
 use crate::staying::stays;
 use c_fresh_names::UsedNames;
 use c_tree::{Function, Item, Slot};
-use c_types::{IntKind, List, MOST, Memory, Name};
+use c_types::{IntKind, List, MOST, Memory, Name, concatenated};
 use guard_vars::guard_names_beside;
 use std::alloc::Global;
 use std::mem;
@@ -44,14 +43,14 @@ fn declare_guards(alloc: Global, from: u32, to: u32) -> Result<List<Item>, Memor
 }
 
 /// The declarations of a function's block variables and of its guards, whose labels these are.
-fn declared(alloc: Global, function: &Function, left: &List<u32>) -> Result<List<Item>, Memory>
+fn declarations(alloc: Global, function: &Function, left: &List<u32>) -> Result<List<Item>, Memory>
     requires { length function.now.slots + length left.now ≤ 4294967295 }
     ensures { IfOk result (λ it. it ≡ the_declared function.now left.now) }
 {
     let base = function.slots.len() as u32;
     let variables = declare_variables(alloc, function.params, base)?;
     let guards = declare_guards(alloc, base, base + left.len() as u32)?;
-    joined(variables, guards)
+    concatenated(variables, guards)
 }
 
 fn with_guard_slots(slots: List<Slot>, names: List<Name>) -> Result<List<Slot>, Memory>
@@ -81,13 +80,13 @@ fn guarded_body(
     if left.len() > MOST - base {
         return Err(Memory);
     }
-    let declared = declared(alloc, function, &left)?;
+    let declared = declarations(alloc, function, &left)?;
     let slots = Slots {
         base: base as u32,
         left,
     };
     let items = plain_items(alloc, slots, body)?;
-    joined(declared, items)
+    concatenated(declared, items)
 }
 
 fn with_guard_variables(

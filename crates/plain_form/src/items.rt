@@ -1,12 +1,13 @@
 ghost use Rattle.std.specs.Prelude.{◌≡◌, length, IfOk, OnOk};
-ghost use Rattle.plain_laws.specs.Plain.{given as the_given, ended as the_ended, plain_items as the_plain_items, slot_among, tidied};
+ghost use Rattle.c_tree.specs.SectionLabels.{labels_passed as the_labels_passed};
+ghost use Rattle.plain_laws.specs.Plain.{ended as the_ended, plain_items as the_plain_items, slot_among, tidied};
 ghost use Rattle.c_tree.specs.declared.tree.Section.{out-Section};
 ghost use Rattle.plain_form.specs.Made.{test_made, selector_made, arm_made, land_made, made_item as the_made_item, made_section as the_made_section, made_items as the_made_items, made_sections as the_made_sections};
 
 use crate::expressions::{armed, guard_set, number, plain_selector, plain_test};
-use crate::sections::{end, given};
+use crate::sections::end;
 use crate::slots::{Guards, Slots};
-use c_tree::{Expression, Item, Section, Selector, Test};
+use c_tree::{Expression, Item, Section, Selector, Test, labels_passed};
 use c_types::{IntKind, List, Memory};
 use std::alloc::Global;
 use std::mem;
@@ -72,10 +73,10 @@ fn make_selector(alloc: Global, guards: &Guards, selector: &mut Selector) -> Res
 
 /// Gives the sections their entries, each to the next.
 fn give(alloc: Global, sections: &mut List<Section>) -> Result<(), Memory>
-    ensures { OnOk result (sections.new ≡ the_given sections.old) }
+    ensures { OnOk result (sections.new ≡ the_labels_passed sections.old) }
 {
     let taken = mem::replace(sections, List::new(alloc));
-    let made = given(alloc, taken)?;
+    let made = labels_passed(alloc, taken)?;
     drop(mem::replace(sections, made));
     Ok(())
 }

@@ -2,6 +2,7 @@
 use Rattle.std.proofs.Common.{ℕ, suc, ◌≤◌, ℤ, pos, negsuc, neg_ℤ, Bool, true, false, not, cond, ◌&&◌, nat_le, List, ◌∷◌, Some, Result, Ok, Err, ◌≡◌, refl, sym, ap, ◌∙◌, arith}
 use Rattle.std.proofs.lemmas.Int.{ints}
 use Rattle.std.proofs.lemmas.Bool.Decides.{nat_tests}
+use Rattle.std.proofs.lemmas.Bool.{cond-false, cond-true}
 use Rattle.c_types.specs.declared.kinds.ArithOp.TheVariants.{Sub}
 use Rattle.c_types.specs.declared.kinds.IntKind.{IntKind}
 use Rattle.c_types.specs.declared.kinds.IntKind.TheVariants.{Char, UChar, Int, UInt, Long, ULong}
@@ -83,14 +84,6 @@ unsigned_in n h = let p = h.from_least in grind (arith, ints)
 unsigned_long_in : (n : ℕ) → IsInRange ULong (negsuc n) → ⊥
 unsigned_long_in n h = let p = h.from_least in grind (arith, ints)
 
-take_true : {A : Type 0} (b : Bool) (x y : A) → b ≡ true → cond b x y ≡ x
-take_true true x y e = refl
-take_true false x y e = cc
-
-take_false : {A : Type 0} (b : Bool) (x y : A) → b ≡ false → cond b x y ≡ y
-take_false true x y e = cc
-take_false false x y e = refl
-
 abbrev minus : IntKind → ℕ → ExpressionTree
 minus k n = Typed (Some k) (Unary Minus (number k (pos (suc n))))
 
@@ -125,14 +118,14 @@ module _ (q : Code) (f : List ℕ) (g : Guards) (cs : List Frame) (w : World) (k
       let n_is : n ≡ 2147483647 = grind (arith, ints, nat_tests) in
       record {
         steps = 5;
-        is = ap (λ x. run q 6 (from x)) (take_true (nat_le 2147483647 n) (least_constant Int) (minus Int n) e) ∙ least_int_comes ∙
+        is = ap (λ x. run q 6 (from x)) (cond-true (nat_le 2147483647 n) (least_constant Int) (minus Int n) e) ∙ least_int_comes ∙
             ap (λ m. to (negsuc m)) (sym n_is);
       }
   int_comes n h false e =
       let small : suc n ≤ 2147483647 = grind (arith, nat_tests) in
       record {
         steps = 2;
-        is = ap (λ x. run q 3 (from x)) (take_false (nat_le 2147483647 n) (least_constant Int) (minus Int n) e) ∙
+        is = ap (λ x. run q 3 (from x)) (cond-false (nat_le 2147483647 n) (least_constant Int) (minus Int n) e) ∙
             ap after (minus_int n small);
       }
 
@@ -142,14 +135,14 @@ module _ (q : Code) (f : List ℕ) (g : Guards) (cs : List Frame) (w : World) (k
       let n_is : n ≡ 9223372036854775807 = grind (arith, ints, nat_tests) in
       record {
         steps = 5;
-        is = ap (λ x. run q 6 (from x)) (take_true (nat_le 9223372036854775807 n) (least_constant Long) (minus Long n) e) ∙
+        is = ap (λ x. run q 6 (from x)) (cond-true (nat_le 9223372036854775807 n) (least_constant Long) (minus Long n) e) ∙
             least_long_comes ∙ ap (λ m. to (negsuc m)) (sym n_is);
       }
   long_comes n h false e =
       let small : suc n ≤ 9223372036854775807 = grind (arith, nat_tests) in
       record {
         steps = 2;
-        is = ap (λ x. run q 3 (from x)) (take_false (nat_le 9223372036854775807 n) (least_constant Long) (minus Long n) e) ∙
+        is = ap (λ x. run q 3 (from x)) (cond-false (nat_le 9223372036854775807 n) (least_constant Long) (minus Long n) e) ∙
             ap after (minus_long n small);
       }
 

@@ -68,7 +68,7 @@ with_call c new sh d = cond (eqb c d) new (sh d)
 abbrev pub start_shape : FunctionTree → List Value → Shape
 start_shape f vs = record { slots = f.slots; own = λ x. is_own (slot_at_start f vs x) }
 
-call_apart : (n d : ℕ) → d ≤ n → eqb (suc n) d ≡ false
+pub call_apart : (n d : ℕ) → d ≤ n → eqb (suc n) d ≡ false
 call_apart n d h = at (eqb (suc n) d) refl
   where
     at : (b : Bool) → eqb (suc n) d ≡ b → b ≡ false

@@ -1,5 +1,6 @@
 -- Each label whose guard is named in a body is left, and the slots of those that are left are new and apart.
 use Rattle.std.proofs.Common.{◌≡◌, ℕ, suc, ◌+◌, ◌≤◌, ◌<◌, ◌==◌, Bool, true, false, ◌||◌, cond, eqb, List, [], ◌∷◌, map, length, refl, sym, ap, subst, ◌∙◌, true≢false, eqb-true, eq-eqb, arith}
+use Rattle.std.proofs.lemmas.Bool.{or_left, or_right, eqb-false}
 use Rattle.c_tree.specs.declared.tree.Item.{Item, Item-F, roll-Item, fold-roll-Item, ind-Item, map-Item}
 use Rattle.c_tree.specs.declared.tree.Item.TheOpen.{Section-F, If, While, Do, For, Switch, Block, Arm, Land}
 use Rattle.c_tree.specs.declared.tree.Section.{Section, roll-Section, fold-roll-Section}
@@ -16,14 +17,6 @@ use Rattle.c_tree.specs.Labels.{TestLabels, SelectorLabels}
 use Rattle.c_tree.proofs.ExpressionLaws.{test-Source, test-On, test-Off, test-AndOff, test-OrOn, selector-Source, selector-Pick}
 use Rattle.plain_laws.specs.Slotted.{ArmLabels, AreInts}
 use Rattle.plain_laws.specs.Plain.{test_names_step, test_names, selector_names_step, selector_names, any_true, names_step, section_names_step, item_names, section_names, is_left, labels_left, names_left, slot_among, guard_slot}
-
-or_left : (a b : Bool) → a ≡ true → (a || b) ≡ true
-or_left true b e = refl
-or_left false b e = cc
-
-or_right : (a b : Bool) → b ≡ true → (a || b) ≡ true
-or_right true b e = refl
-or_right false b e = e
 
 -- a label of which it is known that it is named has R
 module _ (R : ℕ → Type 0) where
@@ -151,16 +144,13 @@ among_by true false n l ls q h k = or_right (eqb n l) _ (k refl)
 among_by false true n l ls q h k = absurd (true≢false (sym (h refl)))
 among_by false false n l ls q h k = k refl
 
-different : (n l : ℕ) → eqb n l ≡ false → n ≡ l → ⊥
-different n l q e = true≢false (sym (eq-eqb n l e) ∙ q)
-
 -- a label that is left is among them
 pub left_among : (xs : List Item) (n : ℕ) (ms : List (List ℕ)) (l : ℕ) → is_left xs l ≡ true → n ≤ l → l < n + length ms →
     is_among l (labels_left xs n ms) ≡ true
 left_among xs n [] l e g h = absurd (omega (arith, g, h))
 left_among xs n (m ∷ ms) l e g h =
     among_by (is_left xs n) (eqb n l) n l (labels_left xs (n + 1) ms) refl (λ q. ap (is_left xs) (eqb-true n l q) ∙ e)
-    (λ q. let d = different n l q in left_among xs (n + 1) ms l e (grind arith) (omega (arith, h)))
+    (λ q. let d = eqb-false n l q in left_among xs (n + 1) ms l e (grind arith) (omega (arith, h)))
 
 chosen_below : (c : Bool) (n x y : ℕ) → n ≤ x → n ≤ y → n ≤ cond c x y
 chosen_below true n x y h g = h

@@ -50,7 +50,7 @@ first None o = o
 abbrev pub picked : List ℕ → List Top → Option Function
 picked m ts = first (found (λ f. is_some f.body) m ts) (found (λ f. true) m ts)
 
-map_choice : {A B : Type 0} (h : A → B) (b : Bool) (x y : Option A) → option_map h (cond b x y) ≡ cond b (option_map h x) (option_map h y)
+pub map_choice : {A B : Type 0} (h : A → B) (b : Bool) (x y : Option A) → option_map h (cond b x y) ≡ cond b (option_map h x) (option_map h y)
 map_choice h true x y = refl
 map_choice h false x y = refl
 

@@ -1,5 +1,6 @@
 -- The plain form of a program whose functions have no jumps left has no jumps and no guards.
 use Rattle.std.proofs.Common.{◌≡◌, ℕ, Bool, true, false, not, ◌&&◌, cond, Option, Some, None, pos, if◌then◌else◌, List, [], ◌∷◌, ◌++◌, map, length, refl, sym, ap, subst, ◌∙◌}
+use Rattle.std.proofs.lemmas.Bool.{and_from}
 use Rattle.c_tree.specs.declared.tree.Expression.{Expression}
 use Rattle.c_tree.specs.declared.tree.Item.{Item, Item-F, roll-Item, fold-roll-Item, ind-Item, map-Item}
 use Rattle.c_tree.specs.declared.tree.Item.TheOpen.{Section-F, Evaluate, Return, If, While, Do, For, Switch, Block, Local, Break, Continue, Goto, Mark, Arm, Leap, Land, Arrival, Note}
@@ -15,7 +16,8 @@ use Rattle.c_tree.specs.declared.tree.Program.{Program}
 use Rattle.c_types.specs.declared.kinds.IntKind.TheVariants.{Int}
 use Rattle.c_tree.specs.Jumps.{all_true, is_source_selector, holds_throughout, section_holds_throughout, throughout_step, section_throughout_step, is_jump_free_layer, is_plain_layer, is_jump_free, is_plain, is_plain_function, is_jump_free_function, is_plain_program, is_jump_free_program, top_holds, body_holds}
 use Rattle.c_tree.specs.TextItems.{is_empty}
-use Rattle.plain_laws.specs.Plain.{item_step, section_step, plain_item, plain_section, plain_items, plain_test, plain_selector, last_is_break, without_last, ended, with_entries, give_to, given, tidied_step, tidied_item, tidied_section, tidied, slot_among, labels_left, variable_declared, guard_declared, numbers_from, number, declared, guarded_body, with_guard_variables, plain_body, plain_top, plain_with}
+use Rattle.c_tree.specs.SectionLabels.{with_entries, pass_to, labels_passed}
+use Rattle.plain_laws.specs.Plain.{item_step, section_step, plain_item, plain_section, plain_items, plain_test, plain_selector, last_is_break, without_last, ended, tidied_step, tidied_item, tidied_section, tidied, slot_among, labels_left, variable_declared, guard_declared, numbers_from, number, declared, guarded_body, with_guard_variables, plain_body, plain_top, plain_with}
 
 abbrev free : Item → Bool
 free x = holds_throughout is_jump_free_layer x
@@ -31,22 +33,18 @@ section_shown c = section_holds_throughout is_plain_layer c
 
 -- tests
 
-both_true : (a b : Bool) → a ≡ true → b ≡ true → (a && b) ≡ true
-both_true true b p q = q
-both_true false b p q = p
-
-first_true : (a b : Bool) → (a && b) ≡ true → a ≡ true
+pub first_true : (a b : Bool) → (a && b) ≡ true → a ≡ true
 first_true true b p = refl
 first_true false b p = p
 
-second_true : (a b : Bool) → (a && b) ≡ true → b ≡ true
+pub second_true : (a b : Bool) → (a && b) ≡ true → b ≡ true
 second_true true b p = p
 second_true false b p = cc
 
 all_true_append : {A : Type 0} (f : A → Bool) (xs ys : List A) → all_true (map f xs) ≡ true → all_true (map f ys) ≡ true → all_true (map f (xs ++ ys)) ≡ true
 all_true_append f [] ys p q = q
 all_true_append f (x ∷ xs) ys p q =
-    both_true (f x) (all_true (map f (xs ++ ys))) (first_true (f x) (all_true (map f xs)) p)
+    and_from (f x) (all_true (map f (xs ++ ys))) (first_true (f x) (all_true (map f xs)) p)
     (all_true_append f xs ys (second_true (f x) (all_true (map f xs)) p) q)
 
 -- what a plain item has
@@ -82,11 +80,11 @@ shown-Switch s cs = ap shown (sym (rolls-Switch s cs)) ∙ shown_roll (Switch s 
 
 variables_shown : (ks : List ℕ) → is_plain (map variable_declared ks) ≡ true
 variables_shown [] = refl
-variables_shown (k ∷ ks) = both_true (shown (variable_declared k)) (is_plain (map variable_declared ks)) (shown-Local k None) (variables_shown ks)
+variables_shown (k ∷ ks) = and_from (shown (variable_declared k)) (is_plain (map variable_declared ks)) (shown-Local k None) (variables_shown ks)
 
 guards_shown : (ks : List ℕ) → is_plain (map guard_declared ks) ≡ true
 guards_shown [] = refl
-guards_shown (k ∷ ks) = both_true (shown (guard_declared k)) (is_plain (map guard_declared ks)) (shown-Local k (Some (number Int (pos 0) ∷ [])))
+guards_shown (k ∷ ks) = and_from (shown (guard_declared k)) (is_plain (map guard_declared ks)) (shown-Local k (Some (number Int (pos 0) ∷ [])))
     (guards_shown ks)
 
 declared_shown : (f : Function) (ls : List ℕ) → is_plain (declared f ls) ≡ true
@@ -118,7 +116,7 @@ module _ (slot : ℕ → ℕ) where
   list_shown : (a : List I) → all_true (map free (map item_of a)) ≡ true → all_true (map shown (map (plain_item slot) (map item_of a))) ≡ true
   list_shown [] p = p
   list_shown (e ∷ a) p =
-      both_true (shown (plain_item slot e.0)) (all_true (map shown (map (plain_item slot) (map item_of a))))
+      and_from (shown (plain_item slot e.0)) (all_true (map shown (map (plain_item slot) (map item_of a))))
       (e.1 (first_true (free e.0) (all_true (map free (map item_of a))) p))
       (list_shown a (second_true (free e.0) (all_true (map free (map item_of a))) p))
 
@@ -126,7 +124,7 @@ module _ (slot : ℕ → ℕ) where
       all_true (map section_shown (map (plain_section slot) (map section_of a))) ≡ true
   sections_shown [] p = p
   sections_shown (e ∷ a) p =
-      both_true (section_shown (plain_section slot e.0)) (all_true (map section_shown (map (plain_section slot) (map section_of a))))
+      and_from (section_shown (plain_section slot e.0)) (all_true (map section_shown (map (plain_section slot) (map section_of a))))
       (e.1 (first_true (section_free e.0) (all_true (map section_free (map section_of a))) p))
       (sections_shown a (second_true (section_free e.0) (all_true (map section_free (map section_of a))) p))
 
@@ -136,12 +134,12 @@ module _ (slot : ℕ → ℕ) where
       (map-Item I C Item Section item_of section_of y))) ≡ true
   layer (If t a b) p =
       shown-If (plain_test slot t) _ _
-      ∙ both_true _ _ (list_shown a (first_true _ _ p)) (list_shown b (second_true _ _ p))
+      ∙ and_from _ _ (list_shown a (first_true _ _ p)) (list_shown b (second_true _ _ p))
   layer (While t a) p = shown-While (plain_test slot t) _ ∙ list_shown a p
   layer (Do a t) p = shown-Do (plain_test slot t) _ ∙ list_shown a p
   layer (For f t u a) p =
       shown_roll (For (map (plain_item slot) (map item_of f)) t u (map (plain_item slot) (map item_of a)))
-      ∙ both_true _ _ (list_shown f (first_true _ _ p)) (list_shown a (second_true _ _ p))
+      ∙ and_from _ _ (list_shown f (first_true _ _ p)) (list_shown a (second_true _ _ p))
   layer (Switch s cs) p = shown-Switch (S.Source (plain_selector slot s)) _ ∙ sections_shown cs p
   layer (Block a) p = shown_roll (Block (map (plain_item slot) (map item_of a))) ∙ list_shown a p
   layer (Goto l) p = cc
@@ -170,7 +168,7 @@ module _ (slot : ℕ → ℕ) where
   items_shown : (xs : List Item) → is_jump_free xs ≡ true → is_plain (plain_items slot xs) ≡ true
   items_shown [] p = refl
   items_shown (x ∷ xs) p =
-      both_true (shown (plain_item slot x)) (is_plain (plain_items slot xs)) (item_shown x (first_true (free x) (is_jump_free xs) p))
+      and_from (shown (plain_item slot x)) (is_plain (plain_items slot xs)) (item_shown x (first_true (free x) (is_jump_free xs) p))
       (items_shown xs (second_true (free x) (is_jump_free xs) p))
 
 -- ---- the sections of switches
@@ -179,7 +177,7 @@ without_shown : (xs : List Item) → all_true (map shown xs) ≡ true → all_tr
 without_shown [] p = refl
 without_shown (x ∷ []) p = refl
 without_shown (x ∷ y ∷ ys) p =
-    both_true (shown x) (all_true (map shown (without_last (y ∷ ys)))) (first_true (shown x) (all_true (map shown (y ∷ ys))) p)
+    and_from (shown x) (all_true (map shown (without_last (y ∷ ys)))) (first_true (shown x) (all_true (map shown (y ∷ ys))) p)
     (without_shown (y ∷ ys) (second_true (shown x) (all_true (map shown (y ∷ ys))) p))
 
 ended_by : (b : Bool) (c : Section-F Item Section) → all_true (map shown c.list) ≡ true
@@ -193,14 +191,14 @@ out_shown c p = sym (section_roll (out-Section c)) ∙ ap section_shown (roll-ou
 give_by : (b : Bool) (c d : Section) (ds : List Section) → section_shown c ≡ true → all_true (map section_shown (d ∷ ds)) ≡ true →
     all_true (map section_shown (cond b (with_entries (out-Section c) d ∷ ds) (c ∷ d ∷ ds))) ≡ true
 give_by true c d ds p q =
-    both_true (section_shown (with_entries (out-Section c) d)) (all_true (map section_shown ds))
+    and_from (section_shown (with_entries (out-Section c) d)) (all_true (map section_shown ds))
     (section_roll _ ∙ out_shown d (first_true (section_shown d) (all_true (map section_shown ds)) q))
     (second_true (section_shown d) (all_true (map section_shown ds)) q)
-give_by false c d ds p q = both_true (section_shown c) (all_true (map section_shown (d ∷ ds))) p q
+give_by false c d ds p q = and_from (section_shown c) (all_true (map section_shown (d ∷ ds))) p q
 
 give_shown : (c : Section) (ds : List Section) → section_shown c ≡ true → all_true (map section_shown ds) ≡ true →
-    all_true (map section_shown (give_to c ds)) ≡ true
-give_shown c [] p q = both_true (section_shown c) true p refl
+    all_true (map section_shown (pass_to c ds)) ≡ true
+give_shown c [] p q = and_from (section_shown c) true p refl
 give_shown c (d ∷ ds) p q = let o = out-Section c in give_by (is_empty o.list && not o.ends) c d ds p q
 
 abbrev TidyP : Item → Type 0
@@ -224,13 +222,14 @@ tc e = e.0
 tidy_list : (a : List TI) → all_true (map shown (map ti a)) ≡ true → all_true (map shown (map tidied_item (map ti a))) ≡ true
 tidy_list [] p = p
 tidy_list (e ∷ a) p =
-    both_true (shown (tidied_item e.0)) (all_true (map shown (map tidied_item (map ti a))))
+    and_from (shown (tidied_item e.0)) (all_true (map shown (map tidied_item (map ti a))))
     (e.1 (first_true (shown e.0) (all_true (map shown (map ti a))) p)) (tidy_list a (second_true (shown e.0) (all_true (map shown (map ti a))) p))
 
-tidy_sections : (a : List TC) → all_true (map section_shown (map tc a)) ≡ true → all_true (map section_shown (given (map tidied_section (map tc a)))) ≡ true
+tidy_sections : (a : List TC) → all_true (map section_shown (map tc a)) ≡ true →
+    all_true (map section_shown (labels_passed (map tidied_section (map tc a)))) ≡ true
 tidy_sections [] p = p
 tidy_sections (e ∷ a) p =
-    give_shown (tidied_section e.0) (given (map tidied_section (map tc a)))
+    give_shown (tidied_section e.0) (labels_passed (map tidied_section (map tc a)))
     (e.1 (first_true (section_shown e.0) (all_true (map section_shown (map tc a))) p))
     (tidy_sections a (second_true (section_shown e.0) (all_true (map section_shown (map tc a))) p))
 
@@ -238,12 +237,13 @@ tidy_layer : (y : Item-F TI TC) → shown_layer (map-Item TI TC Item Section ti 
     shown (tidied_step (map-Item Item Section Item Section tidied_item tidied_section (map-Item TI TC Item Section ti tc y))) ≡ true
 tidy_layer (If t a b) p =
     shown_roll (If t (map tidied_item (map ti a)) (map tidied_item (map ti b)))
-    ∙ both_true _ _ (first_true _ _ p) (both_true _ _ (tidy_list a (first_true _ _ (second_true _ _ p))) (tidy_list b (second_true _ _ (second_true _ _ p))))
-tidy_layer (While t a) p = shown_roll (While t (map tidied_item (map ti a))) ∙ both_true _ _ (first_true _ _ p) (tidy_list a (second_true _ _ p))
-tidy_layer (Do a t) p = shown_roll (Do (map tidied_item (map ti a)) t) ∙ both_true _ _ (first_true _ _ p) (tidy_list a (second_true _ _ p))
+    ∙ and_from _ _ (first_true _ _ p) (and_from _ _ (tidy_list a (first_true _ _ (second_true _ _ p))) (tidy_list b (second_true _ _ (second_true _ _ p))))
+tidy_layer (While t a) p = shown_roll (While t (map tidied_item (map ti a))) ∙ and_from _ _ (first_true _ _ p) (tidy_list a (second_true _ _ p))
+tidy_layer (Do a t) p = shown_roll (Do (map tidied_item (map ti a)) t) ∙ and_from _ _ (first_true _ _ p) (tidy_list a (second_true _ _ p))
 tidy_layer (For f t u a) p = shown_roll (For (map tidied_item (map ti f)) t u (map tidied_item (map ti a))) ∙
-    both_true _ _ (tidy_list f (first_true _ _ p)) (tidy_list a (second_true _ _ p))
-tidy_layer (Switch s cs) p = shown-Switch s (given (map tidied_section (map tc cs))) ∙ both_true _ _ (first_true _ _ p) (tidy_sections cs (second_true _ _ p))
+    and_from _ _ (tidy_list f (first_true _ _ p)) (tidy_list a (second_true _ _ p))
+tidy_layer (Switch s cs) p = shown-Switch s (labels_passed (map tidied_section (map tc cs))) ∙
+    and_from _ _ (first_true _ _ p) (tidy_sections cs (second_true _ _ p))
 tidy_layer (Block a) p = shown_roll (Block (map tidied_item (map ti a))) ∙ tidy_list a p
 tidy_layer (Goto l) p = cc
 tidy_layer (Mark l) p = cc
@@ -269,7 +269,7 @@ tidy_item = ind-Item TidyP TidyQ
 
 tidied_shown : (xs : List Item) → is_plain xs ≡ true → is_plain (tidied xs) ≡ true
 tidied_shown [] p = refl
-tidied_shown (x ∷ xs) p = both_true (shown (tidied_item x)) (is_plain (tidied xs)) (tidy_item x (first_true (shown x) (is_plain xs) p))
+tidied_shown (x ∷ xs) p = and_from (shown (tidied_item x)) (is_plain (tidied xs)) (tidy_item x (first_true (shown x) (is_plain xs) p))
     (tidied_shown xs (second_true (shown x) (is_plain xs) p))
 
 -- ---- functions and programs
@@ -297,7 +297,7 @@ tops_shown : (names : Function → List (List ℕ)) (ts : List Top) → all_true
     all_true (map (top_holds is_plain_function) (map (plain_top names) ts)) ≡ true
 tops_shown names [] p = refl
 tops_shown names (t ∷ ts) p =
-    both_true (top_holds is_plain_function (plain_top names t)) (all_true (map (top_holds is_plain_function) (map (plain_top names) ts)))
+    and_from (top_holds is_plain_function (plain_top names t)) (all_true (map (top_holds is_plain_function) (map (plain_top names) ts)))
     (top_shown names t (first_true (top_holds is_jump_free_function t) (all_true (map (top_holds is_jump_free_function) ts)) p))
     (tops_shown names ts (second_true (top_holds is_jump_free_function t) (all_true (map (top_holds is_jump_free_function) ts)) p))
 

@@ -58,7 +58,7 @@ record SameTrees (a b : FunctionTree) : Type 0 where
   body : is_some b.body ≡ is_some a.body
   slots : Grown a.slots b.slots
 
-some_mapped : {A B : Type 0} (h : A → B) (o : Option A) → is_some (option_map h o) ≡ is_some o
+pub some_mapped : {A B : Type 0} (h : A → B) (o : Option A) → is_some (option_map h o) ≡ is_some o
 some_mapped h None = refl
 some_mapped h (Some x) = refl
 

@@ -13,7 +13,8 @@ use Rattle.c_tree.specs.Trees.{Tree, Forest, Sections, SectionTree, layer, secti
 use Rattle.c_tree.proofs.TreeLaws.{tree-Evaluate, tree-Return, tree-If, tree-While, tree-Do, tree-For, tree-Switch, tree-Block, tree-Local, tree-Break, tree-Continue, tree-Goto, tree-Mark, tree-Arm, tree-Leap, tree-Land, tree-Arrival, tree-Note, trees-none, trees-more, sections-none, sections-more, section-parts}
 use Rattle.plain_laws.specs.Tidied as D
 use Rattle.c_tree.specs.TextItems.{is_empty}
-use Rattle.plain_laws.specs.Plain.{is_break_layer, is_break, last_is_break, without_last, ended, with_entries, give_to, given, tidied_step, tidied_item, tidied_section, tidied}
+use Rattle.c_tree.specs.SectionLabels.{with_entries, pass_to, labels_passed}
+use Rattle.plain_laws.specs.Plain.{is_break_layer, is_break, last_is_break, without_last, ended, tidied_step, tidied_item, tidied_section, tidied}
 use Rattle.plain_laws.proofs.ItemTrees.{section_rolled}
 
 -- ---- the last item
@@ -114,7 +115,7 @@ give_by (x ∷ xs) ends c d ds e h =
     more_sections c (d ∷ ds) ∙ ap₂ (λ z y. P.Section (expression_trees o.cases) o.default z y (sections_of (d ∷ ds))) (ap trees_of e ∙ trees-more x xs) h
     ∙ ap (λ z. D.give (expression_trees o.cases) o.default z ends (sections_of (d ∷ ds))) (sym (trees-more x xs))
 
-give_tree : (c : Section) (ds : List Section) → sections_of (give_to c ds) ≡ put (section_tree c) (sections_of ds)
+give_tree : (c : Section) (ds : List Section) → sections_of (pass_to c ds) ≡ put (section_tree c) (sections_of ds)
 give_tree c [] =
     let o = out-Section c in
     more_sections c [] ∙ ap (P.Section (expression_trees o.cases) o.default (trees_of o.list) o.ends) sections-none
@@ -153,11 +154,11 @@ list_same : (a : List I) → trees_of (map tidied_item (map item a)) ≡ D.tidy 
 list_same [] = trees-none ∙ ap D.tidy (sym trees-none)
 list_same (e ∷ a) = trees-more (tidied_item e.0) _ ∙ ap₂ (λ x xs. P.Then x xs) e.1 (list_same a) ∙ ap D.tidy (sym (trees-more e.0 (map item a)))
 
-sections_same : (a : List C) → sections_of (given (map tidied_section (map section a))) ≡ D.tidy_sections (sections_of (map section a))
+sections_same : (a : List C) → sections_of (labels_passed (map tidied_section (map section a))) ≡ D.tidy_sections (sections_of (map section a))
 sections_same [] = sections-none ∙ ap D.tidy_sections (sym sections-none)
 sections_same (e ∷ a) =
     let c = section_tree e.0 in
-    give_tree (tidied_section e.0) (given (map tidied_section (map section a)))
+    give_tree (tidied_section e.0) (labels_passed (map tidied_section (map section a)))
     ∙ ap₂ put e.1 (sections_same a)
     ∙ put_by (not c.ends && D.last_break (D.tidy c.list)) c.cases c.default (D.tidy c.list) c.ends (D.tidy_sections (sections_of (map section a)))
     ∙ ap D.tidy_sections (sym (sections-more e.0 (map section a)))

@@ -20,13 +20,13 @@ use Rattle.c_tree.specs.declared.tree.Selector as V
 use Rattle.c_tree.specs.declared.tree.Selector.TheOpen as S
 use Rattle.c_tree.specs.declared.tree.Item.{Item, Item-F, fold-Item, roll-Item, out-Item, Evaluate, If, While, Do, Switch, Local}
 use Rattle.c_tree.specs.declared.tree.Item.TheOpen as I
-use Rattle.c_tree.specs.declared.tree.Section.{Section, fold-Section, roll-Section, out-Section}
+use Rattle.c_tree.specs.declared.tree.Section.{Section, fold-Section, roll-Section}
 use Rattle.c_tree.specs.declared.tree.Slot.{Slot}
 use Rattle.c_tree.specs.declared.tree.Function.{Function}
 use Rattle.c_tree.specs.declared.tree.Top.{Top}
 use Rattle.c_tree.specs.declared.tree.Top.TheVariants as P
 use Rattle.c_tree.specs.declared.tree.Program.{Program}
-use Rattle.c_tree.specs.TextItems.{is_empty}
+use Rattle.c_tree.specs.SectionLabels.{labels_passed}
 
 -- ---- expressions; `slot l` is the number of the slot of the guard of label l
 
@@ -182,23 +182,9 @@ ended c = if not c.ends && last_is_break c.list
     then roll-Section (record { cases = c.cases; default = c.default; list = without_last c.list; ends = true })
     else roll-Section c
 
--- the section with the cases and the default of another before its own
-abbrev pub with_entries : I.Section-F Item Section → Section → Section
-with_entries c d = let e = out-Section d in roll-Section (record { cases = c.cases ++ e.cases; default = c.default || e.default; list = e.list; ends = e.ends })
-
--- a section before others: with an empty list and no end it gives its cases and its default to the next
-abbrev pub give_to : Section → List Section → List Section
-give_to c [] = c ∷ []
-give_to c (d ∷ ds) = let e = out-Section c in if is_empty e.list && not e.ends then with_entries e d ∷ ds else c ∷ d ∷ ds
-
--- sections, each of which gives to the next
-abbrev pub given : List Section → List Section
-given [] = []
-given (c ∷ cs) = give_to c (given cs)
-
 -- an item whose sections have got their ends
 abbrev pub tidied_step : Item-F Item Section → Item
-tidied_step (I.Switch s cs) = Switch s (given cs)
+tidied_step (I.Switch s cs) = Switch s (labels_passed cs)
 tidied_step x = roll-Item x
 
 -- an item whose switches have their sections in the plain form, at any depth

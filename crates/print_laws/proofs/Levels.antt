@@ -57,9 +57,6 @@ pub root_high : (b : Binary) → FitsBinary b → 4 ≤ root b
 root_high (Single u) f = omega arith
 root_high (Both a m b) f = level_high m f.2
 
-not_below : (n m : ℕ) → m ≤ n → nat_lt n m ≡ false
-not_below n m h = le-ltb n m h
-
 -- an expression by itself
 pub lies_open : (e : Expression) → FitsExpression e → Laid 1 e (expression_tokens e) (expression_events e)
 lies_open (More a e) f = (λ r. refl, λ q. refl)
@@ -67,7 +64,7 @@ lies_open (One (To t m a)) f = (λ r. refl, λ q. refl)
 lies_open (One (Value (Choose b e d))) f = (λ r. refl, λ q. refl)
 lies_open (One (Value (Only b))) f =
     let h = root_high b f in
-    let n : nat_lt (root b) 1 ≡ false = not_below (root b) 1 (omega (arith, h)) in
+    let n : nat_lt (root b) 1 ≡ false = le-ltb (root b) 1 (omega (arith, h)) in
     (λ r. ap (λ x. bracketed_tokens x (One (Value (Only b))) r) (sym n), λ q. ap (λ x. bracketed_events x (One (Value (Only b))) q) (sym n))
 
 pub lies_assigned : (e : Expression) → FitsExpression e → Laid 2 e (assignment_tokens (as_assignment e)) (assignment_events (as_assignment e))
@@ -76,7 +73,7 @@ lies_assigned (One (To t m a)) f = (λ r. refl, λ q. refl)
 lies_assigned (One (Value (Choose b e d))) f = (λ r. refl, λ q. refl)
 lies_assigned (One (Value (Only b))) f =
     let h = root_high b f in
-    let n : nat_lt (root b) 2 ≡ false = not_below (root b) 2 (omega (arith, h)) in
+    let n : nat_lt (root b) 2 ≡ false = le-ltb (root b) 2 (omega (arith, h)) in
     (λ r. ap (λ x. bracketed_tokens x (One (Value (Only b))) r) (sym n), λ q. ap (λ x. bracketed_events x (One (Value (Only b))) q) (sym n))
 
 pub lies_chosen : (e : Expression) → FitsExpression e → Laid 3 e (conditional_tokens (as_conditional e)) (conditional_events (as_conditional e))
@@ -85,7 +82,7 @@ lies_chosen (One (To t m a)) f = (λ r. refl, λ q. refl)
 lies_chosen (One (Value (Choose b e d))) f = (λ r. refl, λ q. refl)
 lies_chosen (One (Value (Only b))) f =
     let h = root_high b f in
-    let n : nat_lt (root b) 3 ≡ false = not_below (root b) 3 (omega (arith, h)) in
+    let n : nat_lt (root b) 3 ≡ false = le-ltb (root b) 3 (omega (arith, h)) in
     (λ r. ap (λ x. bracketed_tokens x (One (Value (Only b))) r) (sym n), λ q. ap (λ x. bracketed_events x (One (Value (Only b))) q) (sym n))
 
 below : (n need : ℕ) (e : Expression) → n < need → (tokens : List Class → List Class) (events : List Event → List Event) → loose e ≡ n
@@ -130,7 +127,7 @@ fits_chosen (One (Value d)) f = f
 
 -- a mark that binds less tightly stands in no lone target
 not_lone : (b : Binary) (need : ℕ) → need ≤ 14 → nat_lt (root b) need ≡ true → is_lone (One (Value (Only b))) ≡ false
-not_lone (Single u) need h e = let n = not_below 14 need h in cc
+not_lone (Single u) need h e = let n = le-ltb 14 need h in cc
 not_lone (Both a m b) need h e = refl
 
 fits_either : (x : Bool) (b : Binary) → (x ≡ true → is_lone (One (Value (Only b))) ≡ false) → FitsBinary b →

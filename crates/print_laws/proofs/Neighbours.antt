@@ -1,7 +1,7 @@
 -- Which bytes go on with a piece, and which never do.
 use Rattle.std.proofs.Common.{◌≡◌, ℕ, Bool, true, false, not, ◌&&◌, ◌||◌, ◌==◌, List, [], ◌∷◌, refl, ap, sym, subst, ◌∙◌}
 use Rattle.std.specs.List.{list_any}
-use Rattle.std.proofs.lemmas.Bool.{eqb-true}
+use Rattle.std.proofs.lemmas.Bool.{eqb-true, not-false}
 use Rattle.c_types.specs.Words.{is_word_byte}
 use Rattle.c_lexer.specs.Bytes.{is_run_byte, NotFirst}
 use Rattle.c_lexer.specs.Marks.{mark_text}
@@ -32,13 +32,9 @@ among P (c ∷ cs) h b e = by_test (b == c) refl e (λ f. among P cs h.1 b f)
     by_test true t e later = subst P (sym (eqb-true b c t)) h.0
     by_test false t e later = later e
 
-not_false : (a : Bool) → not a ≡ false → a ≡ true
-not_false true h = refl
-not_false false h = cc
-
 closed_by : (f : ℕ → Bool) → AllOf (λ b. f b ≡ false) closing_bytes → (r : List ℕ) → IsClosed r → NotFirst f r
 closed_by f h [] c = tt
-closed_by f h (b ∷ r) c = among (λ b. f b ≡ false) closing_bytes h b (not_false (is_closing b) c)
+closed_by f h (b ∷ r) c = among (λ b. f b ≡ false) closing_bytes h b (not-false (is_closing b) c)
 
 -- a name ends there
 pub word_closed : (r : List ℕ) → IsClosed r → NotFirst is_word_byte r

@@ -1,5 +1,5 @@
 -- A printed number is read as an integer constant of its kind and value.
-use Rattle.std.proofs.Common.{◌≡◌, ◌<◌, ◌≤◌, ◌+◌, ◌*◌, ◌%◌, ◌^◌, ℕ, zero, suc, ℤ, pos, negsuc, Bool, true, false, cond, ◌&&◌, ◌||◌, ◌==◌, List, [], ◌∷◌, ◌++◌, length, drop, get_or, Option, Some, None, refl, ap, sym, ◌∙◌, arith}
+use Rattle.std.proofs.Common.{◌≡◌, ◌<◌, ◌≤◌, ◌+◌, ◌*◌, ◌%◌, ◌^◌, ℕ, zero, suc, ℤ, pos, negsuc, Bool, true, false, cond, ◌||◌, ◌==◌, List, [], ◌∷◌, ◌++◌, length, drop, get_or, Option, Some, None, refl, ap, sym, ◌∙◌, arith}
 use Rattle.std.specs.Prelude.{codes, option_map}
 use Rattle.std.specs.List.{list_all, take_while, prefix_len}
 use Rattle.std.specs.Fmt.{decimal}
@@ -24,10 +24,7 @@ use Rattle.c_tree.specs.TextPieces.{suffix}
 use Rattle.print_laws.specs.Reread.{number_text}
 use Rattle.c_resolved_defs.specs.PrintableExpressions.{IsConstant}
 use Rattle.print_laws.proofs.Neighbours.{first_of_and}
-
-second_of_and : (a b : Bool) → (a && b) ≡ true → b ≡ true
-second_of_and true b h = h
-second_of_and false b h = cc
+use Rattle.print_laws.proofs.Relexed.{second_of_and}
 
 -- ---- digits
 

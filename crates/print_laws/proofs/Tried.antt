@@ -77,7 +77,8 @@ abbrev pair : ExpressionTree
 pair = int (Comma (variable 0) (number 1))
 
 choice_tokens : expression_tokens (derivation_of (int (Binary OrElse pair (int (Call (codes "f") (Argument pair (Argument (number 1) NoArgument))))))) [] ≡
-    c.Open ∷ c.Name ∷ c.Comma ∷ c.Number ∷ c.Close ∷ c.OrElse ∷ c.Name ∷ c.Open ∷ c.Open ∷ c.Name ∷ c.Comma ∷ c.Number ∷ c.Close ∷ c.Comma ∷ c.Number ∷ c.Close ∷ []
+    c.Open ∷ c.Name ∷ c.Comma ∷ c.Number ∷ c.Close ∷ c.OrElse ∷ c.Name ∷ c.Open ∷ c.Open ∷ c.Name ∷ c.Comma ∷ c.Number ∷ c.Close ∷ c.Comma ∷ c.Number ∷
+    c.Close ∷ []
 choice_tokens = refl
 
 -- if (a) { } else if (b) { break; } else { a; }
@@ -85,7 +86,8 @@ abbrev chain : ExpressionTree → Forest
 chain x = Then (If (Source x) (Then Break Nil) (Then (Evaluate (variable 0)) Nil)) Nil
 
 chain_tokens : statement_tokens (statement_of slots (If (Source (variable 0)) Nil (chain (variable 1)))) [] ≡
-    c.If ∷ c.Open ∷ c.Name ∷ c.Close ∷ c.OpenBlock ∷ c.CloseBlock ∷ c.Else ∷ c.If ∷ c.Open ∷ c.Name ∷ c.Close ∷ c.OpenBlock ∷ c.Break ∷ c.Semicolon ∷ c.CloseBlock ∷ c.Else ∷ c.OpenBlock ∷ c.Name ∷ c.Semicolon ∷ c.CloseBlock ∷ []
+    c.If ∷ c.Open ∷ c.Name ∷ c.Close ∷ c.OpenBlock ∷ c.CloseBlock ∷ c.Else ∷ c.If ∷ c.Open ∷ c.Name ∷ c.Close ∷ c.OpenBlock ∷ c.Break ∷ c.Semicolon ∷
+    c.CloseBlock ∷ c.Else ∷ c.OpenBlock ∷ c.Name ∷ c.Semicolon ∷ c.CloseBlock ∷ []
 chain_tokens = refl
 
 chain_nested : depth_of (If (Source (variable 0)) Nil (chain (variable 1))) ≡ 2
@@ -99,7 +101,8 @@ cases =
     (Section [] true Nil false NoSection))
 
 cases_tokens : items_tokens (sections_of slots cases) [] ≡
-    c.Case ∷ c.Number ∷ c.Colon ∷ c.Semicolon ∷ c.Int ∷ c.Name ∷ c.Semicolon ∷ c.Case ∷ c.Number ∷ c.Colon ∷ c.Name ∷ c.Semicolon ∷ c.Semicolon ∷ c.Default ∷ c.Colon ∷ c.Semicolon ∷ []
+    c.Case ∷ c.Number ∷ c.Colon ∷ c.Semicolon ∷ c.Int ∷ c.Name ∷ c.Semicolon ∷ c.Case ∷ c.Number ∷ c.Colon ∷ c.Name ∷ c.Semicolon ∷ c.Semicolon ∷
+    c.Default ∷ c.Colon ∷ c.Semicolon ∷ []
 cases_tokens = refl
 
 -- a program prints

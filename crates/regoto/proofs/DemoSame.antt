@@ -1,7 +1,6 @@
 -- What a program is restructured to behaves by steps as the program does.
-use Rattle.std.proofs.Common.{◌≡◌, ℕ, List, Result, Ok, sym, subst}
+use Rattle.std.proofs.Common.{◌≡◌, ℕ, List, sym, subst}
 use Rattle.std.proofs.lemmas.List.Elements.{All-from_recursion}
-use Rattle.c_types.specs.declared.refusal.Refusal.{Refusal}
 use Rattle.c_copies.specs.Names.{names}
 use Rattle.c_tree.specs.declared.tree.Program.{Program}
 use Rattle.guard_vars.specs.GuardNames.{guard_names}
@@ -17,7 +16,7 @@ use Rattle.whole_laws.proofs.Whole.{whole_laws, resolved_ready}
 use Rattle.whole_laws.proofs.NamedForm.{tops_named}
 use Rattle.restructure_laws.proofs.NamedTops.{named_program_laws}
 use Rattle.c_text.specs.Reading.{IsProgramOf}
-use Rattle.c_text.proofs.Readings.{program_back}
+use Rattle.c_text.proofs.Readings.{program_back, same_read}
 use Rattle.move_driver.specs.declared.counts.Counts.{Counts}
 use Rattle.move_driver.specs.Restructured.{IsRestructured}
 use Rattle.move_driver.specs.Text.{Output, IsTextRestructured}
@@ -31,9 +30,6 @@ restructured_same p q ms counts r w =
     let moved = (whole_laws.steady flat_counts p w.moved ms r rewritten).1 in
     let plain = plain_laws.of_programs given w.moved (resolved_ready flat_counts given p w.moved ms r rewritten named) in
     subst (BehaveTheSame p) (sym w.result) (record { codes = same_trans (code_of p) (code_of w.moved) (code_of form) moved.codes plain.codes })
-
-same_read : (o : Result Program Refusal) (p q : Program) → o ≡ Ok p → o ≡ Ok q → p ≡ q
-same_read o p q e f = cc
 
 -- a text has one program
 pub one_program : (t : List ℕ) (p q : Program) → IsProgramOf t p → IsProgramOf t q → p ≡ q

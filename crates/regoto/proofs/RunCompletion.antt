@@ -1,6 +1,6 @@
 -- Where a text is there that can be run, and no call on a port fails, the status is the one that the run shows, but for want
 -- of memory.
-use Rattle.std.proofs.Common.{◌≡◌, ℕ, ◌≤◌, ◌⊎◌, List, length, Option, None, Some, inl, inr, refl, sym, ap, subst, ◌∙◌, arith}
+use Rattle.std.proofs.Common.{◌≡◌, ℕ, ◌≤◌, ◌⊎◌, List, length, Option, Some, inl, inr, refl, sym, ap, subst, ◌∙◌, arith}
 use Rattle.std.proofs.lemmas.Bool.{false≢true}
 use Rattle.std.specs.FinMap.{get}
 use Rattle.c_types.specs.declared.refusal.Refusal.{Refusal}
@@ -10,7 +10,8 @@ use Rattle.rg_ports.specs.Files.{Files}
 use Rattle.rg_ports.specs.declared.reads.ReadCounts.{ReadCounts}
 use Rattle.cmd_words.specs.declared.status.Status.{Status}
 use Rattle.cmd_words.specs.declared.status.Status.TheVariants as status
-use Rattle.cmd_files.specs.Taken.{HandsOver, Lacks}
+use Rattle.cmd_files.specs.Taken.{HandsOver}
+use Rattle.cmd_files.proofs.Completion.{lacking}
 use Rattle.step_interp.specs.declared.runs.RunAnswer.{RunAnswer}
 use Rattle.step_interp.specs.declared.runs.RunAnswer.TheVariants as answer
 use Rattle.step_interp.specs.Answers.{Agrees}
@@ -40,11 +41,6 @@ handed before files from text P told there h =
     let found = subst (λ b. HandsOver b from P) told h in
     let same : found.0 ≡ text = let both = sym found.1 ∙ there in cc in
     subst P same found.2
-
-lacking : (before : Option Files) (files : Files) (from text : List ℕ) → before ≡ Some files → get files from ≡ Some text → Lacks before from → ⊥
-lacking before files from text told there h =
-    let none : get files from ≡ None = subst (λ b. Lacks b from) told h in
-    let both = sym none ∙ there in cc
 
 pub runnable_not_blocked : (p : Program) (refusal : Refusal) → IsRunnable p → IsBlocked p refusal → ⊥
 runnable_not_blocked p refusal h b = elim b [

@@ -1,6 +1,5 @@
 -- What a text is tidied to, and that it is the only such text.
-use Rattle.std.proofs.Common.{◌≡◌, ℕ, true, List, [], Result, Ok, None, All, sym, ap, subst, ◌∙◌}
-use Rattle.c_types.specs.declared.refusal.Refusal.{Refusal}
+use Rattle.std.proofs.Common.{◌≡◌, ℕ, true, List, [], None, All, sym, ap, subst, ◌∙◌}
 use Rattle.c_tree.specs.declared.tree.Program.{Program}
 use Rattle.c_tree.specs.Jumps.{is_plain_program}
 use Rattle.c_tree.specs.Text.{text_of}
@@ -8,7 +7,7 @@ use Rattle.report_moves.specs.declared.moves.Move.{Move}
 use Rattle.plain_laws.specs.Laws.{BehavesAsStructured}
 use Rattle.c_resolved_laws.specs.Counts.{IsResolved}
 use Rattle.c_text.specs.Reading.{reading, IsProgramOf}
-use Rattle.c_text.proofs.Readings.{program_back}
+use Rattle.c_text.proofs.Readings.{program_back, same_read}
 use Rattle.move_driver.specs.declared.counts.Counts.{Counts}
 use Rattle.move_driver.specs.Restructured.{IsRestructured, IsOnly}
 use Rattle.move_driver.specs.Settled.{no_counts}
@@ -24,9 +23,6 @@ use Rattle.regoto.specs.Tidied.{IsTextTidied, IsOnlyText}
 use Rattle.regoto.proofs.TidyBehaves.{behaves}
 use Rattle.tidy_refusal.proofs.Jumpless.{lacks_jumps}
 use Rattle.regoto.proofs.Unmoved.{no_moves, nothing_counted, same_variables}
-
-same_read : (o : Result Program Refusal) (p q : Program) → o ≡ Ok p → o ≡ Ok q → p ≡ q
-same_read o p q e f = cc
 
 same_made : (a b : Tidied) → a.text ≡ b.text → a.changes ≡ b.changes → a ≡ b
 same_made a b e f = λ i. record { text = e i; changes = f i }

@@ -1,10 +1,11 @@
 -- The cases of a resolved switch are constants where its text is read, and none of them stands twice.
-use Rattle.std.proofs.Common.{◌≡◌, ◌+◌, ◌≤◌, ◌&&◌, ◌||◌, ℕ, suc, ℤ, pos, Bool, true, false, not, List, [], ◌∷◌, ◌++◌, map, Option, Some, None, is_some, refl, ap, subst, ◌∙◌, arith, append_assoc}
+use Rattle.std.proofs.Common.{◌≡◌, ◌+◌, ◌≤◌, ◌&&◌, ℕ, suc, ℤ, pos, Bool, true, false, not, List, [], ◌∷◌, ◌++◌, map, Option, Some, None, is_some, refl, ap, subst, ◌∙◌, arith, append_assoc}
 use Rattle.std.specs.Prelude.{option_map, IsSome, ◌≢◌, unwrap_or}
 use Rattle.std.specs.declared.cmp.Ordering.{Ordering}
 use Rattle.std.specs.declared.cmp.Ordering.TheVariants.{Less, Equal, Greater}
 use Rattle.std.specs.Ordering.{match_ordering, MatchOrdering, is_eq, eq_by_cmp, int_cmp}
 use Rattle.std.specs.Cmp.{int_ranks}
+use Rattle.std.proofs.lemmas.Bool.{or_parts, or_from}
 use Rattle.c_types.specs.declared.kinds.IntKind.{IntKind}
 use Rattle.c_types.specs.Numbers.{converted}
 use Rattle.c_tree.specs.ExpressionTrees.{ExpressionTree, NodeTree}
@@ -154,22 +155,15 @@ apart u v h = by_order _ _ (int_cmp u v) (int_ranks u v)
     by_order A C Equal m = absurd (h m)
     by_order A C Greater m = refl
 
-or_false : (a b : Bool) → a ≡ false → b ≡ false → (a || b) ≡ false
-or_false a b e h = λ i. e i || h i
-
-false_or : (a b : Bool) → (a || b) ≡ false → (a ≡ false) × (b ≡ false)
-false_or false b h = (refl, h)
-false_or true b h = cc
-
 not_among : (u v : ℤ) (seen : List ℤ) → (u ≡ v → ⊥) → is_among u seen ≡ false → is_among u (with_value v seen) ≡ false
-not_among u v [] h k = or_false (eq_by_cmp int_cmp u v) false (apart u v h) refl
+not_among u v [] h k = or_from (eq_by_cmp int_cmp u v) false (apart u v h) refl
 not_among u v (x ∷ seen) h k =
-    by_order (int_cmp v x) (not_among u v seen h ((false_or (eq_by_cmp int_cmp u x) (is_among u seen) k).1))
+    by_order (int_cmp v x) (not_among u v seen h ((or_parts (eq_by_cmp int_cmp u x) (is_among u seen) k).1))
   where
     by_order : (o : Ordering) → is_among u (with_value v seen) ≡ false → is_among u (match_ordering o (v ∷ x ∷ seen) (x ∷ seen) (x ∷ with_value v seen)) ≡ false
-    by_order Less later = or_false (eq_by_cmp int_cmp u v) (is_among u (x ∷ seen)) (apart u v h) k
+    by_order Less later = or_from (eq_by_cmp int_cmp u v) (is_among u (x ∷ seen)) (apart u v h) k
     by_order Equal later = k
-    by_order Greater later = or_false (eq_by_cmp int_cmp u x) (is_among u (with_value v seen)) ((false_or (eq_by_cmp int_cmp u x) (is_among u seen) k).0) later
+    by_order Greater later = or_from (eq_by_cmp int_cmp u x) (is_among u (with_value v seen)) ((or_parts (eq_by_cmp int_cmp u x) (is_among u seen) k).0) later
 
 module _ (kind : IntKind) where
   abbrev NotSeen : List ℤ → Option ℤ → Type 0

@@ -10,6 +10,7 @@ use Rattle.c_grammar.specs.ExpressionSyntax.{base_parts, type_end, type_parts, t
 use Rattle.c_grammar.specs.Parts.{Part, part_of, part_layer, content, form_in, form_by, term_in, terms_in, expression_form as of_expression, bracket_form, postfix_form}
 use Rattle.c_grammar.specs.Terms.{Form, At, NoTerm}
 use Rattle.c_grammar.specs.Terms as s
+use Rattle.c_grammar.proofs.Layers.{form-content}
 use Rattle.reread_parts_laws.specs.WrittenExpressions.{base_words, type_words, text_tokens, expression_form, expression_terms, assignment_form, conditional_form, binary_form, unary_form, target_form, arguments_terms, argument_form}
 
 -- ---- nodes
@@ -29,10 +30,6 @@ token_rule word at = ap (λ (q : Part). q.rule) (part_node word p.Token at (at +
 pub token_first : (word : ℕ → List ℕ) (at : ℕ) → (token word at).first ≡ at
 token_first word at = ap (λ (q : Part). q.first) (part_node word p.Token at (at + 1) [])
 
-form_content : (word : ℕ → List ℕ) (rule : Production) (first after : ℕ) (ps : List Part) → form_in (content word rule first after ps) ≡ form_by rule ps
-form_content word p.Token first after ps = refl
-form_content word _ first after ps = refl
-
 -- what a node is known to be
 pub record Writes (word : ℕ → List ℕ) (x : Syntax) (rule : Production) (first : ℕ) (form : Form) : Type 0 where
   pub ruled : (part_of word x).rule ≡ rule
@@ -46,7 +43,7 @@ writes word rule first after xs form e =
     record {
       ruled = ap (λ (q : Part). q.rule) n;
       begins = ap (λ (q : Part). q.first) n;
-      formed = ap (λ (q : Part). form_in q.content) n ∙ form_content word rule first after (map (part_of word) xs) ∙ e;
+      formed = ap (λ (q : Part). form_in q.content) n ∙ form-content word rule first after (map (part_of word) xs) ∙ e;
     }
 
 pub term_is : (word : ℕ → List ℕ) (x : Syntax) (rule : Production) (first : ℕ) (form : Form) → Writes word x rule first form →

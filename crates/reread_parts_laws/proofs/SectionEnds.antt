@@ -1,6 +1,7 @@
 -- A `break` at the end of a section is its end; sections with a list are not passed on.
-use Rattle.std.proofs.Common.{◌≡◌, ◌<◌, ◌⊎◌, inl, inr, Bool, true, false, cond, not, ◌&&◌, ◌||◌, List, [], ◌∷◌, ◌++◌, map, length, refl, ap, sym, ◌∙◌, arith}
+use Rattle.std.proofs.Common.{◌≡◌, ◌<◌, ◌⊎◌, inl, inr, Bool, true, false, cond, not, ◌&&◌, List, [], ◌∷◌, ◌++◌, map, length, refl, ap, sym, ◌∙◌, arith}
 use Rattle.std.specs.Prelude.{IsTrue, option_map}
+use Rattle.c_lexer.proofs.Truths.{and_false}
 use Rattle.c_tree.specs.declared.tree.Expression.{Expression}
 use Rattle.c_tree.specs.declared.tree.Item.{Item, out-Item, out-roll-Item}
 use Rattle.c_tree.specs.declared.tree.Item as item
@@ -10,7 +11,9 @@ use Rattle.c_tree.specs.declared.tree.Section.{Section as RealSection, Section-F
 use Rattle.c_tree.specs.ExpressionTrees.{ExpressionTree}
 use Rattle.c_tree.specs.Trees.{Tree, Forest, Nil, Then, Sections, NoSection, Section}
 use Rattle.c_tree.specs.Trees as t
-use Rattle.c_statements.specs.Sections.{has_label, is_break, ends_in_break, without_last, ended, is_passing, with_labels, passed_on}
+use Rattle.c_tree.specs.TextItems.{is_empty}
+use Rattle.c_tree.specs.SectionLabels.{with_entries, pass_to, labels_passed}
+use Rattle.c_statements.specs.Sections.{has_label, is_break, ends_in_break, without_last, ended}
 use Rattle.c_resolved_defs.specs.Form.{ends_with_break, IsKept}
 use Rattle.reread_parts_laws.proofs.Mirrors.{expression_in}
 use Rattle.reread_parts_laws.proofs.ItemMirrors.{test_in, selector_in, a_section, tree_in, forest_in, sections_in}
@@ -76,10 +79,6 @@ before_last (x ∷ y ∷ ys) = ap (λ l. x ∷ l) (before_last (y ∷ ys))
 
 -- ---- the end of a section
 
-and_false : (b : Bool) → (b && false) ≡ false
-and_false true = refl
-and_false false = refl
-
 labelled : (cases : List ExpressionTree) (default : Bool) (list : List Item) → (0 < length cases) ⊎ IsTrue default →
     has_label (reading_of (map expression_in cases) default list) ≡ true
 labelled [] true list h = refl
@@ -105,21 +104,14 @@ ended_open cases default a h =
 -- ---- no section but the last gives its labels on
 
 abbrev of_section : Section-F Item RealSection → Bool
-of_section o = elim (o.list) as (λ _. Bool) [ [] ↦ not o.ends | x ∷ xs ↦ false ]
-
-abbrev with_none : Section-F Item RealSection → RealSection
-with_none o = a_section o.cases o.default o.list o.ends
+of_section o = is_empty o.list && not o.ends
 
 parts : (cases : List Expression) (default : Bool) (list : List Item) (ends : Bool) →
     out-Section (a_section cases default list ends) ≡ record { cases = cases; default = default; list = list; ends = ends }
 parts cases default list ends = out-roll-Section (record { cases = cases; default = default; list = list; ends = ends })
 
-same : (cases : List Expression) (default : Bool) (list : List Item) (ends : Bool) →
-    with_labels [] false (a_section cases default list ends) ≡ a_section cases default list ends
-same cases default list ends = ap with_none (parts cases default list ends)
-
 not_passing : (cases : List Expression) (default : Bool) (a : Forest) (ends : Bool) (more : List ExpressionTree) (d : Bool) (b : Forest) (e : Bool)
-    (c : Sections) → IsKept a ends (Section more d b e c) → is_passing (a_section cases default (forest_in a) ends) ≡ false
+    (c : Sections) → IsKept a ends (Section more d b e c) → of_section (out-Section (a_section cases default (forest_in a) ends)) ≡ false
 not_passing cases default Nil true more d b e c k = ap of_section (parts cases default [] true)
 not_passing cases default Nil false more d b e c k = absurd k
 not_passing cases default (Then x xs) ends more d b e c k = ap of_section (parts cases default (forest_in (Then x xs)) ends)
@@ -129,15 +121,12 @@ abbrev pub AllKept : Sections → Type 0
 AllKept NoSection = Unit {0}
 AllKept (Section cases default a ends c) = IsKept a ends c × AllKept c
 
-pub all_passed_on : (c : Sections) → AllKept c → passed_on [] false (sections_in c) ≡ sections_in c
-all_passed_on NoSection k = refl
-all_passed_on (Section cases default a ends NoSection) k = λ i. same (map expression_in cases) default (forest_in a) ends i ∷ []
-all_passed_on (Section cases default a ends (Section more d b e c)) k =
+pub all_passed : (c : Sections) → AllKept c → labels_passed (sections_in c) ≡ sections_in c
+all_passed NoSection k = refl
+all_passed (Section cases default a ends NoSection) k = refl
+all_passed (Section cases default a ends (Section more d b e c)) k =
     let s = a_section (map expression_in cases) default (forest_in a) ends in
-    let rest = sections_in (Section more d b e c) in
+    let t = a_section (map expression_in more) d (forest_in b) e in
+    let rest = sections_in c in
     let no = not_passing (map expression_in cases) default a ends more d b e c (k.0) in
-    (λ i. elim (no i) as (λ _. List RealSection) [
-      | true ↦ passed_on ([] ++ (out-Section s).cases) (false || (out-Section s).default) rest
-      | false ↦ with_labels [] false s ∷ passed_on [] false rest
-    ])
-    ∙ (λ i. same (map expression_in cases) default (forest_in a) ends i ∷ all_passed_on (Section more d b e c) (k.1) i)
+    ap (pass_to s) (all_passed (Section more d b e c) (k.1)) ∙ ap (λ z. cond z (with_entries (out-Section s) t ∷ rest) (s ∷ t ∷ rest)) no

@@ -12,6 +12,7 @@ use Rattle.c_tree.specs.Trees as t
 use Rattle.c_tree.specs.TextPieces.{Piece, Text, ◌⨾◌, newline, space, indentation, punctuator, only_if, joined}
 use Rattle.c_tree.specs.TextItems.{Printed, PrintedSection, deeper, list_text, sections_text, case_line, default_line, null_line}
 use Rattle.c_tree.specs.TextItems as text
+use Rattle.c_tree.specs.SectionLabels.{labels_passed}
 use Rattle.c_grammar.specs.Statements.{NoItems}
 use Rattle.c_grammar.specs.Statements as g
 use Rattle.c_grammar.specs.StatementSyntax.{items_end}
@@ -50,11 +51,12 @@ use Rattle.reread_parts_laws.proofs.ListsRead.{still}
 use Rattle.reread_parts_laws.proofs.CaseConstants.{Match, match_both, section_match, section_entries, constants_are, cases_clear, entries_are}
 use Rattle.reread_parts_laws.proofs.SectionSources.{section_list, with_labels, reading_of, labelled_written, labelled_end, labelled_keywords, sections_begin, faults_begin, outside_begin, entries_begin, walk_begin}
 use Rattle.reread_parts_laws.proofs.SectionFronts.{sections_front, entries_in, no_arrivals}
-use Rattle.reread_parts_laws.proofs.SectionEnds.{ended_here, ended_open, AllKept, all_passed_on}
+use Rattle.reread_parts_laws.proofs.SectionEnds.{ended_here, ended_open, AllKept, all_passed}
 use Rattle.reread_parts_laws.proofs.SectionsRead.{cases_read, default_read, null_read, end_read, section_begins, begins_same, last_same}
 use Rattle.std.specs.Prelude.{option_map, IsSomeAnd}
 use Rattle.c_types.specs.declared.kinds.IntKind.{IntKind}
 use Rattle.c_types.specs.Numbers.{promoted}
+use Rattle.c_lexer.proofs.Truths.{or_second}
 use Rattle.c_tree.specs.declared.tree.Selector as selector
 use Rattle.c_tree.specs.declared.tree.Selector.{Selector, out-Selector, out-roll-Selector}
 use Rattle.c_tree.specs.declared.tree.Selector.TheOpen as OS
@@ -69,7 +71,6 @@ use Rattle.c_kinds.specs.Values.{value_of}
 use Rattle.c_kinds.specs.Typing.{typed}
 use Rattle.c_statements.specs.Context.{in_switch, enter}
 use Rattle.c_statements.specs.Declarations.{value_at, value_faults}
-use Rattle.c_statements.specs.Sections.{passed_on}
 use Rattle.c_statements.specs.Cases.{switch_faults}
 use Rattle.c_resolved_defs.specs.Scopes.{inside}
 use Rattle.c_resolved_defs.specs.Switches.{AreLabels}
@@ -126,10 +127,6 @@ no_trailing (Then x (Then y ys)) ns e h = no_trailing (Then y ys) [] e refl
 none_left : (a : Forest) → ends_with_note a ≡ false → trailing [] a ≡ []
 none_left Nil e = refl
 none_left (Then x xs) e = no_trailing (Then x xs) [] e refl
-
-second_false : (a b : Bool) → (a || b) ≡ false → b ≡ false
-second_false false b h = h
-second_false true b h = cc
 
 not_true : (b : Bool) → (b ≡ true → false ≡ true) → b ≡ false
 not_true false h = refl
@@ -262,7 +259,7 @@ module _ (ts : List Top) (f : Function) (ctx : Context) (tokens : List Spelling)
           i))) rest [] w)
       by_last false h e =
           let xs = settled ts f ctx tokens words [] a in
-          let none = none_left a (second_false (last && is_nil a) (ends_with_note a) h) in
+          let none = none_left a (or_second (last && is_nil a) (ends_with_note a) h) in
           (λ i. sections_from ctx (Some (reading_of cases default
           ((sym (nothing_behind xs) ∙ ap (λ l. xs ++ map item.Note l) (sym none) ∙ all_settled ts f ctx tokens words a []) i))) rest [] w)
 
@@ -432,8 +429,8 @@ module _ (ts : List Top) (f : Function) (ctx : Context) (tokens : List Spelling)
             (u.behind_it));
         keywords = (m.0, u.keywords);
         items = λ i. notes_at ctx (Before at) ++ item.Switch (selector.Source (o.value_is i))
-            (((λ i. passed_on [] false (in_front (u.front_is i) ++ sections_from ctx None src (map item.Note (p.1 i)) (enter w))) ∙
-            ap (passed_on [] false) (u.sections None) ∙ all_passed_on c (all_kept c (inside ss) k (in_switch around) (g.2))) i) ∷ [];
+            (((λ i. labels_passed (in_front (u.front_is i) ++ sections_from ctx None src (map item.Note (p.1 i)) (enter w))) ∙
+            ap labels_passed (u.sections None) ∙ all_passed c (all_kept c (inside ss) k (in_switch around) (g.2))) i) ∷ [];
         standing = left (names_in ts f) ss (u.after) k (k + slots_within c) w (behind_items ctx src (enter w)) h (u.standing);
         labels = u.labels;
         clear = λ vs.

@@ -2,7 +2,7 @@
 use Rattle.std.proofs.Common.{◌≡◌, Bool, true, false, cond, true≢false, List, refl, sym, ap, ◌∙◌}
 use Rattle.c_tree.specs.declared.tree.Function.{Function}
 use Rattle.c_tree.specs.ExpressionTrees.{ExpressionTree}
-use Rattle.c_tree.specs.Trees.{Tree, Forest, Nil, Then, Sections, NoSection, Section, If, While, Do, For, Switch, Block, Break, Goto, Mark, Arrival}
+use Rattle.c_tree.specs.Trees.{Tree, Forest, Nil, Then, Sections, NoSection, Section, If, While, Do, For, Switch, Block, Goto, Mark, Arrival}
 use Rattle.c_tree.specs.Everywhere.{Everywhere, EverywhereOf, EverywhereIn}
 use Rattle.c_tree.proofs.WellMoved.{everywhere_map, everywhere_both}
 use Rattle.c_resolved_defs.specs.Form.{ends_with_break, IsKept, AreSections, HasSourceForm}
@@ -11,15 +11,9 @@ use Rattle.flat_laws.specs.Parts.{has_jumps}
 use Rattle.plain_laws.specs.Tidied.{last_break, without_last, give, put_section, tidy, tidy_item, tidy_sections}
 use Rattle.whole_laws.proofs.Unlabelled.{IsPlainItem}
 use Rattle.whole_laws.proofs.PlainLengths.{no_jumps}
+use Rattle.whole_laws.proofs.TidyForm.{ends_same}
 
 -- ---- the sections of a source have their plain form
-
-ends_same : (a : Forest) → ends_with_break a ≡ last_break a
-ends_same Nil = refl
-ends_same (Then Break Nil) = refl
-ends_same (Then Break (Then y a)) = ends_same (Then y a)
-ends_same (Then x Nil) = refl
-ends_same (Then x (Then y a)) = ends_same (Then y a)
 
 give_same : (cases : List ExpressionTree) (default : Bool) (a : Forest) (ends : Bool) (c : Sections) → IsKept a ends c →
     give cases default a ends c ≡ Section cases default a ends c

@@ -19,10 +19,11 @@ use Rattle.report_moves.specs.declared.moves.MoveKind.TheVariants.{Out, Lift, In
 use Rattle.move_order_laws.specs.Next.{Point, GoesIn, IsJoined, MovesBy}
 use Rattle.move_order_laws.proofs.Parts.{in_parts}
 use Rattle.move_order_laws.proofs.SomeDerivation.{next_move_laws}
+use Rattle.move_order_laws.proofs.OneDerivation.{same_label}
 use Rattle.move_bodies.specs.Moving.{MovesTo}
 use Rattle.restructure_laws.specs.Lawful.{kind_of, IsLeapMoved}
 use Rattle.restructure_laws.specs.ReplayMovesLaws.{CanBeMade}
-use Rattle.restructure_laws.proofs.OneBody.{same_label, moved_leap}
+use Rattle.restructure_laws.proofs.OneBody.{moved_leap}
 
 -- ---- which rule a move is by
 

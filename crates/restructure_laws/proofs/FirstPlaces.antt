@@ -24,6 +24,7 @@ use Rattle.guard_simplify.proofs.Members.{in_first, own_is, located}
 use Rattle.move_bodies.specs.Lawful.{MayCome}
 use Rattle.reread_parts_laws.proofs.Mirrors.{expression_in}
 use Rattle.reread_parts_laws.proofs.ItemMirrors.{test_in, selector_in, tree_in, forest_in, sections_in, items_whole}
+use Rattle.whole_laws.proofs.Simple.{none_under}
 
 -- ---- the places on trees
 
@@ -50,7 +51,8 @@ abbrev mutual
 -- an item by its layer
 rolled : (l : ℕ) (y : Item-F Item RealSection) (x : Item) → roll-Item y ≡ x → (i : ℕ) →
     paths_of (Guard l) x i ≡ paths_step (Guard l) (map-Item Item RealSection (ℕ → List Path) (List Path) (paths_of (Guard l)) (section_paths (Guard l)) y) i
-rolled l y x e i = ap (λ (f : ℕ → List Path). f i) (ap (paths_of (Guard l)) (sym e) ∙ fold-roll-Item (ℕ → List Path) (List Path) (paths_step (Guard l)) section_step y)
+rolled l y x e i = ap (λ (f : ℕ → List Path). f i) (ap (paths_of (Guard l)) (sym e) ∙
+    fold-roll-Item (ℕ → List Path) (List Path) (paths_step (Guard l)) section_step y)
 
 mutual
   item_places : (l : ℕ) (x : Tree) (i : ℕ) → paths_of (Guard l) (tree_in x) i ≡ places_at l x i
@@ -109,10 +111,6 @@ first_under : (i : ℕ) (b : Branch) (cs : List Choice) (c : Choice) → C.first
     (d : Choice) × (C.first cs ≡ Some d) × (c ≡ under_one i b d)
 first_under i b [] c h = cc
 first_under i b (d ∷ cs) c h = (d, refl, sym (some_same h))
-
-none_under : (i : ℕ) (b : Branch) (cs : List Choice) → C.under i b cs ≡ [] → cs ≡ []
-none_under i b [] h = refl
-none_under i b (c ∷ cs) h = cc
 
 path_under : (i : ℕ) (b : Branch) (ps : List Path) (p : Path) → P.first ps ≡ Some p →
     P.first (P.under i b ps) ≡ Some (record { steps = record { item = i; branch = b } ∷ p.steps; item = p.item })

@@ -1,6 +1,7 @@
 -- A function of a resolved program is its own plain form, and without jumps its own flat form.
-use Rattle.std.proofs.Common.{◌≡◌, ℕ, zero, suc, false, true≢false, cond, List, [], ◌∷◌, length, Option, Some, None, refl, sym, ap, ◌∙◌}
+use Rattle.std.proofs.Common.{◌≡◌, ℕ, zero, suc, false, true≢false, cond, List, [], length, Option, Some, None, refl, sym, ap, ◌∙◌}
 use Rattle.std.specs.Option.{option_map_or}
+use Rattle.std.proofs.lemmas.List.{nil_from_length}
 use Rattle.c_tree.specs.declared.tree.Function.{Function}
 use Rattle.c_tree.specs.declared.tree.Item.{Item}
 use Rattle.c_tree.specs.Trees.{Nil, trees_of}
@@ -39,12 +40,8 @@ none_there : (n : ℕ) → numbers_from 0 n ≡ [] → n ≡ 0
 none_there zero e = refl
 none_there (suc n) e = cc
 
-none_of : {A : Type 0} (xs : List A) → length xs ≡ 0 → xs ≡ []
-none_of [] e = refl
-none_of (x ∷ xs) e = cc
-
 unnamed : (f : Function) → HasForm f → Everywhere IsStructured (body_of f) → f.labels ≡ []
-unnamed f h s = none_of f.labels (none_there (length f.labels) (sym h.labels ∙ unmarked (body_of f) (plain_items f (body_of f) s h.items)))
+unnamed f h s = nil_from_length f.labels (none_there (length f.labels) (sym h.labels ∙ unmarked (body_of f) (plain_items f (body_of f) s h.items)))
 
 module _ (used taken : List (List ℕ)) (f : Function) (labels : f.labels ≡ []) where
   body_same : (xs : List Item) (form : Form) → f.body ≡ Some xs → Everywhere IsStructured (trees_of xs) → Everywhere (HasSourceForm f) (trees_of xs) →

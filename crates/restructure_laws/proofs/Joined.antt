@@ -1,5 +1,5 @@
 -- Each join takes one Leap, and no other move takes or adds one.
-use Rattle.std.proofs.Common.{inl, inr, ◌≡◌, ℕ, ◌+◌, true, false, eqb, cond, List, [], ◌∷◌, Option, Some, None, refl, sym, ap, subst, ◌∙◌, arith}
+use Rattle.std.proofs.Common.{inl, inr, ◌≡◌, ℕ, ◌+◌, true, eqb, cond, List, [], ◌∷◌, Option, Some, None, refl, sym, ap, subst, ◌∙◌, arith}
 use Rattle.std.specs.Prelude.{sum_by}
 use Rattle.std.proofs.lemmas.List.Sums.{sum_by-append}
 use Rattle.c_tree.specs.declared.tree.Item.{Item}
@@ -22,11 +22,9 @@ use Rattle.move_order_laws.specs.Leaps.{leap_of, leaps}
 use Rattle.move_order_laws.specs.Next.{Point, MovesBy}
 use Rattle.move_order_laws.proofs.LeapsLeft.{one_fewer, same_leaps}
 use Rattle.move_order_laws.specs.MoveFunctionCounts.{joined}
+use Rattle.move_order_laws.proofs.Joined.{no_join}
 use Rattle.move_bodies.specs.Moving.{MovesTo}
 use Rattle.move_bodies.specs.Lawful.{IsMadeIn}
-use Rattle.guard_simplify.specs.declared.choice.Choice.{Choice}
-use Rattle.guard_simplify.specs.Choice.{Among, barred, choices}
-use Rattle.guard_simplify.proofs.Members.{located}
 use Rattle.guard_simplify.proofs.Applied.{IsSimplified, chosen_simplified}
 use Rattle.whole_laws.proofs.Flattened.{body_is}
 use Rattle.restructure_laws.specs.Lawful as L
@@ -87,23 +85,6 @@ to_leaps (Some to) k l p new h =
     let e = moved_none k l p q h in
     let f = same_leaps k l p q h in
     omega (arith, e, f)
-
-no_join : (c : Choice) (body : List Item) → Among c (choices (trees_of body)) → is_join c.kind ≡ false
-no_join c body h =
-    let l = located (λ l. barred l (trees_of body)) c.path.steps body c refl h in
-    elim l.shape [
-      | inl a ↦ ap is_join a.0
-      | inr s ↦ elim s [
-        | inl a ↦ ap is_join a.0
-        | inr s ↦ elim s [
-          | inl a ↦ ap is_join a.0
-          | inr s ↦ elim s [
-            | inl a ↦ ap is_join a.0
-            | inr a ↦ ap is_join a.0
-          ]
-        ]
-      ]
-    ]
 
 pub body_leaps : (name : List ℕ) (labels : List (List ℕ)) (m : Move) (old new : List Item) → IsChanged name labels m old new →
     one m.kind + leaps (trees_of new) ≡ leaps (trees_of old)

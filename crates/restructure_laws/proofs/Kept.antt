@@ -24,7 +24,7 @@ use Rattle.move_order_laws.specs.Moved.{IsMoved}
 use Rattle.plain_laws.specs.Plain.{tidied, plain_function, plain_top}
 use Rattle.plain_laws.specs.Tidied.{tidy}
 use Rattle.plain_laws.proofs.TidyTrees.{tidied_trees}
-use Rattle.whole_laws.proofs.PlainTops.{no_body}
+use Rattle.whole_laws.proofs.PlainTops.{no_body, other_plain}
 use Rattle.move_order_laws.specs.Skeletons.{skeleton}
 use Rattle.move_order_laws.proofs.Laws.{skeleton_laws}
 use Rattle.whole_laws.specs.Rewritten.{IsFlatForm, IsUnlabelledForm}
@@ -34,7 +34,7 @@ use Rattle.whole_laws.proofs.Source.{IsSourceFunction}
 use Rattle.restructure_laws.specs.EachPlace.{AtEachPlace}
 use Rattle.restructure_laws.specs.Skeletons.{flat_form, IsWithoutLabels, IsKept, keeps_skeleton, loses_labels, stays_declared, stays}
 use Rattle.restructure_laws.specs.WholeBoundsLaws.{SkeletonsAreKept}
-use Rattle.restructure_laws.proofs.Placed.{Placed, is_moved, is_left, is_declared, is_other, AllPlaced, none_placed, more_placed, placed, plain_left, other_plain}
+use Rattle.restructure_laws.proofs.Placed.{Placed, is_moved, is_left, is_declared, is_other, AllPlaced, none_placed, more_placed, placed, plain_left}
 
 -- ---- simplifications
 

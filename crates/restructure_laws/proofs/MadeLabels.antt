@@ -4,7 +4,7 @@ use Rattle.std.specs.Prelude.{IfSome, nat_lt}
 use Rattle.c_copies.specs.Names.{has_name, with_name}
 use Rattle.c_tree.specs.declared.tree.Slot.{Slot}
 use Rattle.c_fresh_names.specs.Fresh.{numbered, fresh}
-use Rattle.c_fresh_names.proofs.NameSets.{no_more}
+use Rattle.c_fresh_names.proofs.NameSets.{one_more}
 use Rattle.flat_names.specs.declared.constructs.Construct.{Construct}
 use Rattle.flat_names.specs.declared.constructs.Construct.TheVariants as c
 use Rattle.flat_names.specs.declared.giving.Made.{Made}
@@ -106,9 +106,6 @@ constructs_given k (c.Scattered kind n d l ∷ xs) g =
     let e = behind_given k n d l (name_variable k kind g) in omega (arith, h, e)
 
 -- ---- how many names
-
-one_more : (us : List (List ℕ)) (n : List ℕ) → length (with_name us n) ≤ length us + 1
-one_more us n = no_more us (n ∷ [])
 
 cases_used : (k i n : ℕ) (g : Given) → length (name_cases k i n g).used ≤ length g.used + n
 cases_used k i zero g = omega arith

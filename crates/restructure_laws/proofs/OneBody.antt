@@ -10,16 +10,14 @@ use Rattle.c_tree.specs.WellMade.{IsWellMade}
 use Rattle.c_tree.proofs.MoveLemmas.{some_same}
 use Rattle.c_tree.proofs.RuleChanges.{stands}
 use Rattle.c_tree.proofs.TreeLaws.{tree-Leap}
-use Rattle.label_offsets.specs.Marks.{leap_label}
 use Rattle.label_offsets.proofs.ChoiceLaws.{one_land}
-use Rattle.label_offsets.proofs.HeldLaws.{leap_label-Leap}
 use Rattle.report_moves.specs.declared.moves.Move.{Move}
 use Rattle.report_moves.specs.declared.moves.MoveKind.{MoveKind}
 use Rattle.report_moves.specs.declared.moves.MoveKind.TheVariants.{Join, Z2, Z3, Z5}
 use Rattle.move_order_laws.specs.Leaps.{leap_of, leaps}
 use Rattle.move_order_laws.specs.Next.{Point, MovesBy}
 use Rattle.move_order_laws.proofs.ListTotals.{total-split, list_total}
-use Rattle.move_order_laws.proofs.OneDerivation.{leap_there}
+use Rattle.move_order_laws.proofs.OneDerivation.{leap_there, same_label}
 use Rattle.move_order_laws.proofs.OneMove.{one_join, one_move}
 use Rattle.move_bodies.specs.Moving.{MovesTo}
 use Rattle.move_bodies.specs.Lawful.{IsMadeIn}
@@ -56,11 +54,6 @@ pub moved_leap : (labels : List (List ℕ)) (m : Move) (old new : List Item) (h 
 moved_leap labels m old new h = leap_at h.to m.kind h.label (record { body = old; at = m.path }) new h.moves.moves
 
 -- ---- one move of a Leap
-
-pub same_label : (l m : ℕ) (o : Option Item) → o ≡ Some (Leap l) → o ≡ Some (Leap m) → l ≡ m
-same_label l m o e f =
-    let x : Leap l ≡ Leap m = some_same (sym e ∙ f) in
-    some_same (sym (leap_label-Leap l) ∙ ap leap_label x ∙ leap_label-Leap m)
 
 no_join : (l : ℕ) (p q : Point) (k : MoveKind) → k ≡ Join → MovesBy k l p q → ⊥
 no_join l p q k e h = subst (λ z. MovesBy z l p q) e h

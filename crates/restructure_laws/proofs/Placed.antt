@@ -1,5 +1,5 @@
 -- What stands at one place of a source, of its flat forms and after all moves.
-use Rattle.std.proofs.Common.{◌≡◌, ℕ, true, false, true≢false, cond, List, [], ◌∷◌, ◌++◌, Option, Some, None, refl, sym, ap, ◌∙◌}
+use Rattle.std.proofs.Common.{◌≡◌, ℕ, true, false, true≢false, cond, List, [], ◌∷◌, ◌++◌, Option, Some, None, sym, ap, ◌∙◌}
 use Rattle.c_tree.specs.declared.tree.Function.{Function}
 use Rattle.c_tree.specs.declared.tree.Program.{Program}
 use Rattle.c_tree.specs.declared.tree.Top.{Top}
@@ -11,7 +11,7 @@ use Rattle.c_resolved_defs.specs.Within.{Each}
 use Rattle.flat_laws.specs.Parts.{has_jumps}
 use Rattle.report_moves.specs.declared.moves.Move.{Move}
 use Rattle.move_order_laws.specs.Moved.{IsMoved, MovedTop, mt_moved, mt_other, MovedTops, mt_none, mt_more}
-use Rattle.plain_laws.specs.Plain.{tidied, with_guard_variables, plain_body, plain_function, plain_top}
+use Rattle.plain_laws.specs.Plain.{tidied, with_guard_variables, plain_body, plain_function}
 use Rattle.whole_laws.specs.Rewritten.{IsFlatForm, IsUnlabelledForm, IsNoFunction, FlatTop, ft_flat, ft_unlabelled, ft_declared, ft_other, FlatTops, ft_none, ft_more, IsRewritten}
 use Rattle.whole_laws.proofs.Source.{IsSourceFunction, source_function}
 
@@ -62,7 +62,3 @@ module _ (counts : FlatCounts) (p : Program) (r : IsResolvedWith counts p) where
 
 pub plain_left : (ns : List (List ℕ)) (f g : Function) (w : IsUnlabelledForm f g) → plain_function ns g ≡ record g { body = Some (tidied w.new) }
 plain_left ns f g w = ap (plain_body ns g) w.new_body ∙ ap (λ b. cond b (with_guard_variables ns g w.new) (record g { body = Some (tidied w.new) })) w.flat
-
-pub other_plain : (names : Function → List (List ℕ)) (t : Top) → IsNoFunction t → plain_top names t ≡ t
-other_plain names (T.Function f) n = absurd n
-other_plain names _ n = refl

@@ -32,8 +32,8 @@ use Rattle.guard_simplify.specs.Naming.{choice_named, choices_named}
 use Rattle.guard_simplify.proofs.Members.{in_first}
 use Rattle.move_bodies.specs.Lawful.{IsMadeIn}
 use Rattle.move_order_laws.specs.Moved.{IsMoved, mt_moved, mt_other, MovedTops, mt_none, mt_more}
+use Rattle.move_order_laws.proofs.SomeDerivation.{none_left}
 use Rattle.whole_laws.specs.Rewritten.{FlatTop, ft_flat, ft_unlabelled, ft_declared, ft_other, FlatTops, ft_none, ft_more, IsRewritten}
-use Rattle.whole_laws.proofs.BodiesKept.{none_left}
 use Rattle.whole_laws.proofs.Chains.{IsConvertible, AreConvertible}
 use Rattle.whole_laws.proofs.FlatPrograms.{flat_program}
 use Rattle.whole_laws.proofs.Flattened.{body_is}

@@ -46,7 +46,7 @@ pair body at h =
 
 -- the first item that passes is there if one passes
 
-present : {X : Type 0} (p : X → Bool) (xs : List X) (k : ℕ) (d : X) → k < length xs → p (get_or xs k d) ≡ true → position p xs ≡ None → ⊥
+pub present : {X : Type 0} (p : X → Bool) (xs : List X) (k : ℕ) (d : X) → k < length xs → p (get_or xs k d) ≡ true → position p xs ≡ None → ⊥
 present p xs k d h t e = elim (cases_lt k (position_or_len p xs)) [
   | inl before ↦ false≢true (sym (fails_before_first p xs k d before) ∙ t)
   | inr after ↦

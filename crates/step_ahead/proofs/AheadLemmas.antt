@@ -115,15 +115,3 @@ step_reaches s t e u a n m k d q = dropped_after s t e n m (Loops (ForLoop u (So
 pub goes_on : (s t : Store) (n : ℕ) (tasks left : List Work) (values : List Value) → Reaches s t n (tasks_of tasks) (tasks_of left) →
     GoesOn s t n tasks left values values
 goes_on s t n tasks left values r = record { comes = λ P f g cs w h. r.comes P f g (values_of (names_of s) values) cs w h }
-
-pub computed_goes_on : (s : Store) (e : ExpressionTree) (x : Computed) (tasks left : List Work) (values new : List Value) → IsComputed s e x →
-    tasks_of tasks ≡ Works (Computes e) ∷ tasks_of left
-    → values_of (names_of s) new ≡ Integer x.number ∷ values_of (names_of s) values → GoesOn s s x.steps tasks left values new
-computed_goes_on s e x tasks left values new l a b = record {
-  comes = λ P f g cs w h. (
-    w.variables,
-    ap (λ k. run P x.steps (At f g k (values_of (names_of s) values) cs w)) a ∙ l.comes P f g (tasks_of left) (values_of (names_of s) values) cs w h
-        ∙ ap (λ v. At f g (tasks_of left) v cs w) (sym b),
-    h,
-  );
-}

@@ -1,5 +1,5 @@
 -- An expression is computed where its parts are, by the form that it has.
-use Rattle.std.proofs.Common.{◌≡◌, ℕ, suc, ◌+◌, ℤ, pos, Bool, true, false, not, cond, List, [], ◌∷◌, Option, Some, None, Ok, Result, refl, sym, ap, ◌∙◌, subst, arith}
+use Rattle.std.proofs.Common.{◌≡◌, ℕ, suc, ◌+◌, ℤ, pos, true, false, not, cond, List, [], ◌∷◌, Option, Some, None, Ok, Result, refl, sym, ap, ◌∙◌, subst, arith}
 use Rattle.c_types.specs.declared.kinds.IntKind.{IntKind}
 use Rattle.c_types.specs.declared.trap.Trap.{Trap}
 use Rattle.c_types.specs.Numbers.{converted}
@@ -81,9 +81,6 @@ is_cast s e a (Some k) x r o h l i = cast_to s e a k x r h o l i
 binary_tree : (e a b : Expression) (op : BinaryOp) → (out-Expression e).node ≡ N.Binary op a b →
     expression_tree e ≡ Typed (out-Expression e).kind (Binary op (expression_tree a) (expression_tree b))
 binary_tree e a b op h = at_node e (N.Binary op a b) (Binary op (expression_tree a) (expression_tree b)) h (node-Binary op a b)
-
-opposite : (b : Bool) → b ≡ true → not b ≡ false
-opposite b e = ap not e
 
 pub is_decided : (s : Store) (e a b : Expression) (op : BinaryOp) (x r : Computed) → (out-Expression e).node ≡ N.Binary op a b →
     IsComputed s (expression_tree a) x

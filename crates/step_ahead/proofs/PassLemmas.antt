@@ -19,7 +19,7 @@ use Rattle.step_ahead.specs.Ahead.{GoesOn, Passes}
 use Rattle.step_ahead.proofs.RunLemmas.{run_parts}
 
 -- the state after an effect that goes on
-comes_to : (P : Code) (E : Effect) (f : List ℕ) (g : Guards) (before after : List Task) (cs : List Frame) (vs : List Meant.Value) (w : World)
+pub comes_to : (P : Code) (E : Effect) (f : List ℕ) (g : Guards) (before after : List Task) (cs : List Frame) (vs : List Meant.Value) (w : World)
     → Comes E before after vs w → perform P E f g before cs ≡ At f g after vs cs w
 comes_to P (Does os v u) f g before after cs vs w c =
     ap (λ k. At f g k v cs u) (sym c.0) ∙ ap (λ x. At f g after x cs u) (sym c.1) ∙ ap (λ x. At f g after vs cs x) (sym c.2)

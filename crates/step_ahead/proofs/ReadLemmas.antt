@@ -1,5 +1,5 @@
 -- What stands in a variable is read.
-use Rattle.std.proofs.Common.{◌≡◌, ℕ, suc, ◌+◌, ◌<◌, ℤ, pos, negsuc, nat_abs, true, true≢false, cond, nat_lt, List, [], ◌∷◌, slice_get, Option, Some, None, option_and_then, Ok, Result, refl, sym, ap, ◌∙◌, subst, arith}
+use Rattle.std.proofs.Common.{◌≡◌, ℕ, suc, ◌+◌, ◌<◌, ℤ, pos, negsuc, nat_abs, true, true≢false, cond, nat_lt, List, [], ◌∷◌, slice_get, Option, Some, None, option_and_then, Ok, Result, refl, sym, ap, ◌∙◌, subst, arith, lt-ltb}
 use Rattle.std.proofs.lemmas.Bool.Decides.{nat_tests}
 use Rattle.c_types.specs.declared.kinds.IntKind.{IntKind}
 use Rattle.c_types.specs.declared.trap.Trap.{Trap}
@@ -67,9 +67,6 @@ reads_slot s x rs r z k c a b e i =
 
 -- ---- cells of arrays
 
-within : (i n : ℕ) → i < n → nat_lt i n ≡ true
-within i n h = grind (arith, nat_tests)
-
 pub finds_cell : (s : Store) (h : Home) (e : ExpressionTree) (o : Owner) (i n k m : ℕ) → Reaches s h o → HasCount s o n → i < n →
     Leaves s (Computes e) (Meant.Integer (pos i)) k → m ≡ k + 2
     → Leaves s (Finds (Cell h e)) (Designates (owner_of (names_of s) o) i) m
@@ -78,7 +75,7 @@ finds_cell s h e o i n k m r c l p q =
     (two_parts s (Finds (Cell h e)) (Computes e) (Indexes h) (Meant.Integer (pos i)) (Designates (owner_of (names_of s) o) i) k (λ v w _. refl) p
     (λ v w y. ap (λ x. left (cond (nat_lt i (cells_held (w.variables x))) (Gives (Designates x i) w) (Traps Trap.Index w)) v) (r w y)
     ∙ ap (λ b. left (cond (nat_lt i b) (Gives (Designates (owner_of (names_of s) o) i) w) (Traps Trap.Index w)) v) (c w y)
-    ∙ ap (λ b. left (cond b (Gives (Designates (owner_of (names_of s) o) i) w) (Traps Trap.Index w)) v) (within i n l)))
+    ∙ ap (λ b. left (cond b (Gives (Designates (owner_of (names_of s) o) i) w) (Traps Trap.Index w)) v) (lt-ltb i n l)))
 
 -- ---- by the form of the expression
 

@@ -1,6 +1,5 @@
 -- The machine at the start of a call.
-use Rattle.std.proofs.Common.{ℕ, zero, suc, ◌<◌, ◌≤◌, nat_lt, false, List, [], ◌∷◌, length, get_or, All, ◌≡◌, sym, ap, ◌∙◌, arith}
-use Rattle.std.proofs.lemmas.Bool.Decides.{nat_tests}
+use Rattle.std.proofs.Common.{ℕ, zero, suc, ◌<◌, List, [], ◌∷◌, length, get_or, All, ◌≡◌, sym, ap, ◌∙◌, arith}
 use Rattle.c_tree.specs.Trees.{Forest}
 use Rattle.jump_meaning.specs.Step.{Frame, At, no_guards}
 use Rattle.jump_meaning.specs.Tasks.{items}
@@ -29,6 +28,3 @@ all_more P x xs p a = at where
   at : (k : ℕ) (d : Call) → k < suc (length xs) → P (get_or (x ∷ xs) k d)
   at zero d l = p
   at (suc k) d l = a k d (omega arith)
-
-pub not_over : (m n : ℕ) → n ≤ m → nat_lt m n ≡ false
-not_over m n h = grind (arith, nat_tests)

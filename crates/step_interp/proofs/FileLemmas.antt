@@ -182,10 +182,6 @@ no_variable tops = record {
   others = λ m e. refl;
 }
 
-pub map_push : {A B : Type 0} (f : A → B) (xs : List A) (x : A) → map f (xs ++ x ∷ []) ≡ map f xs ++ f x ∷ []
-map_push f [] x = refl
-map_push f (y ∷ xs) x = ap (λ ys. f y ∷ ys) (map_push f xs x)
-
 -- before any call only the variables of the file are present
 pub first_holds : (p : Program) (s : Store) (input : List ℕ) (left : List Top) → HasFile p.tops left (names_of s) s.file → s.calls ≡ [] ∷ [] →
     s.newest ≡ 0 → HoldsWorld s (world_at_start (code_of p) input [])

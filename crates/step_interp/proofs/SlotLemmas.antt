@@ -1,7 +1,6 @@
 -- The slots of a call, one after the other.
-use Rattle.std.proofs.Common.{ℕ, zero, suc, ◌+◌, ◌-◌, ◌<◌, ◌≤◌, nat_lt, true, false, cond, pos, List, [], ◌∷◌, ◌++◌, map, replicate, length, get_or, drop, slice_get, Option, Some, None, option_map, inl, inr, ◌≡◌, refl, sym, ap, ◌∙◌, subst, arith}
-use Rattle.std.proofs.lemmas.Bool.{cases_lt}
-use Rattle.std.proofs.lemmas.Bool.Decides.{nat_tests}
+use Rattle.std.proofs.Common.{ℕ, zero, suc, ◌+◌, ◌-◌, ◌<◌, ◌≤◌, cond, pos, List, [], ◌∷◌, ◌++◌, map, replicate, length, get_or, drop, slice_get, Option, Some, None, option_map, inl, inr, ◌≡◌, refl, sym, ap, ◌∙◌, subst, arith}
+use Rattle.std.proofs.lemmas.Bool.{cases_lt, lt-ltb, le-ltb}
 use Rattle.std.proofs.lemmas.List.{length-replicate}
 use Rattle.std.proofs.lemmas.Option.{slice_get-map, slice_get_within}
 use Rattle.c_types.specs.declared.kinds.IntKind.{IntKind}
@@ -43,14 +42,11 @@ entry_slot [] i s h e = absurd (omega arith)
 entry_slot (x ∷ ss) zero s h e = sym e
 entry_slot (x ∷ ss) (suc i) s h e = entry_slot ss i s (omega arith) e
 
-under : (i n : ℕ) → i < n → nat_lt i n ≡ true
-under i n h = grind (arith, nat_tests)
-
 -- the variable that the next parameter is
 pub next_slot : (f : FunctionTree) (vs left : List Meant.Value) (i : ℕ) (s : Slot) → i < f.params → i < length f.slots → s ≡ get_or f.slots i s →
     left ≡ drop i vs → parameter s (top left) ≡ slot_at_start f vs i
 next_slot f vs left i s p h e k =
-    sym (ap (λ b. cond b (parameter (entry_or no_slot f.slots i) (entry_or Meant.Missing vs i)) (zeros (entry_or no_slot f.slots i))) (under i f.params p)
+    sym (ap (λ b. cond b (parameter (entry_or no_slot f.slots i) (entry_or Meant.Missing vs i)) (zeros (entry_or no_slot f.slots i))) (lt-ltb i f.params p)
     ∙ ap (λ q. parameter q (entry_or Meant.Missing vs i)) (entry_slot f.slots i s h e)
     ∙ ap (parameter s) (sym (ap top k ∙ entry_top vs i)))
 
@@ -76,9 +72,6 @@ entry_got [] i s e = cc
 entry_got (x ∷ ss) zero s e = cc
 entry_got (x ∷ ss) (suc i) s e = entry_got ss i s e
 
-not_under : (i n : ℕ) → n ≤ i → nat_lt i n ≡ false
-not_under i n h = grind (arith, nat_tests)
-
 mapped_slot : (ns : List (List ℕ)) (o : Option Slot) (r : Room) (v : Variable) → option_map room_at_start o ≡ Some r →
     ((s : Slot) → o ≡ Some s → v ≡ zeros s) → IsRoom ns r v
 mapped_slot ns None r v e h = cc
@@ -100,6 +93,6 @@ rest_slots ns f vs first n e p a x r h = elim (cases_lt x n) as (λ _. IsRoom ns
       (λ s g.
       let within : n < length f.slots = omega (arith, l, slice_get_within f.slots x s g) in
       ap (λ b. cond b (parameter (entry_or no_slot f.slots x) (entry_or Meant.Missing vs x)) (zeros (entry_or no_slot f.slots x)))
-      (not_under x f.params (omega (arith, p within, l)))
+      (le-ltb x f.params (omega (arith, p within, l)))
       ∙ ap zeros (entry_got f.slots x s g))
 ]

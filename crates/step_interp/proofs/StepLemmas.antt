@@ -1,7 +1,7 @@
 -- What was written and read after one step.
-use Rattle.std.proofs.Common.{ℕ, ℤ, ◌+◌, ◌≡◌, min, List, [], ◌∷◌, ◌++◌, map, take, length, Option, Some, refl, sym, ap, ◌∙◌, append_assoc, append-nil, arith}
-use Rattle.std.proofs.lemmas.List.{length-append}
-use Rattle.rg_ports.specs.Written.{Written, Told, Counted, Untold, more, FrontWritten}
+use Rattle.std.proofs.Common.{ℕ, ℤ, ◌+◌, ◌≡◌, List, [], ◌∷◌, ◌++◌, map, take, Option, Some, refl, sym, ap, ◌∙◌, append-nil}
+use Rattle.rg_ports.specs.Written.{Written, more, FrontWritten}
+use Rattle.rg_ports.proofs.WrittenLemmas.{more-more}
 use Rattle.jump_meaning.specs.Values.{Event, Byte, Called}
 use Rattle.jump_meaning.specs.World.{World}
 use Rattle.jump_meaning.specs.Step.{State, HasEnded, HasTrapped}
@@ -15,15 +15,6 @@ use Rattle.step_interp.specs.Calls.{QuietlyReaches}
 use Rattle.step_interp.specs.Shown.{bytes_in}
 use Rattle.step_interp.specs.Answers.{output_of}
 use Rattle.step_interp.specs.Followed.{HasPorts, Follows, IsLast, WroteFront, HasRead, ReadsNext}
-
-min_more : (n a b m : ℕ) → min (min (n + a) m + b) m ≡ min (n + (a + b)) m
-min_more n a b m = omega arith
-
-more_append : (t : Written) (a b : List ℕ) → more (more t a) b ≡ more t (a ++ b)
-more_append (Told bytes) a b = ap Told (append_assoc bytes a b)
-more_append (Counted n) a b = ap Counted (min_more n (length a) (length b) 18446744073709551615 ∙
-    ap (λ k. min (n + k) 18446744073709551615) (sym (length-append a b)))
-more_append Untold a b = refl
 
 bytes_append : (xs ys : List Event) → bytes_in (xs ++ ys) ≡ bytes_in xs ++ bytes_in ys
 bytes_append [] ys = refl
@@ -64,7 +55,7 @@ wrote s told m w es fs bs was now l h q e p k = record {
   same = h.same;
   has = h.has;
   ports = record {
-    output = k ∙ ap (λ t. more t bs) p.output ∙ more_append told (bytes_in w.events) bs ∙
+    output = k ∙ ap (λ t. more t bs) p.output ∙ more-more told (bytes_in w.events) bs ∙
         ap (more told) (sym (ap bytes_in h.events ∙ bytes_shown w.events es fs bs q e));
     input = p.input ∙ ap Some (sym h.input);
   };
@@ -87,7 +78,7 @@ front s told m w es fs bs was now l h q e p f = record {
   next = ap output_of h.same ∙ ap bytes_in h.events ∙ bytes_shown w.events es fs bs q e;
   count = f.count;
   short = f.short;
-  output = f.front ∙ ap (λ t. more t (take f.count bs)) p.output ∙ more_append told (bytes_in w.events) (take f.count bs);
+  output = f.front ∙ ap (λ t. more t (take f.count bs)) p.output ∙ more-more told (bytes_in w.events) (take f.count bs);
   input = p.input;
 }
 

@@ -1,9 +1,9 @@
 -- What a step comes to, by the task that is next.
-use Rattle.std.proofs.Common.{ℕ, List, ◌∷◌, map, false, ◌≡◌, refl, sym, ap, ◌∙◌, subst, true≢false}
+use Rattle.std.proofs.Common.{List, ◌∷◌, map, false, ◌≡◌, refl, sym, ap, ◌∙◌, subst, true≢false}
 use Rattle.c_types.specs.declared.trap.Trap.{Trap}
-use Rattle.jump_meaning.specs.Code.{Code, code_of, items_of}
-use Rattle.jump_meaning.specs.Effects.{Op, Effect, Does, effect}
-use Rattle.jump_meaning.specs.Step.{Guards, Frame, At, HasTrapped, step, move, view, perform}
+use Rattle.jump_meaning.specs.Code.{code_of, items_of}
+use Rattle.jump_meaning.specs.Effects.{Op, effect}
+use Rattle.jump_meaning.specs.Step.{At, HasTrapped, step, move, view, perform}
 use Rattle.jump_meaning.specs.Tasks as T
 use Rattle.jump_meaning.specs.Values as Meant
 use Rattle.jump_meaning.specs.World.{World}
@@ -17,11 +17,12 @@ use Rattle.step_tasks.specs.declared.work.Task.TheVariants as My
 use Rattle.step_tasks.specs.declared.work.Use.TheVariants as Uses
 use Rattle.step_tasks.specs.declared.work.Work.{Work}
 use Rattle.step_tasks.specs.Controls.{is_control, guards_of, Moves}
-use Rattle.step_tasks.specs.Effects.{Comes, IsTrapped, Changes}
+use Rattle.step_tasks.specs.Effects.{IsTrapped, Changes}
 use Rattle.step_tasks.specs.Tasks.{task_of, tasks_of}
 use Rattle.step_interp.specs.declared.machine.Machine.{Machine}
 use Rattle.step_interp.specs.declared.machine.Next.{Next}
 use Rattle.step_tasks.specs.Labels.{AreLabelsOf}
+use Rattle.step_ahead.proofs.PassLemmas.{comes_to}
 use Rattle.step_interp.specs.Machines.{HasWorld, IsCallOf, IsFunctionOf, frames_of, state_of}
 use Rattle.step_interp.specs.Moves.{Reaches, StandsFor}
 use Rattle.step_interp.specs.Calls.{QuietlyReaches}
@@ -41,13 +42,6 @@ op_of (My.Ask t) e = absurd (true≢false e)
 op_of (My.AskSelector s) e = absurd (true≢false e)
 op_of (My.Arm l) e = absurd (true≢false e)
 op_of _ e = (_, refl)
-
--- the state after an effect that goes on
-pub comes_to : (P : Code) (E : Effect) (f : List ℕ) (g : Guards) (before after : List T.Task) (cs : List Frame) (vs : List Meant.Value) (w : World)
-    → Comes E before after vs w → perform P E f g before cs ≡ At f g after vs cs w
-comes_to P (Does os v u) f g before after cs vs w c =
-    ap (λ k. At f g k v cs u) (sym c.0) ∙ ap (λ x. At f g after x cs u) (sym c.1) ∙ ap (λ x. At f g after vs cs x) (sym c.2)
-comes_to P _ f g before after cs vs w c = absurd c
 
 -- ---- of a machine
 

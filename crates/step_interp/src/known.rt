@@ -78,7 +78,7 @@ fn print<'a>(machine: &mut Machine<'_, 'a>, arguments: Values<'a>) -> Result<Nex
 }
 
 /// A function of no known name without a body, for which no answer is left.
-fn declared(machine: &mut Machine<'_, '_>, gives: bool) -> Result<Next, Memory>
+fn without_answer(machine: &mut Machine<'_, '_>, gives: bool) -> Result<Next, Memory>
     ensures program { machine.new.program ≡ machine.old.program }
     ensures ok { IfOk result (λ next. (m : List ℕ) (f : FunctionTree) (vs : List TheValue) → gives ≡ is_some f.result → SettlesQuietly ⊥ (call_declared m f vs) machine.old next machine.new) }
 {
@@ -118,5 +118,5 @@ pub fn call_without_body<'a>(
     if name == "abort" {
         return Ok(Next::Traps(Trap::Abort));
     }
-    declared(machine, gives)
+    without_answer(machine, gives)
 }

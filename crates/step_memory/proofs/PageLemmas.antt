@@ -149,14 +149,6 @@ page_at_start_pages (p ∷ ps) ss zero a = (is_page_at_start (take 64 ss), a.1)
 page_at_start_pages (p ∷ ps) ss (suc q) a =
     (a.0, subst (λ z. ArePages (slice_set ps q (map room_at_start z)) (drop 64 ss)) (next_part q ss) (page_at_start_pages ps (drop 64 ss) q a.1))
 
-pub some_part : (q : ℕ) (ss : List Slot) → q * 64 < length ss → map room_at_start (part q ss) ≢ []
-some_part q ss l e = absurd (omega (arith, ap length e, length-map (part q ss) room_at_start, length-take 64 (drop (q * 64) ss), length-drop (q * 64) ss))
-
-pub get_or_set : (ps : List (List Room)) (q : ℕ) (p : List Room) → q < length ps → get_or (slice_set ps q p) q [] ≡ p
-get_or_set [] q p l = absurd (omega arith)
-get_or_set (o ∷ ps) zero p l = refl
-get_or_set (o ∷ ps) (suc q) p l = get_or_set ps q p (omega arith)
-
 -- ---- pages that aren't made, behind the others
 
 pub one_more_shown : (ps : List (List Room)) (ss : List Slot) → shown (ps ++ [] ∷ []) ss ≡ shown ps ss

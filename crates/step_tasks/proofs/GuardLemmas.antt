@@ -1,21 +1,18 @@
 -- Guards that are kept as a list of the labels whose guard is set.
 use mathlib.Core.Path.{fun_ext}
-use Rattle.std.proofs.Common.{ℕ, zero, suc, ◌+◌, ◌⊎◌, inl, inr, ◌<◌, ◌≤◌, Bool, true, false, ◌||◌, cond, eqb, List, [], ◌∷◌, ◌++◌, length, get_or, take, drop, remove, ◌≡◌, ◌≢◌, refl, sym, ap, ◌∙◌, true≢false, arith}
+use Rattle.std.proofs.Common.{ℕ, zero, suc, ◌+◌, inl, inr, ◌<◌, ◌≤◌, Bool, true, false, ◌||◌, cond, eqb, List, [], ◌∷◌, ◌++◌, length, get_or, take, drop, remove, ◌≡◌, ◌≢◌, refl, sym, ap, ◌∙◌, true≢false, arith}
 use Rattle.std.specs.List.{list_any}
 use Rattle.std.proofs.lemmas.Bool.Decides.{Decides-eqb}
+use Rattle.std.proofs.lemmas.Bool.{cases_Bool}
 use Rattle.jump_meaning.specs.Step.{with_guard}
 use Rattle.jump_meaning.proofs.Memory.{chosen}
 use Rattle.step_tasks.specs.Controls.{guards_of}
-
-pub either : (b : Bool) → (b ≡ true) ⊎ (b ≡ false)
-either true = inl refl
-either false = inr refl
 
 pub is_same : (l m : ℕ) → m ≡ l → eqb l m ≡ true
 is_same l m e = (Decides-eqb l m).1 (sym e)
 
 pub is_other : (l m : ℕ) → m ≢ l → eqb l m ≡ false
-is_other l m n = elim (either (eqb l m)) as (λ _. eqb l m ≡ false) [
+is_other l m n = elim (cases_Bool (eqb l m)) as (λ _. eqb l m ≡ false) [
   | inl t ↦ absurd (n (sym ((Decides-eqb l m).0 t)))
   | inr f ↦ f
 ]
@@ -33,7 +30,7 @@ or_chosen true false q = refl
 or_chosen false _ q = refl
 
 last_one : (l m : ℕ) → list_any (eqb m) (l ∷ []) ≡ cond (eqb l m) true false
-last_one l m = elim (either (eqb l m)) as (λ _. list_any (eqb m) (l ∷ []) ≡ cond (eqb l m) true false) [
+last_one l m = elim (cases_Bool (eqb l m)) as (λ _. list_any (eqb m) (l ∷ []) ≡ cond (eqb l m) true false) [
   | inl t ↦ ap (λ b. b || false) (is_same m l ((Decides-eqb l m).0 t)) ∙ sym (ap (λ b. cond b true false) t)
   | inr f ↦ ap (λ b. b || false) (is_other m l (λ e. true≢false (sym (is_same l m (sym e)) ∙ f))) ∙ sym (ap (λ b. cond b true false) f)
 ]

@@ -1,6 +1,7 @@
 -- The table of labels: its levels, and what is found.
 use Rattle.std.proofs.Common.{ℕ, zero, suc, ◌-◌, ◌≤◌, ◌<◌, true, false, cond, eqb, List, [], ◌∷◌, ◌++◌, length, slice_get, slice_set, Option, Some, None, option_map, ◌≡◌, ◌≢◌, inl, inr, refl, sym, ap, ◌∙◌, subst, true≢false, arith}
 use Rattle.std.proofs.lemmas.Bool.Decides.{Decides-eqb}
+use Rattle.std.proofs.lemmas.Bool.{cases_Bool}
 use Rattle.c_tree.specs.declared.tree.Function.{Function}
 use Rattle.c_tree.specs.declared.tree.Item.{Item}
 use Rattle.c_tree.specs.Trees.{trees_of}
@@ -12,7 +13,6 @@ use Rattle.step_tasks.specs.declared.labels.Level.{Level}
 use Rattle.step_tasks.specs.declared.work.Work.{Work}
 use Rattle.step_tasks.specs.Labels.{IsStackIn, IsStack, IsFound, IsPut, Adds, AddsBefore, AreLabelsOf, start_of}
 use Rattle.step_tasks.specs.Tasks.{work_of}
-use Rattle.step_tasks.proofs.GuardLemmas.{either}
 
 -- ---- levels
 
@@ -111,7 +111,7 @@ set_other (y ∷ xs) (suc i) x zero n = refl
 set_other (y ∷ xs) (suc i) x (suc j) n = set_other xs i x j (λ e. n (ap suc e))
 
 pub entry_set : (xs : List ℕ) (i x j : ℕ) → i < length xs → entry_or 0 (slice_set xs i x) j ≡ cond (eqb j i) x (entry_or 0 xs j)
-entry_set xs i x j h = elim (either (eqb j i)) as (λ _. entry_or 0 (slice_set xs i x) j ≡ cond (eqb j i) x (entry_or 0 xs j)) [
+entry_set xs i x j h = elim (cases_Bool (eqb j i)) as (λ _. entry_or 0 (slice_set xs i x) j ≡ cond (eqb j i) x (entry_or 0 xs j)) [
   | inl y ↦ ap (entry_or 0 (slice_set xs i x)) ((Decides-eqb j i).0 y) ∙ set_here xs i x h ∙ sym (ap (λ b. cond b x (entry_or 0 xs j)) y)
   | inr y ↦ set_other xs i x j (λ e. true≢false (sym ((Decides-eqb j i).1 e) ∙ y)) ∙ sym (ap (λ b. cond b x (entry_or 0 xs j)) y)
 ]
@@ -167,7 +167,7 @@ pub has_label : (t : Labels) (label below : ℕ) (F : List Task → List Task) �
 has_label t label below F n k s = record { kept = λ i k s. s; found = found } where
   found : (l : ℕ) (o : Option (List Task)) → IsFound t l o → IsFound t l (or_else o (cond (eqb l label) (Some (F k)) None))
   found l (Some j) f = f
-  found l None f = elim (either (eqb l label)) as (λ _. IsFound t l (cond (eqb l label) (Some (F k)) None)) [
+  found l None f = elim (cases_Bool (eqb l label)) as (λ _. IsFound t l (cond (eqb l label) (Some (F k)) None)) [
     | inl y ↦ absurd (n (ap (start_of t) (sym ((Decides-eqb l label).0 y)) ∙ f))
     | inr y ↦ subst (λ b. IsFound t l (cond b (Some (F k)) None)) (sym y) f
   ]
@@ -194,7 +194,7 @@ new_label old mid new label below level w z p e st k s = record { kept = kept; f
       (found_as old new l o (st l ∙ ap (λ b. cond b level (start_of mid l)) y ∙ ap (λ x. entry_or 0 x l) p.starts) kept f)
 
   found : (l : ℕ) (o : Option (List Task)) → IsFound old l o → IsFound new l (or_else o (cond (eqb l label) (Some (work_of w k)) None))
-  found l o f = elim (either (eqb l label)) as (λ _. IsFound new l (or_else o (cond (eqb l label) (Some (work_of w k)) None))) [
+  found l o f = elim (cases_Bool (eqb l label)) as (λ _. IsFound new l (or_else o (cond (eqb l label) (Some (work_of w k)) None))) [
     | inl y ↦ subst (λ b. IsFound new l (or_else o (cond b (Some (work_of w k)) None))) (sym y) (here l o y f)
     | inr y ↦ subst (λ b. IsFound new l (or_else o (cond b (Some (work_of w k)) None))) (sym y) (other l o y f)
   ]

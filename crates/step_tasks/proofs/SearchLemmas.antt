@@ -1,6 +1,5 @@
 -- Searches for a label, item by item.
-use Rattle.std.proofs.Common.{ℕ, suc, ◌-◌, take, ◌+◌, ◌<◌, arith, ℤ, Bool, true, false, cond, List, [], ◌∷◌, length, get_or, drop, Option, Some, None, ◌≡◌, refl, sym, ap, ◌∙◌, add-one, drop-cons}
-use Rattle.std.proofs.lemmas.List.{take_all, length-drop}
+use Rattle.std.proofs.Common.{ℕ, suc, ◌+◌, ◌<◌, ℤ, Bool, true, false, cond, List, [], ◌∷◌, length, get_or, drop, Option, Some, None, ◌≡◌, refl, sym, ap, ◌∙◌, add-one, drop-cons}
 use Rattle.c_types.specs.declared.kinds.IntKind.{IntKind}
 use Rattle.c_tree.specs.declared.tree.Expression.{Expression}
 use Rattle.c_tree.specs.declared.tree.Item.{Item, Item-F, Mark, Land, Arrival, If, While, Do, For, Switch, Block, out-Item, roll-Item, roll-out-Item}
@@ -179,9 +178,6 @@ sought_true false o old new e h = cc
 pub sought_false : (b : Bool) (o : Option (List Task)) (old new : List Work) → b ≡ false → Sought b o old new → (o ≡ None) × (new ≡ old)
 sought_false true o old new e h = cc
 sought_false false o old new e h = h
-
-pub whole : {A : Type 0} (xs : List A) (i : ℕ) → take (length xs - i) (drop i xs) ≡ drop i xs
-whole xs i = take_all (length xs - i) (drop i xs) (omega (arith, length-drop i xs))
 
 -- the case is found, or the default is sought where it isn't
 pub by_case : (o p : Option (List Task)) (rest found : List Task) → o ≡ Some found → first_of_three o p rest ≡ found

@@ -12,7 +12,7 @@ use Rattle.jump_meaning.specs.World.{World, parameter, zeros, no_slot, slot_at_s
 use Rattle.plain_laws.proofs.Memories.{Shape, Shapes, zero_in_range, Target, Good}
 use Rattle.plain_laws.proofs.Sorts.{ForSlot, HasSort}
 use Rattle.plain_laws.proofs.Carried.{Agree, target_grows, kind_grows, good_grows}
-use Rattle.plain_laws.proofs.Entering.{AreArguments, with_call, shapes_agree}
+use Rattle.plain_laws.proofs.Entering.{AreArguments, with_call, shapes_agree, call_apart}
 use Rattle.tidy_laws.specs.Renumbered.{new_number, without}
 use Rattle.tidy_laws.specs.Settled.{MayGo}
 use Rattle.tidy_laws.proofs.TidyChangesNumbers.{number_before, same_parameter, same_entry}
@@ -35,13 +35,6 @@ inside_shape g f vs = record { slots = f.slots; own = λ x. not (eqb x g) && is_
 
 abbrev pub with_hole : ℕ → ℕ → (ℕ → ℕ) → ℕ → ℕ
 with_hole c g holes d = cond (eqb c d) g (holes d)
-
-later_call : (n d : ℕ) → d ≤ n → eqb (suc n) d ≡ false
-later_call n d h = at (eqb (suc n) d) refl
-  where
-    at : (b : Bool) → eqb (suc n) d ≡ b → b ≡ false
-    at true e = let i = eqb-true (suc n) d e in absurd (omega (arith, i, h))
-    at false e = refl
 
 pub this_call : (n : ℕ) → eqb (suc n) (suc n) ≡ true
 this_call n = eq-eqb (suc n) (suc n) refl
@@ -72,7 +65,7 @@ module _ (p : Code) (sh : Shapes) (holes : ℕ → ℕ) (n : ℕ) (g : ℕ) (f :
   disagree d h = sym (agree d h)
 
   pub hole_before : (d : ℕ) → d ≤ n → bored d ≡ holes d
-  hole_before d h = ap (λ b. cond b g (holes d)) (later_call n d h)
+  hole_before d h = ap (λ b. cond b g (holes d)) (call_apart n d h)
 
   pub hole_here : bored (suc n) ≡ g
   hole_here = ap (λ b. cond b g (holes (suc n))) (this_call n)
@@ -202,7 +195,7 @@ module _ (p : Code) (sh : Shapes) (holes : ℕ → ℕ) (n : ℕ) (g : ℕ) (f :
         call_good = λ d x h i k. subst (λ v. Good p grown d (entry_or no_slot (grown d).slots x).kind ((grown d).own x) v) (sym (old_at d x))
             (good_in d x h (eqb (suc n) d) refl i k);
         older = λ d h. let i : d ≤ n = omega (arith, h) in subst (IsFlag false)
-            (sym (old_at d (bored d) ∙ ap (λ b. cond b (slot_at_start f vs (bored d)) (w.variables (OfCall d (bored d)))) (later_call n d i) ∙
+            (sym (old_at d (bored d) ∙ ap (λ b. cond b (slot_at_start f vs (bored d)) (w.variables (OfCall d (bored d)))) (call_apart n d i) ∙
             ap (λ y. w.variables (OfCall d y)) (hole_before d i))) (flag_before d i);
         newest = subst (IsFlag false) (sym
             (old_at (suc n) (bored (suc n)) ∙ ap (λ b. cond b (slot_at_start f vs (bored (suc n))) (w.variables (OfCall (suc n) (bored (suc n)))))

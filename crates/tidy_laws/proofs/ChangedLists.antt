@@ -1,5 +1,6 @@
 -- Each change of a body comes by the two steps: jumps that leave turns, then the slot goes.
 use Rattle.std.proofs.Common.{ℕ, ◌+◌, ◌≤◌, ◌<◌, pos, Bool, true, false, cond, eqb, eqb-true, List, [], ◌∷◌, Option, Some, None, option_map, ◌≡◌, refl, sym, ap, ◌∙◌, subst, true≢false}
+use Rattle.std.proofs.lemmas.Bool.{and_parts}
 use Rattle.c_types.specs.declared.kinds.IntKind.{IntKind}
 use Rattle.c_types.specs.declared.kinds.IntKind.TheVariants.{Int}
 use Rattle.c_tree.specs.declared.tree.Slot.{Slot}
@@ -10,6 +11,7 @@ use Rattle.c_tree.specs.TestTrees.{TestTree, Source}
 use Rattle.c_tree.specs.Trees.{Tree, Forest, Nil, Then, Sections, Evaluate, Local, join}
 use Rattle.c_tree.specs.Changed.{one}
 use Rattle.c_tree.specs.Everywhere.{Everywhere, EverywhereOf}
+use Rattle.c_tree.proofs.MoveLemmas.{some_same}
 use Rattle.jump_meaning.specs.Code.{Code}
 use Rattle.plain_laws.specs.Kinded.{KindedItem}
 use Rattle.tidy_laws.specs.Likeness.{Like, Likes, LikeSections, like_then}
@@ -19,7 +21,6 @@ use Rattle.tidy_laws.proofs.TidyExitStatements.{like_itself, likes_itself}
 use Rattle.tidy_laws.specs.Mentions.{item_lacks, list_lacks, sections_lack}
 use Rattle.tidy_laws.specs.Renumbered.{renumbered_item, renumbered_list, renumbered_sections}
 use Rattle.tidy_laws.specs.Changes.{is_number, is_reset, second_test, before_reset, is_zero_value, is_declaration, undeclared}
-use Rattle.tidy_laws.proofs.TidyZeroExpressions.{both}
 use Rattle.tidy_laws.specs.Settles.{nought, Items, i_nil, i_then, i_declared, Item, Parts}
 use Rattle.tidy_laws.proofs.Tailed.{plain_items, plain_item}
 
@@ -31,7 +32,7 @@ zero_is e h = absurd (true≢false (sym h))
 
 pub reset_is : (g : ℕ) (x : Tree) → is_reset g x ≡ true → x ≡ reset g
 reset_is g (Evaluate (Typed (Some Int) (Assign (Var (H.Slot x)) e))) h =
-    let k = both (eqb x g) (is_number 0 e) h in
+    let k = and_parts (eqb x g) (is_number 0 e) h in
     ap (λ y. Evaluate (Typed (Some Int) (Assign (Var (H.Slot y)) e))) (eqb-true x g k.0) ∙
     ap (λ e. Evaluate (Typed (Some Int) (Assign (Var (H.Slot g)) e))) (zero_is e k.1)
 reset_is g x h = absurd (true≢false (sym h))
@@ -45,16 +46,9 @@ zero_values es h = absurd (true≢false (sym h))
 
 declaration_is : (g : ℕ) (x : Tree) → is_declaration g x ≡ true → x ≡ declaration g
 declaration_is g (Local x es) h =
-    let k = both (eqb x g) (is_zero_value es) h in
+    let k = and_parts (eqb x g) (is_zero_value es) h in
     ap (λ y. Local y es) (eqb-true x g k.0) ∙ ap (Local g) (zero_values es k.1)
 declaration_is g x h = absurd (true≢false (sym h))
-
-pub some_same : {A : Type 0} {a b : A} → Some a ≡ Some b → a ≡ b
-some_same {a = a} e = ap (λ o. or o a) e
-  where
-    or : {A : Type 0} → Option A → A → A
-    or (Some x) y = x
-    or None y = y
 
 pub none_some : {A : Type 0} {a : A} → None ≡ Some a → ⊥
 none_some e = cc
@@ -140,7 +134,7 @@ module _ (p : Code) (ss : List Slot) (start count : ℕ) where
             → Items p ss g false (Then x xs) (renumbered_list g (cond y xs (Then x (undeclared g xs))))
         at true e l h = subst (λ x. Items p ss g false (Then x xs) (renumbered_list g xs)) (sym (declaration_is g x e))
             (i_declared (plain_items p ss g false xs k.1 l))
-        at false e l h = let i = both (item_lacks g x) (list_lacks g (undeclared g xs)) l in i_then (plain_item p ss g false x k.0 i.0) (h i.1)
+        at false e l h = let i = and_parts (item_lacks g x) (list_lacks g (undeclared g xs)) l in i_then (plain_item p ss g false x k.0 i.0) (h i.1)
 
     -- a list whose first item is no declaration
     pub first_stays : (d : Bool) (x : Tree) (xs : Forest) → is_declaration g x ≡ false → stripped d g (Then x xs) ≡ Then x (stripped d g xs)
@@ -151,7 +145,7 @@ module _ (p : Code) (ss : List Slot) (start count : ℕ) where
     pub then_made : (d : Bool) (x y : Tree) (xs : Forest) → is_declaration g y ≡ false → Everywhere K xs → (item_lacks g y ≡ true → MadeItem g x y) →
         list_lacks g (stripped d g (Then y xs)) ≡ true → Made d g (Then x xs) (Then y xs)
     then_made d x y xs e k h l =
-        let l' = both (item_lacks g y) (list_lacks g (stripped d g xs)) (subst (λ z. list_lacks g z ≡ true) (first_stays d y xs e) l) in
+        let l' = and_parts (item_lacks g y) (list_lacks g (stripped d g xs)) (subst (λ z. list_lacks g z ≡ true) (first_stays d y xs e) l) in
         let m = h l'.0 in
         record {
           middle = Then m.middle xs;
@@ -165,7 +159,7 @@ module _ (p : Code) (ss : List Slot) (start count : ℕ) where
         ((d : Bool) → list_lacks g (stripped d g ys) ≡ true → Made d g xs ys) → list_lacks g (stripped d g (Then x ys)) ≡ true →
         Made d g (Then x xs) (Then x ys)
     later_made false x xs ys k h l =
-        let i = both (item_lacks g x) (list_lacks g ys) l in
+        let i = and_parts (item_lacks g x) (list_lacks g ys) l in
         let m = h false i.1 in
         record { middle = Then x m.middle; before = like_then (like_itself LeavesOne x) m.before; behind = i_then (plain_item p ss g false x k i.0) m.behind }
     later_made true x xs ys k h l = at (is_declaration g x) refl l
@@ -180,7 +174,7 @@ module _ (p : Code) (ss : List Slot) (start count : ℕ) where
                   (subst (λ x. Items p ss g false (Then x m.middle) (renumbered_list g ys)) (sym (declaration_is g x e)) (i_declared m.behind));
             }
         at false e l =
-            let i = both (item_lacks g x) (list_lacks g (undeclared g ys)) l in
+            let i = and_parts (item_lacks g x) (list_lacks g (undeclared g ys)) l in
             let m = h true i.1 in
             record {
               middle = Then x m.middle;

@@ -1,5 +1,6 @@
 -- Each change of a body comes by the two steps, at whatever loop it is.
 use Rattle.std.proofs.Common.{ℕ, suc, Bool, true, false, cond, List, [], ◌∷◌, Option, Some, None, option_map, ◌≡◌, refl, sym, ap, ◌∙◌, subst, true≢false}
+use Rattle.std.proofs.lemmas.Bool.{and_parts}
 use Rattle.c_types.specs.declared.kinds.IntKind.{IntKind}
 use Rattle.c_tree.specs.declared.tree.Slot.{Slot}
 use Rattle.c_tree.specs.declared.tree.BinaryOp.TheVariants.{AndThen}
@@ -8,6 +9,7 @@ use Rattle.c_tree.specs.TestTrees.{TestTree, Source}
 use Rattle.c_tree.specs.Trees.{Tree, Forest, Nil, Then, Sections, NoSection, Section, If, While, Do, For, Switch, Block, Break, Continue, join}
 use Rattle.c_tree.specs.Changed.{one}
 use Rattle.c_tree.specs.Everywhere.{Everywhere, EverywhereOf, EverywhereIn}
+use Rattle.c_tree.proofs.MoveLemmas.{some_same}
 use Rattle.jump_meaning.specs.Code.{Code}
 use Rattle.plain_laws.specs.Kinded.{Kinded, k_binary, KindedItem}
 use Rattle.tidy_laws.specs.Likeness.{exchanged, like_if, like_while, like_do, like_for, like_switch, like_block, like_then, like_section}
@@ -17,11 +19,10 @@ use Rattle.tidy_laws.proofs.TidyExitStatements.{likes_itself, like_sections_itse
 use Rattle.tidy_laws.specs.Mentions.{lacks, test_lacks, selector_lacks, option_lacks, item_lacks, list_lacks, sections_lack}
 use Rattle.tidy_laws.specs.Renumbered.{renumbered_item, renumbered_list}
 use Rattle.tidy_laws.specs.Changes.{tailed, are_low, second_test, before_reset, with_breaks, broken_loop, after_reset, both_there, with_continues, continued_loop, around, changed_here, changed_lists, changed_items, changed_sections, is_reset, is_declaration}
-use Rattle.tidy_laws.proofs.TidyZeroExpressions.{both}
 use Rattle.tidy_laws.specs.Settles.{Items, i_nil, i_then, i_given, i_reset, i_declared, i_stops, i_sets, x_if, x_while, x_do, x_for, x_switch, x_block, p_more, Stops, s_while, s_do}
 use Rattle.tidy_laws.proofs.Tailed.{plain_items, plain_parts, tail_items}
 use Rattle.tidy_laws.proofs.Lists.{Each, each_both, each_around, each_for}
-use Rattle.tidy_laws.proofs.ChangedLists.{reset_is, before_is, Guarded, second_is, some_same, none_some, stripped, Made, MadeItem, Makes, MakesItem, MakesSections, rest_items, first_stays, then_made, later_made}
+use Rattle.tidy_laws.proofs.ChangedLists.{reset_is, before_is, Guarded, second_is, none_some, stripped, Made, MadeItem, Makes, MakesItem, MakesSections, rest_items, first_stays, then_made, later_made}
 
 -- the items before a last one
 before_last : (P : Tree → Type 0) (a : Forest) (x : Tree) → Everywhere P (join a (one x)) → Everywhere P a
@@ -66,7 +67,7 @@ module _ (p : Code) (ss : List Slot) (start count : ℕ) where
             middle = While (Source (Typed h.kind (Binary AndThen h.first h.second))) (leaves g by_break a);
             before = breaks_while (Source (Typed h.kind (Binary AndThen h.first h.second))) a h.off;
             undeclaring = refl;
-            behind = λ l. let i = both (lacks g h.second) (list_lacks g (tailed g Break a)) l in
+            behind = λ l. let i = and_parts (lacks g h.second) (list_lacks g (tailed g Break a)) l in
                 s_while h.kind h.first h.second h.off (second_kinded h.kind h.first h.second k.0.0) i.0 (tail_items p ss g true true (λ e. refl) a k.1 i.1);
           }))
 
@@ -82,7 +83,7 @@ module _ (p : Code) (ss : List Slot) (start count : ℕ) where
             middle = Do (leaves g by_break a) (Source (Typed h.kind (Binary AndThen h.first h.second)));
             before = breaks_do (Source (Typed h.kind (Binary AndThen h.first h.second))) a h.off;
             undeclaring = refl;
-            behind = λ l. let i = both (list_lacks g (tailed g Break a)) (lacks g h.second) l in
+            behind = λ l. let i = and_parts (list_lacks g (tailed g Break a)) (lacks g h.second) l in
                 s_do h.kind h.first h.second h.off (second_kinded h.kind h.first h.second k.0.0) i.1 (tail_items p ss g true true (λ e. refl) a k.1 i.0);
           }))
 
@@ -123,7 +124,7 @@ module _ (p : Code) (ss : List Slot) (start count : ℕ) where
       made : (y : Tree) (ys : Forest) → Broken g x y → xs ≡ Then (reset g) ys → list_lacks g (stripped d g (Then y ys)) ≡ true →
           Made p ss start count d g (Then x xs) (Then y ys)
       made y ys h q l =
-          let l' = both (item_lacks g y) (list_lacks g (stripped d g ys))
+          let l' = and_parts (item_lacks g y) (list_lacks g (stripped d g ys))
           (subst (λ z. list_lacks g z ≡ true) (first_stays p ss start count g d y ys h.undeclaring) l) in
           let kys = subst (Everywhere K) q ks in
           record {
@@ -178,7 +179,7 @@ module _ (p : Code) (ss : List Slot) (start count : ℕ) where
   loop_is g n (While t a) y k e = loop_made g n a (While t) y k.1
       (λ b c. (
         refl,
-        (λ l. let i = both (test_lacks g t) (list_lacks g (tailed g Continue b)) l in record {
+        (λ l. let i = and_parts (test_lacks g t) (list_lacks g (tailed g Continue b)) l in record {
           middle = While t (join (leaves g (by_continue g) b) (one (reset g)));
           before = exchanged (
             g,
@@ -191,7 +192,7 @@ module _ (p : Code) (ss : List Slot) (start count : ℕ) where
   loop_is g n (Do a t) y k e = loop_made g n a (λ a. Do a t) y k.1
       (λ b c. (
         refl,
-        (λ l. let i = both (list_lacks g (tailed g Continue b)) (test_lacks g t) l in record {
+        (λ l. let i = and_parts (list_lacks g (tailed g Continue b)) (test_lacks g t) l in record {
           middle = Do (join (leaves g (by_continue g) b) (one (reset g))) t;
           before = exchanged (g, subst (λ z. Leaves g (Do z t) (Do (join (leaves g (by_continue g) b) (one (reset g))) t)) (sym c.whole) (continues_do t b));
           behind = x_do false t k.0 i.1 (c.behind i.0);
@@ -203,9 +204,9 @@ module _ (p : Code) (ss : List Slot) (start count : ℕ) where
       for_made : (b : Forest) → Continued g a b → item_lacks g (For f t u (tailed g Continue b)) ≡ true →
           MadeItem p ss start count g (For f t u a) (For f t u (tailed g Continue b))
       for_made b c l =
-          let h = both (list_lacks g f) _ l in
-          let i = both (option_lacks g t) _ h.1 in
-          let j = both (option_lacks g u) (list_lacks g (tailed g Continue b)) i.1 in
+          let h = and_parts (list_lacks g f) _ l in
+          let i = and_parts (option_lacks g t) _ h.1 in
+          let j = and_parts (option_lacks g u) (list_lacks g (tailed g Continue b)) i.1 in
           record {
             middle = For f t u (join (leaves g (by_continue g) b) (one (reset g)));
             before = exchanged (
@@ -270,8 +271,8 @@ module _ (p : Code) (ss : List Slot) (start count : ℕ) where
           h.0,
           refl,
           (λ l.
-              let i = both (test_lacks c.0 t) (_) l in
-              let j = both (list_lacks c.0 c.1) (list_lacks c.0 b) i.1 in
+              let i = and_parts (test_lacks c.0 t) (_) l in
+              let j = and_parts (list_lacks c.0 c.1) (list_lacks c.0 b) i.1 in
               let m = h.1 j.0 in
               record {
                 middle = If t m.middle b;
@@ -284,8 +285,8 @@ module _ (p : Code) (ss : List Slot) (start count : ℕ) where
           h.0,
           refl,
           (λ l.
-              let i = both (test_lacks c.0 t) (_) l in
-              let j = both (list_lacks c.0 a) (list_lacks c.0 c.1) i.1 in
+              let i = and_parts (test_lacks c.0 t) (_) l in
+              let j = and_parts (list_lacks c.0 a) (list_lacks c.0 c.1) i.1 in
               let m = h.1 j.1 in
               record {
                 middle = If t a m.middle;
@@ -299,7 +300,7 @@ module _ (p : Code) (ss : List Slot) (start count : ℕ) where
           h.0,
           refl,
           (λ l.
-              let i = both (test_lacks c.0 t) (list_lacks c.0 c.1) l in
+              let i = and_parts (test_lacks c.0 t) (list_lacks c.0 c.1) l in
               let m = h.1 i.1 in
               record { middle = While t m.middle; before = like_while t m.before; behind = x_while false t k.0 i.0 m.behind }),
         )) (lists_made a k.1 false level)
@@ -309,7 +310,7 @@ module _ (p : Code) (ss : List Slot) (start count : ℕ) where
           h.0,
           refl,
           (λ l.
-              let i = both (list_lacks c.0 c.1) (test_lacks c.0 t) l in
+              let i = and_parts (list_lacks c.0 c.1) (test_lacks c.0 t) l in
               let m = h.1 i.0 in
               record { middle = Do m.middle t; before = like_do t m.before; behind = x_do false t k.0 i.1 m.behind }),
         )) (lists_made a k.1 false level)
@@ -320,9 +321,9 @@ module _ (p : Code) (ss : List Slot) (start count : ℕ) where
           h.0,
           refl,
           (λ l.
-              let i = both (list_lacks c.0 c.1) (_) l in
-              let j = both (option_lacks c.0 t) (_) i.1 in
-              let n = both (option_lacks c.0 u) (list_lacks c.0 a) j.1 in
+              let i = and_parts (list_lacks c.0 c.1) (_) l in
+              let j = and_parts (option_lacks c.0 t) (_) i.1 in
+              let n = and_parts (option_lacks c.0 u) (list_lacks c.0 a) j.1 in
               let m = h.1 i.0 in
               record {
                 middle = For m.middle t u a;
@@ -335,9 +336,9 @@ module _ (p : Code) (ss : List Slot) (start count : ℕ) where
           h.0,
           refl,
           (λ l.
-              let i = both (list_lacks c.0 f) (_) l in
-              let j = both (option_lacks c.0 t) (_) i.1 in
-              let n = both (option_lacks c.0 u) (list_lacks c.0 c.1) j.1 in
+              let i = and_parts (list_lacks c.0 f) (_) l in
+              let j = and_parts (option_lacks c.0 t) (_) i.1 in
+              let n = and_parts (option_lacks c.0 u) (list_lacks c.0 c.1) j.1 in
               let m = h.1 n.1 in
               record {
                 middle = For f t u m.middle;
@@ -351,7 +352,7 @@ module _ (p : Code) (ss : List Slot) (start count : ℕ) where
           h.0,
           refl,
           (λ l.
-              let i = both (selector_lacks c.0 s) (sections_lack c.0 c.1) l in
+              let i = and_parts (selector_lacks c.0 s) (sections_lack c.0 c.1) l in
               let m = h.1 i.1 in
               record { middle = Switch s m.middle; before = like_switch s m.before; behind = x_switch false s k.0 i.0 m.behind }),
         )) (sections_made b k.1 level)
@@ -371,7 +372,7 @@ module _ (p : Code) (ss : List Slot) (start count : ℕ) where
         (λ c h. (
           h.0,
           (λ l.
-              let i = both (list_lacks c.0 c.1) (sections_lack c.0 s) l in
+              let i = and_parts (list_lacks c.0 c.1) (sections_lack c.0 s) l in
               let m = h.1 i.0 in
               record {
                 middle = Section cases default m.middle ends s;
@@ -385,7 +386,7 @@ module _ (p : Code) (ss : List Slot) (start count : ℕ) where
         (λ c h. (
           h.0,
           (λ l.
-              let i = both (list_lacks c.0 a) (sections_lack c.0 c.1) l in
+              let i = and_parts (list_lacks c.0 a) (sections_lack c.0 c.1) l in
               let m = h.1 i.1 in
               record {
                 middle = Section cases default a ends m.middle;

@@ -1,5 +1,6 @@
 -- What becomes of the body of a loop: its checks give way to their lists, and its sets at a tail become jumps.
 use Rattle.std.proofs.Common.{ℕ, pos, Bool, true, false, cond, not, ◌&&◌, eqb, eqb-true, eq-eqb, List, Option, Some, None, ◌≡◌, refl, sym, ap, ◌∙◌, subst, true≢false}
+use Rattle.std.proofs.lemmas.Bool.{and_parts}
 use Rattle.c_types.specs.declared.kinds.IntKind.{IntKind}
 use Rattle.c_types.specs.declared.kinds.IntKind.TheVariants.{Int}
 use Rattle.c_tree.specs.declared.tree.Slot.{Slot}
@@ -15,7 +16,6 @@ use Rattle.tidy_laws.specs.Tails.{is_off, is_end, leave_if, leaves, placed}
 use Rattle.tidy_laws.specs.Mentions.{lacks, test_lacks, selector_lacks, option_lacks, item_lacks, list_lacks, sections_lack}
 use Rattle.tidy_laws.specs.Renumbered.{renumbered, renumbered_item, renumbered_list, renumbered_sections}
 use Rattle.tidy_laws.specs.Changes.{is_narrow_expression, set_value, is_number, leaving, has_local, unchecked, set_or, inner, inner_item, inner_sections, tailed, tailed_item}
-use Rattle.tidy_laws.proofs.TidyZeroExpressions.{both}
 use Rattle.tidy_laws.specs.Settles.{left_by, jump_by, Items, i_nil, i_then, i_given, i_sets, Item, x_leaf, x_if, x_while, x_do, x_for, x_switch, x_block, x_checked, Parts, p_none, p_more}
 
 -- ---- lists one after another
@@ -24,7 +24,7 @@ pub renumbered_join : (g : ℕ) (a b : Forest) → renumbered_list g (join a b) 
 renumbered_join g Nil b = refl
 renumbered_join g (Then x xs) b = ap (Then (renumbered_item g x)) (renumbered_join g xs b)
 
-and_of_all : (a b c : Bool) → ((a && b) && c) ≡ (a && (b && c))
+pub and_of_all : (a b c : Bool) → ((a && b) && c) ≡ (a && (b && c))
 and_of_all true b c = refl
 and_of_all false b c = refl
 
@@ -33,7 +33,7 @@ lacks_join g Nil b = refl
 lacks_join g (Then x xs) b = ap (λ y. item_lacks g x && y) (lacks_join g xs b) ∙ sym (and_of_all (item_lacks g x) (list_lacks g xs) (list_lacks g b))
 
 pub both_lists : (g : ℕ) (a b : Forest) → list_lacks g (join a b) ≡ true → (list_lacks g a ≡ true) × (list_lacks g b ≡ true)
-both_lists g a b h = both (list_lacks g a) (list_lacks g b) (sym (lacks_join g a b) ∙ h)
+both_lists g a b h = and_parts (list_lacks g a) (list_lacks g b) (sym (lacks_join g a b) ∙ h)
 
 -- ---- what a set becomes
 
@@ -66,21 +66,21 @@ module _ (p : Code) (ss : List Slot) (g : ℕ) where
   mutual
     pub plain_items : (b : Bool) (a : Forest) → Everywhere K a → list_lacks g a ≡ true → Items p ss g b a (renumbered_list g a)
     plain_items b Nil k l = i_nil b
-    plain_items b (Then x xs) k l = let h = both (item_lacks g x) (list_lacks g xs) l in i_then (plain_item b x k.0 h.0) (plain_items b xs k.1 h.1)
+    plain_items b (Then x xs) k l = let h = and_parts (item_lacks g x) (list_lacks g xs) l in i_then (plain_item b x k.0 h.0) (plain_items b xs k.1 h.1)
 
     pub plain_item : (b : Bool) (x : Tree) → EverywhereOf K x → item_lacks g x ≡ true → Item p ss g b x (renumbered_item g x)
     plain_item b (If t a d) k l =
-        let h = both (test_lacks g t) (list_lacks g a && list_lacks g d) l in
-        let i = both (list_lacks g a) (list_lacks g d) h.1 in
+        let h = and_parts (test_lacks g t) (list_lacks g a && list_lacks g d) l in
+        let i = and_parts (list_lacks g a) (list_lacks g d) h.1 in
         x_if t k.0 h.0 (plain_items b a k.1 i.0) (plain_items b d k.2 i.1)
-    plain_item b (While t a) k l = let h = both (test_lacks g t) (list_lacks g a) l in x_while b t k.0 h.0 (plain_items false a k.1 h.1)
-    plain_item b (Do a t) k l = let h = both (list_lacks g a) (test_lacks g t) l in x_do b t k.0 h.1 (plain_items false a k.1 h.0)
+    plain_item b (While t a) k l = let h = and_parts (test_lacks g t) (list_lacks g a) l in x_while b t k.0 h.0 (plain_items false a k.1 h.1)
+    plain_item b (Do a t) k l = let h = and_parts (list_lacks g a) (test_lacks g t) l in x_do b t k.0 h.1 (plain_items false a k.1 h.0)
     plain_item b (For f t u a) k l =
-        let h = both (list_lacks g f) (option_lacks g t && (option_lacks g u && list_lacks g a)) l in
-        let i = both (option_lacks g t) (option_lacks g u && list_lacks g a) h.1 in
-        let j = both (option_lacks g u) (list_lacks g a) i.1 in
+        let h = and_parts (list_lacks g f) (option_lacks g t && (option_lacks g u && list_lacks g a)) l in
+        let i = and_parts (option_lacks g t) (option_lacks g u && list_lacks g a) h.1 in
+        let j = and_parts (option_lacks g u) (list_lacks g a) i.1 in
         x_for b t u k.0.0 k.0.1 i.0 j.0 (plain_items false f k.1 h.0) (plain_items false a k.2 j.1)
-    plain_item b (Switch s c) k l = let h = both (selector_lacks g s) (sections_lack g c) l in x_switch b s k.0 h.0 (plain_parts c k.1 h.1)
+    plain_item b (Switch s c) k l = let h = and_parts (selector_lacks g s) (sections_lack g c) l in x_switch b s k.0 h.0 (plain_parts c k.1 h.1)
     plain_item b (Block a) k l = x_block (plain_items b a k.1 l)
     plain_item b (Evaluate e) k l = x_leaf b (Evaluate e) tt k l
     plain_item b (Return e) k l = x_leaf b (Return e) tt k l
@@ -97,7 +97,7 @@ module _ (p : Code) (ss : List Slot) (g : ℕ) where
 
     pub plain_parts : (c : Sections) → EverywhereIn K c → sections_lack g c ≡ true → Parts p ss g c (renumbered_sections g c)
     plain_parts NoSection k l = p_none
-    plain_parts (Section cases default a ends c) k l = let h = both (list_lacks g a) (sections_lack g c) l in
+    plain_parts (Section cases default a ends c) k l = let h = and_parts (list_lacks g a) (sections_lack g c) l in
         p_more cases default ends (plain_items false a k.0 h.0) (plain_parts c k.1 h.1)
 
   -- ---- lists in which checks give way
@@ -106,13 +106,13 @@ module _ (p : Code) (ss : List Slot) (g : ℕ) where
   given_items : (b : Bool) (e : ExpressionTree) (a c xs ys : Forest) → is_off g e ≡ true →
       (list_lacks g c ≡ true → Items p ss g b a (renumbered_list g c)) → Items p ss g b xs ys → (y : Bool)
       → list_lacks g (cond y (one (Block c)) c) ≡ true → Items p ss g b (Then (If (Source e) a Nil) xs) (join (renumbered_list g (cond y (one (Block c)) c)) ys)
-  given_items b e a c xs ys o h k true l = i_then (x_checked e o (h (both (list_lacks g c) true l).0)) k
+  given_items b e a c xs ys o h k true l = i_then (x_checked e o (h (and_parts (list_lacks g c) true l).0)) k
   given_items b e a c xs ys o h k false l = i_given e o (h l) k
 
   -- an item before others
   plain_before : (b : Bool) (x : Tree) → EverywhereOf K x → (xs ys : Forest) → list_lacks g (one x) ≡ true → Items p ss g b xs ys →
       Items p ss g b (Then x xs) (join (renumbered_list g (one x)) ys)
-  plain_before b x k xs ys l h = i_then (plain_item b x k (both (item_lacks g x) true l).0) h
+  plain_before b x k xs ys l h = i_then (plain_item b x k (and_parts (item_lacks g x) true l).0) h
 
   -- what is known of a list of which c is made
   abbrev Becomes : Bool → Forest → Forest → Type 0
@@ -123,9 +123,9 @@ module _ (p : Code) (ss : List Slot) (g : ℕ) where
       list_lacks g (one (If t c e)) ≡ true → Items p ss g b xs ys
       → Items p ss g b (Then (If t a d) xs) (join (renumbered_list g (one (If t c e))) ys)
   if_then b t a d c e k ha hd xs ys l h =
-      let m = both (test_lacks g t && (list_lacks g c && list_lacks g e)) true l in
-      let i = both (test_lacks g t) (list_lacks g c && list_lacks g e) m.0 in
-      let j = both (list_lacks g c) (list_lacks g e) i.1 in
+      let m = and_parts (test_lacks g t && (list_lacks g c && list_lacks g e)) true l in
+      let i = and_parts (test_lacks g t) (list_lacks g c && list_lacks g e) m.0 in
+      let j = and_parts (list_lacks g c) (list_lacks g e) i.1 in
       i_then (x_if t k i.0 (ha j.0) (hd j.1)) h
 
   -- one that may be a check
@@ -149,24 +149,24 @@ module _ (p : Code) (ss : List Slot) (g : ℕ) where
     inner_then b (If (Source e) a Nil) k xs ys l h = check_then b (is_off g e) e a (inner g a) k.0 (inner_items b a k.1) refl xs ys l h
     inner_then b (If t a d) k xs ys l h = if_then b t a d (inner g a) (inner g d) k.0 (inner_items b a k.1) (inner_items b d k.2) xs ys l h
     inner_then b (While t a) k xs ys l h =
-        let m = both (test_lacks g t && list_lacks g (inner g a)) true l in
-        let i = both (test_lacks g t) (list_lacks g (inner g a)) m.0 in
+        let m = and_parts (test_lacks g t && list_lacks g (inner g a)) true l in
+        let i = and_parts (test_lacks g t) (list_lacks g (inner g a)) m.0 in
         i_then (x_while b t k.0 i.0 (inner_items false a k.1 i.1)) h
     inner_then b (Do a t) k xs ys l h =
-        let m = both (list_lacks g (inner g a) && test_lacks g t) true l in
-        let i = both (list_lacks g (inner g a)) (test_lacks g t) m.0 in
+        let m = and_parts (list_lacks g (inner g a) && test_lacks g t) true l in
+        let i = and_parts (list_lacks g (inner g a)) (test_lacks g t) m.0 in
         i_then (x_do b t k.0 i.1 (inner_items false a k.1 i.0)) h
     inner_then b (For f t u a) k xs ys l h =
-        let m = both (list_lacks g f && (option_lacks g t && (option_lacks g u && list_lacks g (inner g a)))) true l in
-        let i = both (list_lacks g f) (option_lacks g t && (option_lacks g u && list_lacks g (inner g a))) m.0 in
-        let j = both (option_lacks g t) (option_lacks g u && list_lacks g (inner g a)) i.1 in
-        let n = both (option_lacks g u) (list_lacks g (inner g a)) j.1 in
+        let m = and_parts (list_lacks g f && (option_lacks g t && (option_lacks g u && list_lacks g (inner g a)))) true l in
+        let i = and_parts (list_lacks g f) (option_lacks g t && (option_lacks g u && list_lacks g (inner g a))) m.0 in
+        let j = and_parts (option_lacks g t) (option_lacks g u && list_lacks g (inner g a)) i.1 in
+        let n = and_parts (option_lacks g u) (list_lacks g (inner g a)) j.1 in
         i_then (x_for b t u k.0.0 k.0.1 j.0 n.0 (plain_items false f k.1 i.0) (inner_items false a k.2 n.1)) h
     inner_then b (Switch s c) k xs ys l h =
-        let m = both (selector_lacks g s && sections_lack g (inner_sections g c)) true l in
-        let i = both (selector_lacks g s) (sections_lack g (inner_sections g c)) m.0 in
+        let m = and_parts (selector_lacks g s && sections_lack g (inner_sections g c)) true l in
+        let i = and_parts (selector_lacks g s) (sections_lack g (inner_sections g c)) m.0 in
         i_then (x_switch b s k.0 i.0 (inner_parts c k.1 i.1)) h
-    inner_then b (Block a) k xs ys l h = i_then (x_block (inner_items b a k.1 (both (list_lacks g (inner g a)) true l).0)) h
+    inner_then b (Block a) k xs ys l h = i_then (x_block (inner_items b a k.1 (and_parts (list_lacks g (inner g a)) true l).0)) h
     inner_then b (Evaluate e) k xs ys l h = plain_before b (Evaluate e) k xs ys l h
     inner_then b (Return e) k xs ys l h = plain_before b (Return e) k xs ys l h
     inner_then b (Local x es) k xs ys l h = plain_before b (Local x es) k xs ys l h
@@ -182,7 +182,7 @@ module _ (p : Code) (ss : List Slot) (g : ℕ) where
 
     inner_parts : (c : Sections) → EverywhereIn K c → sections_lack g (inner_sections g c) ≡ true → Parts p ss g c (renumbered_sections g (inner_sections g c))
     inner_parts NoSection k l = p_none
-    inner_parts (Section cases default a ends c) k l = let h = both (list_lacks g (inner g a)) (sections_lack g (inner_sections g c)) l in
+    inner_parts (Section cases default a ends c) k l = let h = and_parts (list_lacks g (inner g a)) (sections_lack g (inner_sections g c)) l in
         p_more cases default ends (inner_items false a k.0 h.0) (inner_parts c k.1 h.1)
 
   -- ---- lists at a tail

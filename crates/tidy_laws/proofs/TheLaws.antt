@@ -2,6 +2,7 @@
 use Rattle.std.proofs.Common.{ℕ, zero, suc, ◌-◌, ◌≤◌, ◌<◌, inl, inr, ℤ, Bool, true, false, ◌&&◌, List, [], ◌∷◌, length, take, Option, Some, None, option_map, ◌≡◌, refl, sym, ap, ◌∙◌, subst, arith}
 use Rattle.std.specs.Prelude.{◌↔◌, All, Contains, IsSome, IsNone}
 use Rattle.std.specs.Option.{option_map_or}
+use Rattle.std.proofs.lemmas.Bool.{and_parts}
 use Rattle.c_types.specs.declared.kinds.IntKind.{IntKind}
 use Rattle.c_types.specs.declared.kinds.IntKind.TheVariants.{Int}
 use Rattle.c_tree.specs.declared.tree.Slot.{Slot}
@@ -27,7 +28,6 @@ use Rattle.tidy_laws.specs.Mentions.{list_lacks}
 use Rattle.tidy_laws.specs.Renumbered.{without, renumbered_list}
 use Rattle.tidy_laws.specs.Changes.{is_flag, declares, undeclared, changes, changes_of, changed, changed_first, changed_once}
 use Rattle.tidy_laws.specs.TidyBehaviourLaws.{HasKinds, IsChanged, IsChangedCode, BehaveAlike, TidyLaws}
-use Rattle.tidy_laws.proofs.TidyZeroExpressions.{both}
 use Rattle.tidy_laws.specs.Settles.{Items}
 use Rattle.tidy_laws.specs.Settled.{SettledBody, SettledFunction, SettledCode}
 use Rattle.tidy_laws.proofs.SettledRuns.{settled_law}
@@ -56,7 +56,7 @@ flag_is s h = at s.kind s.cells s.constant h
     at Int None false h = (refl, refl)
     at k o b h = cc
 
-front_without : (n g : ℕ) (ss : List Slot) → n ≤ g → take n (without g ss) ≡ take n ss
+pub front_without : (n g : ℕ) (ss : List Slot) → n ≤ g → take n (without g ss) ≡ take n ss
 front_without zero g ss h = refl
 front_without (suc n) zero ss h = absurd (omega (arith, h))
 front_without (suc n) (suc g) [] h = refl
@@ -105,9 +105,9 @@ changed_steps k f c i h = at f.body i h
     at (Some a) i h =
         let m = of_change (Makes k f.slots f.params (length f.slots - f.params) true a) f a
         (lists_made k f.slots f.params (length f.slots - f.params) a h true 1) c i in
-        let l = both (is_flag (entry_or no_slot f.slots c.0)) (declares c.0 c.1 && list_lacks c.0 (undeclared c.0 c.1)) m.1 in
+        let l = and_parts (is_flag (entry_or no_slot f.slots c.0)) (declares c.0 c.1 && list_lacks c.0 (undeclared c.0 c.1)) m.1 in
         let flag = flag_is (entry_or no_slot f.slots c.0) l.0 in
-        let made = m.0.1 (both (declares c.0 c.1) (list_lacks c.0 (undeclared c.0 c.1)) l.1).1 in
+        let made = m.0.1 (and_parts (declares c.0 c.1) (list_lacks c.0 (undeclared c.0 c.1)) l.1).1 in
         record {
           middle = Some made.middle;
           like = made.before;

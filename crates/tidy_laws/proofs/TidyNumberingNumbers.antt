@@ -13,7 +13,7 @@ use Rattle.tidy_laws.specs.Gone.{is_gone, old_number, gone_before, left}
 use Rattle.tidy_laws.specs.TidyNumberingLaws.{NumberLaws}
 use Rattle.tidy_laws.proofs.Walks.{same_list, back_list, step_list}
 
-same_bool : (a b : Bool) → (a ≡ true → b ≡ true) → (b ≡ true → a ≡ true) → a ≡ b
+pub same_bool : (a b : Bool) → (a ≡ true → b ≡ true) → (b ≡ true → a ≡ true) → a ≡ b
 same_bool true b f g = sym (f refl)
 same_bool false true f g = g refl
 same_bool false false f g = refl

@@ -1,5 +1,6 @@
 -- Expressions whose kinds agree and that don't name the slot come to the same in Worlds that are apart.
 use Rattle.std.proofs.Common.{ℕ, zero, suc, Bool, true, false, ◌&&◌, List, [], ◌∷◌, map, Option, Some, None, ◌≡◌, refl, sym, ap, ◌∙◌, subst}
+use Rattle.std.proofs.lemmas.Bool.{and_parts}
 use Rattle.c_types.specs.declared.kinds.ArithOp.{ArithOp}
 use Rattle.c_types.specs.declared.kinds.IntKind.{IntKind}
 use Rattle.c_tree.specs.declared.tree.Slot.{Slot}
@@ -23,11 +24,6 @@ use Rattle.tidy_laws.specs.Renumbered.{renumbered_home, renumbered, renumbered_p
 use Rattle.tidy_laws.proofs.Evaluations.{Alike, bind_alike, looser}
 use Rattle.tidy_laws.proofs.Apart.{Apart, new_value, new_lending, home_reached, home_same}
 use Rattle.tidy_laws.proofs.Operations.{zero_in, converted_in, Post, then_alike, unary_alike, binary_alike, cell_alike, load_in, load_same, assign_alike, count_alike}
-
--- both of two tests
-pub both : (a b : Bool) → (a && b) ≡ true → (a ≡ true) × (b ≡ true)
-both true b h = (refl, h)
-both false b h = cc
 
 -- an update of what a place designates, where it held x
 abbrev updated : LessFuel → ArithOp → Option IntKind → ExpressionTree → Value → Value → World → Evaluation Value
@@ -181,17 +177,17 @@ module _ (p : Code) (sh : Shapes) (holes : ℕ → ℕ) (c : ℕ) (L M : LessFue
           (eval M true (renumbered g e)) _ _ (value_alike e i l true) (λ v w u s a. ((tt, tt), refl, a)) w u a
       value_alike _ (k_cast (Some k) e i) l d w u a = then_number (kind_of e) (Post p sh holes c (Num (Some k))) (eval L false e)
           (eval M false (renumbered g e)) _ _ (value_alike e i l false) (λ v w u s a. ((tt, converted_in k v), refl, a)) w u a
-      value_alike _ (k_binary AndThen e f i j) l d w u a = let h = both (lacks g e) (lacks g f) l in
+      value_alike _ (k_binary AndThen e f i j) l d w u a = let h = and_parts (lacks g e) (lacks g f) l in
           then_number (kind_of e) (Post p sh holes c (Num (Some (binary_kind AndThen (operand_kind (kind_of e)) (operand_kind (kind_of f))))))
           (eval L false e) (eval M false (renumbered g e)) _ _ (value_alike e i h.0 false)
           (λ v w u s a. and_alike (Some (binary_kind AndThen (operand_kind (kind_of e)) (operand_kind (kind_of f)))) (kind_of f) (holds v)
           (eval L false f) (eval M false (renumbered g f)) (value_alike f j h.1 false) w u a) w u a
-      value_alike _ (k_binary OrElse e f i j) l d w u a = let h = both (lacks g e) (lacks g f) l in
+      value_alike _ (k_binary OrElse e f i j) l d w u a = let h = and_parts (lacks g e) (lacks g f) l in
           then_number (kind_of e) (Post p sh holes c (Num (Some (binary_kind OrElse (operand_kind (kind_of e)) (operand_kind (kind_of f))))))
           (eval L false e) (eval M false (renumbered g e)) _ _ (value_alike e i h.0 false)
           (λ v w u s a. or_alike (Some (binary_kind OrElse (operand_kind (kind_of e)) (operand_kind (kind_of f)))) (kind_of f) (holds v)
           (eval L false f) (eval M false (renumbered g f)) (value_alike f j h.1 false) w u a) w u a
-      value_alike _ (k_binary op e f i j) l d w u a = let h = both (lacks g e) (lacks g f) l in
+      value_alike _ (k_binary op e f i j) l d w u a = let h = and_parts (lacks g e) (lacks g f) l in
           then_number (kind_of e) (Post p sh holes c (Num (Some (binary_kind op (operand_kind (kind_of e)) (operand_kind (kind_of f))))))
           (eval L false e) (eval M false (renumbered g e)) (second_operand L op (kind_of e) (kind_of f) f)
           (second_operand M op (kind_of (renumbered g e)) (kind_of (renumbered g f)) (renumbered g f)) (value_alike e i h.0 false)
@@ -199,15 +195,15 @@ module _ (p : Code) (sh : Shapes) (holes : ℕ → ℕ) (c : ℕ) (L M : LessFue
           (Post p sh holes c (Num (Some (binary_kind op (operand_kind (kind_of e)) (operand_kind (kind_of f)))))) (eval L false f)
           (eval M false (renumbered g f)) _ _ (value_alike f j h.1 false)
           (λ x w u s a. mark_alike op e f v x w u a) w u a) w u a
-      value_alike _ (k_conditional None e f h i j k) l d w u a = let m = both (lacks g e) (lacks g f && lacks g h) l in let n =
-          both (lacks g f)
+      value_alike _ (k_conditional None e f h i j k) l d w u a = let m = and_parts (lacks g e) (lacks g f && lacks g h) l in let n =
+          and_parts (lacks g f)
           (lacks g h) m.1 in
           then_number (kind_of e) (Post p sh holes c (Num None)) (eval L false e) (eval M false (renumbered g e)) _ _ (value_alike e i m.0 false)
           (λ v w u s a. chosen_alike None (holds v) (eval L d f) (eval L d h) (eval M d (renumbered g f)) (eval M d (renumbered g h))
           (no_kind (kind_of f) (eval L d f) (eval M d (renumbered g f)) (value_alike f j n.0 d))
           (no_kind (kind_of h) (eval L d h) (eval M d (renumbered g h)) (value_alike h k n.1 d)) w u a) w u a
-      value_alike _ (k_conditional (Some t) e f h i j k) l d w u a = let m = both (lacks g e) (lacks g f && lacks g h) l in let n =
-          both (lacks g f)
+      value_alike _ (k_conditional (Some t) e f h i j k) l d w u a = let m = and_parts (lacks g e) (lacks g f && lacks g h) l in let n =
+          and_parts (lacks g f)
           (lacks g h) m.1 in
           then_number (kind_of e) (Post p sh holes c (Num (Some t))) (eval L false e) (eval M false (renumbered g e)) _ _ (value_alike e i m.0 false)
           (λ v w u s a. then_number None (Post p sh holes c (Num (Some t))) (chosen (holds v) (eval L false f) (eval L false h))
@@ -216,11 +212,11 @@ module _ (p : Code) (sh : Shapes) (holes : ℕ → ℕ) (c : ℕ) (L M : LessFue
           (no_kind (kind_of f) (eval L false f) (eval M false (renumbered g f)) (value_alike f j n.0 false))
           (no_kind (kind_of h) (eval L false h) (eval M false (renumbered g h)) (value_alike h k n.1 false)))
           (λ x w u s a. ((tt, converted_in t x), refl, a)) w u a) w u a
-      value_alike _ (k_assign at e i j) l d w u a = let k = place_kind p slots at in let h = both (place_lacks g at) (lacks g e) l in
+      value_alike _ (k_assign at e i j) l d w u a = let k = place_kind p slots at in let h = and_parts (place_lacks g at) (lacks g e) l in
           then_place k (Some k) (eval_place L at) (eval_place M (renumbered_place g at)) _ _ (place_alike at i h.0)
           (λ x w u s a. then_number (kind_of e) (Post p sh holes c (Num (Some k))) (eval L false e) (eval M false (renumbered g e))
           _ _ (value_alike e j h.1 false) (λ v w u r a. assign_alike p sh holes c k x v s w u a) w u a) w u a
-      value_alike _ (k_update op at e i j) l d w u a = let k = place_kind p slots at in let h = both (place_lacks g at) (lacks g e) l in
+      value_alike _ (k_update op at e i j) l d w u a = let k = place_kind p slots at in let h = and_parts (place_lacks g at) (lacks g e) l in
           then_place k (Some k) (eval_place L at) (eval_place M (renumbered_place g at)) _ _ (place_alike at i h.0)
           (λ x w u s a. subst (λ z. Alike (Post p sh holes c (Num (Some k))) (updated L op (Some k) e x (loaded x w) w)
           (updated M op (Some k) (renumbered g e) (new_value holes x) z u)) (sym (load_same p sh holes c k x s w u a))
@@ -228,7 +224,7 @@ module _ (p : Code) (sh : Shapes) (holes : ℕ → ℕ) (c : ℕ) (L M : LessFue
       value_alike _ (k_count at up after i) l d w u a = let k = place_kind p slots at in
           then_place k (Some k) (eval_place L at) (eval_place M (renumbered_place g at)) _ _ (place_alike at i l)
           (λ x w u s a. count_alike p sh holes c up after k x s w u a) w u a
-      value_alike _ (k_comma e f i j) l d w u a = let h = both (lacks g e) (lacks g f) l in
+      value_alike _ (k_comma e f i j) l d w u a = let h = and_parts (lacks g e) (lacks g f) l in
           then_number (kind_of e) (Post p sh holes c (Num (kind_of f))) (eval L true e) (eval M true (renumbered g e)) _ _ (value_alike e i h.0 true)
           (λ v w u s a. value_alike f j h.1 d w u a) w u a
       value_alike _ (k_call m xs i) l d w u a =
@@ -240,7 +236,7 @@ module _ (p : Code) (sh : Shapes) (holes : ℕ → ℕ) (c : ℕ) (L M : LessFue
       place_alike : (at : PlaceTree) → KindedPlace p slots at → place_lacks g at ≡ true →
           Places (place_kind p slots at) (eval_place L at) (eval_place M (renumbered_place g at))
       place_alike _ (k_var h i) l w u a = (home_reached p sh holes false c w u a h i l, ap (λ o. Designates o 0) (home_same p sh holes false c w u a h i l), a)
-      place_alike _ (k_cell h e i j) l w u a = let k = both (home_lacks g h) (lacks g e) l in
+      place_alike _ (k_cell h e i j) l w u a = let k = and_parts (home_lacks g h) (lacks g e) l in
           then_alike p sh holes c (Num (kind_of e)) (Post p sh holes c (Spot (home_kind p slots h))) (eval L false e w)
           (eval M false (renumbered g e) u) _ _ (value_alike e j k.1 false w u a)
           (λ v w u s a. cell_alike p sh holes c h (integer v) i k.0 w u a)
@@ -248,7 +244,7 @@ module _ (p : Code) (sh : Shapes) (holes : ℕ → ℕ) (c : ℕ) (L M : LessFue
       arguments_alike : (ts : List Slot) (xs : Arguments) → KindedArguments p slots ts xs → arguments_lack g xs ≡ true → (w u : World) →
           Apart p sh holes false c w u → Alike (Given ts) (eval_arguments L xs w) (eval_arguments M (renumbered_arguments g xs) u)
       arguments_alike ts _ (k_none ts') l w u a = (tt, refl, a)
-      arguments_alike ts _ (k_argument ts' x xs i j) l w u a = let h = both (lacks g x) (arguments_lack g xs) l in
+      arguments_alike ts _ (k_argument ts' x xs i j) l w u a = let h = and_parts (lacks g x) (arguments_lack g xs) l in
           then_alike p sh holes c (Num (kind_of x)) (Given ts) (eval L false x w) (eval M false (renumbered g x) u) _ _ (value_alike x i h.0 false w u a)
           (λ v w u s a. bind_alike (Given (later_slots ts)) (Given ts) (eval_arguments L xs w) (eval_arguments M (renumbered_arguments g xs) u)
           _ _ (arguments_alike (later_slots ts) xs j h.1 w u a)
@@ -259,7 +255,7 @@ module _ (p : Code) (sh : Shapes) (holes : ℕ → ℕ) (c : ℕ) (L M : LessFue
             k.2,
           )))
       arguments_alike ts _ (k_array ts' kind h xs i z e j) l w u a =
-          let k = both (home_lacks g h) (arguments_lack g xs) l in
+          let k = and_parts (home_lacks g h) (arguments_lack g xs) l in
           let r = home_reached p sh holes false c w u a h i k.0 in
           bind_alike (Given (later_slots ts)) (Given ts) (eval_arguments L xs w) (eval_arguments M (renumbered_arguments g xs) u)
           _ _ (arguments_alike (later_slots ts) xs j k.1 w u a)

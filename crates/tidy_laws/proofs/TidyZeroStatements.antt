@@ -1,6 +1,7 @@
 -- A body in which the slot is 0 wherever it is tested, and the same without the slot, come to the same.
 use Rattle.std.proofs.Common.{ℕ, suc, ◌<◌, Bool, true, false, cond, not, eqb, List, [], ◌∷◌, map, length, Option, Some, None, ◌≡◌, refl, sym, ap, ◌∙◌, subst, arith}
 use Rattle.std.specs.Prelude.{IfSome}
+use Rattle.std.proofs.lemmas.Bool.{and_parts}
 use Rattle.c_tree.specs.Constants.{kind_of}
 use Rattle.c_tree.specs.declared.tree.Slot.{Slot}
 use Rattle.c_tree.specs.declared.tree.Home.TheVariants as H
@@ -21,7 +22,7 @@ use Rattle.tidy_laws.specs.Renumbered.{new_number, renumbered, renumbered_option
 use Rattle.tidy_laws.proofs.Evaluations.{Alike}
 use Rattle.tidy_laws.proofs.Apart.{Apart, new_owner, new_variable, zeros_keep, home_reached, home_same, put_apart}
 use Rattle.tidy_laws.proofs.Operations.{store_apart}
-use Rattle.tidy_laws.proofs.TidyZeroExpressions.{CallsAlike, then_number, no_kind, value_alike, both}
+use Rattle.tidy_laws.proofs.TidyZeroExpressions.{CallsAlike, then_number, no_kind, value_alike}
 use Rattle.tidy_laws.proofs.Completions.{breaking, normally, Done, Ends, ends_nothing, chosen_ends, body_ends, decide_ends}
 use Rattle.tidy_laws.specs.Settles.{Item, Stops}
 
@@ -100,7 +101,7 @@ module _ (p : Code) (sh : Shapes) (holes : ℕ → ℕ) (c : ℕ) (L M : LessFue
       home_lacks g (H.Slot x) ≡ true → Both (initialise L x i es) (initialise M (new_number g x) i (map (renumbered g) es))
   initialise_ends [] k q x i h l w u a = rest_ends x i h l w u a
   initialise_ends (e ∷ es) k q x i h l w u a =
-      let r = both (lacks g e) (all_lack g es) q in
+      let r = and_parts (lacks g e) (all_lack g es) q in
       then_number p sh holes c L M (kind_of e) (Done p sh holes c (breaking false)) (eval L false e) (eval M false (renumbered g e))
       _ _ (value_alike p sh holes c L M calls e k.0 r.0 false)
       (λ v w' u' s b. subst (λ o. Alike (Done p sh holes c (breaking false)) (initialise L x (suc i) es (store (slot_cell x i w) (integer v) w'))
@@ -119,7 +120,7 @@ module _ (p : Code) (sh : Shapes) (holes : ℕ → ℕ) (c : ℕ) (L M : LessFue
   leaf_ends (Return (Some e)) i k l w u a = then_number p sh holes c L M (kind_of e) (Done p sh holes c (breaking false)) (eval L false e)
       (eval M false (renumbered g e)) _ _ (value_alike p sh holes c L M calls e k l false) (λ v w u s a. (refl, a)) w u a
   leaf_ends (Local x None) i k l w u a = (refl, a)
-  leaf_ends (Local x (Some es)) i k l w u a = let r = both (not (eqb x g)) (all_lack g es) l in initialise_ends es k.1 r.1 x 0 k.0 r.0 w u a
+  leaf_ends (Local x (Some es)) i k l w u a = let r = and_parts (not (eqb x g)) (all_lack g es) l in initialise_ends es k.1 r.1 x 0 k.0 r.0 w u a
   leaf_ends Break i k l w u a = (refl, a)
   leaf_ends Continue i k l w u a = (refl, a)
   leaf_ends (Note bs) i k l w u a = (refl, a)

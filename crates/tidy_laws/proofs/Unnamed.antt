@@ -1,8 +1,9 @@
 -- No expression whose kinds agree names a slot behind those of its function.
 use mathlib.Core.Path.{ap₂}
-use Rattle.std.proofs.Common.{ℕ, Bool, true, false, not, ◌&&◌, eqb, nat_lt, List, [], ◌∷◌, map, length, Option, Some, None, ◌≡◌, refl, ap, ◌∙◌, arith}
+use Rattle.std.proofs.Common.{ℕ, true, false, not, eqb, nat_lt, List, [], ◌∷◌, map, length, Option, Some, None, ◌≡◌, refl, ap, ◌∙◌, arith}
 use Rattle.std.proofs.lemmas.Bool.Decides.{nat_tests}
 use Rattle.std.specs.Prelude.{IfSome}
+use Rattle.std.proofs.lemmas.Bool.{and_from}
 use Rattle.c_tree.specs.declared.tree.Slot.{Slot}
 use Rattle.c_tree.specs.declared.tree.Home.{Home}
 use Rattle.c_tree.specs.declared.tree.Home.TheVariants as H
@@ -17,11 +18,6 @@ use Rattle.plain_laws.specs.Kinded.{Kinded, k_number, k_character, k_enum, k_tex
 use Rattle.tidy_laws.specs.Mentions.{home_lacks, lacks, place_lacks, arguments_lack, test_lacks, selector_lacks, option_lacks, values_lack, all_lack, item_lacks, list_lacks, sections_lack}
 use Rattle.tidy_laws.specs.Renumbered.{renumbered_home, renumbered, renumbered_place, renumbered_arguments, renumbered_test, renumbered_selector, renumbered_option, renumbered_values, renumbered_item, renumbered_list, renumbered_sections}
 use Rattle.tidy_laws.proofs.TidyChangesNumbers.{number_before}
-
-pub both_true : (a b : Bool) → a ≡ true → b ≡ true → (a && b) ≡ true
-both_true true true h k = refl
-both_true true false h k = cc
-both_true false b h k = cc
 
 abbrev number_of : Home → ℕ
 number_of (H.Slot x) = x
@@ -48,30 +44,30 @@ module _ (p : Code) (ss : List Slot) where
     free _ (k_unary op a i) = let h = free a i in (h.0, ap (Typed (Some (unary_kind op (operand_kind (kind_of a))))) (ap (Unary op) h.1))
     free _ (k_cast kind a i) = let h = free a i in (h.0, ap (Typed kind) (ap Cast h.1))
     free _ (k_binary op a b i j) = let h = free a i in let k = free b j in
-        (both_true _ _ h.0 k.0, ap (Typed (Some (binary_kind op (operand_kind (kind_of a)) (operand_kind (kind_of b))))) (ap₂ (Binary op) h.1 k.1))
+        (and_from _ _ h.0 k.0, ap (Typed (Some (binary_kind op (operand_kind (kind_of a)) (operand_kind (kind_of b))))) (ap₂ (Binary op) h.1 k.1))
     free _ (k_conditional kind a b c i j l) = let h = free a i in let k = free b j in let m = free c l in (
-      both_true _ _ h.0 (both_true _ _ k.0 m.0),
+      and_from _ _ h.0 (and_from _ _ k.0 m.0),
       ap (Typed kind)
           (ap (λ x. Conditional x (renumbered n b) (renumbered n c)) h.1 ∙ ap₂ (Conditional a) k.1 m.1),
     )
     free _ (k_assign at a i j) = let h = place_free at i in let k = free a j in
-        (both_true _ _ h.0 k.0, ap (Typed (Some (place_kind p ss at))) (ap₂ Assign h.1 k.1))
+        (and_from _ _ h.0 k.0, ap (Typed (Some (place_kind p ss at))) (ap₂ Assign h.1 k.1))
     free _ (k_update op at a i j) = let h = place_free at i in let k = free a j in
-        (both_true _ _ h.0 k.0, ap (Typed (Some (place_kind p ss at))) (ap₂ (Update op) h.1 k.1))
+        (and_from _ _ h.0 k.0, ap (Typed (Some (place_kind p ss at))) (ap₂ (Update op) h.1 k.1))
     free _ (k_count at up after i) = let h = place_free at i in (h.0, ap (Typed (Some (place_kind p ss at))) (ap (λ x. Count x up after) h.1))
-    free _ (k_comma a b i j) = let h = free a i in let k = free b j in (both_true _ _ h.0 k.0, ap (Typed (kind_of b)) (ap₂ Comma h.1 k.1))
+    free _ (k_comma a b i j) = let h = free a i in let k = free b j in (and_from _ _ h.0 k.0, ap (Typed (kind_of b)) (ap₂ Comma h.1 k.1))
     free _ (k_call m xs i) = let h = arguments_free (p.functions m).slots xs i in (h.0, ap (Typed (call_kind p m)) (ap (Call m) h.1))
 
     place_free : (at : PlaceTree) → KindedPlace p ss at → (place_lacks n at ≡ true) × (renumbered_place n at ≡ at)
     place_free _ (k_var h i) = let k = home_free h i in (k.0, ap Var k.1)
-    place_free _ (k_cell h a i j) = let k = home_free h i in let m = free a j in (both_true _ _ k.0 m.0, ap₂ Cell k.1 m.1)
+    place_free _ (k_cell h a i j) = let k = home_free h i in let m = free a j in (and_from _ _ k.0 m.0, ap₂ Cell k.1 m.1)
 
     arguments_free : (ts : List Slot) (xs : Arguments) → KindedArguments p ss ts xs → (arguments_lack n xs ≡ true) × (renumbered_arguments n xs ≡ xs)
     arguments_free ts _ (k_none us) = (refl, refl)
     arguments_free ts _ (k_argument us x xs i j) = let h = free x i in let k = arguments_free (later_slots ts) xs j in
-        (both_true _ _ h.0 k.0, ap₂ Argument h.1 k.1)
+        (and_from _ _ h.0 k.0, ap₂ Argument h.1 k.1)
     arguments_free ts _ (k_array us kind h xs i z e j) = let m = home_free h i in let k = arguments_free (later_slots ts) xs j in
-        (both_true _ _ m.0 k.0, ap₂ (λ x y. Argument (Typed kind (Array x)) y) m.1 k.1)
+        (and_from _ _ m.0 k.0, ap₂ (λ x y. Argument (Typed kind (Array x)) y) m.1 k.1)
 
   option_free : (o : Option ExpressionTree) → IfSome o (Kinded p ss) → (option_lacks n o ≡ true) × (renumbered_option n o ≡ o)
   option_free None h = (refl, refl)
@@ -90,7 +86,7 @@ module _ (p : Code) (ss : List Slot) where
 
   list_free : (es : List ExpressionTree) → AreKinded p ss es → (all_lack n es ≡ true) × (map (renumbered n) es ≡ es)
   list_free [] h = (refl, refl)
-  list_free (e ∷ es) h = let k = free e h.0 in let m = list_free es h.1 in (both_true _ _ k.0 m.0, ap₂ ◌∷◌ k.1 m.1)
+  list_free (e ∷ es) h = let k = free e h.0 in let m = list_free es h.1 in (and_from _ _ k.0 m.0, ap₂ ◌∷◌ k.1 m.1)
 
   values_free : (o : Option (List ExpressionTree)) → IfSome o (AreKinded p ss) → (values_lack n o ≡ true) × (renumbered_values n o ≡ o)
   values_free None h = (refl, refl)
@@ -102,23 +98,23 @@ module _ (p : Code) (ss : List Slot) where
   mutual
     pub items_free : (a : Forest) → Everywhere K a → (list_lacks n a ≡ true) × (renumbered_list n a ≡ a)
     items_free Nil h = (refl, refl)
-    items_free (Then x xs) h = let k = item_free x h.0 in let m = items_free xs h.1 in (both_true _ _ k.0 m.0, ap₂ Then k.1 m.1)
+    items_free (Then x xs) h = let k = item_free x h.0 in let m = items_free xs h.1 in (and_from _ _ k.0 m.0, ap₂ Then k.1 m.1)
 
     item_free : (x : Tree) → EverywhereOf K x → (item_lacks n x ≡ true) × (renumbered_item n x ≡ x)
     item_free (Evaluate e) h = let k = free e h in (k.0, ap Evaluate k.1)
     item_free (Return e) h = let k = option_free e h in (k.0, ap Return k.1)
     item_free (If t a b) h = let k = test_free t h.0 in let m = items_free a h.1 in let i = items_free b h.2 in
-        (both_true _ _ k.0 (both_true _ _ m.0 i.0), ap (λ x. If x (renumbered_list n a) (renumbered_list n b)) k.1 ∙ ap₂ (If t) m.1 i.1)
-    item_free (While t a) h = let k = test_free t h.0 in let m = items_free a h.1 in (both_true _ _ k.0 m.0, ap₂ While k.1 m.1)
-    item_free (Do a t) h = let k = test_free t h.0 in let m = items_free a h.1 in (both_true _ _ m.0 k.0, ap₂ Do m.1 k.1)
+        (and_from _ _ k.0 (and_from _ _ m.0 i.0), ap (λ x. If x (renumbered_list n a) (renumbered_list n b)) k.1 ∙ ap₂ (If t) m.1 i.1)
+    item_free (While t a) h = let k = test_free t h.0 in let m = items_free a h.1 in (and_from _ _ k.0 m.0, ap₂ While k.1 m.1)
+    item_free (Do a t) h = let k = test_free t h.0 in let m = items_free a h.1 in (and_from _ _ m.0 k.0, ap₂ Do m.1 k.1)
     item_free (For f t u a) h = let i = items_free f h.1 in let j = option_free t h.0.0 in let k = option_free u h.0.1 in let m = items_free a h.2 in (
-      both_true _ _ i.0 (both_true _ _ j.0 (both_true _ _ k.0 m.0)),
+      and_from _ _ i.0 (and_from _ _ j.0 (and_from _ _ k.0 m.0)),
       ap₂ (λ x y. For x y (renumbered_option n u) (renumbered_list n a)) i.1 j.1 ∙
           ap₂ (λ x y. For f t x y) k.1 m.1,
     )
-    item_free (Switch s c) h = let k = selector_free s h.0 in let m = sections_free c h.1 in (both_true _ _ k.0 m.0, ap₂ Switch k.1 m.1)
+    item_free (Switch s c) h = let k = selector_free s h.0 in let m = sections_free c h.1 in (and_from _ _ k.0 m.0, ap₂ Switch k.1 m.1)
     item_free (Block a) h = let m = items_free a h.1 in (m.0, ap Block m.1)
-    item_free (Local x es) h = let k = values_free es h.1 in let i = home_free (H.Slot x) h.0 in (both_true _ _ i.0 k.0, ap₂ Local (ap number_of i.1) k.1)
+    item_free (Local x es) h = let k = values_free es h.1 in let i = home_free (H.Slot x) h.0 in (and_from _ _ i.0 k.0, ap₂ Local (ap number_of i.1) k.1)
     item_free (Arm l None) h = (refl, refl)
     item_free (Arm l (Some e)) h = let k = free e h.0 in (k.0, ap (λ x. Arm l (Some x)) k.1)
     item_free _ h = (refl, refl)
@@ -126,4 +122,4 @@ module _ (p : Code) (ss : List Slot) where
     sections_free : (c : Sections) → EverywhereIn K c → (sections_lack n c ≡ true) × (renumbered_sections n c ≡ c)
     sections_free NoSection h = (refl, refl)
     sections_free (Section cases default a ends c) h = let k = items_free a h.0 in let m = sections_free c h.1 in
-        (both_true _ _ k.0 m.0, ap₂ (λ x y. Section cases default x ends y) k.1 m.1)
+        (and_from _ _ k.0 m.0, ap₂ (λ x y. Section cases default x ends y) k.1 m.1)

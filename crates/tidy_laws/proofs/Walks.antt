@@ -1,6 +1,7 @@
 -- Walks over items whose slots get other numbers.
 use mathlib.Core.Path.{ap₂}
-use Rattle.std.proofs.Common.{ℕ, Bool, true, false, not, ◌&&◌, eqb, List, [], ◌∷◌, map, Option, Some, None, ◌≡◌, refl, ap, ◌∙◌}
+use Rattle.std.proofs.Common.{ℕ, true, false, not, ◌&&◌, eqb, List, [], ◌∷◌, map, Option, Some, None, ◌≡◌, refl, ap, ◌∙◌}
+use Rattle.std.proofs.lemmas.Bool.{and_parts, not-true}
 use Rattle.c_tree.specs.declared.tree.Home.{Home}
 use Rattle.c_tree.specs.declared.tree.Home.TheVariants as H
 use Rattle.c_tree.specs.ExpressionTrees.{ExpressionTree, PlaceTree, NodeTree, Arguments, Typed, Var, Cell, Array, Read, Unary, Cast, Binary, Conditional, Assign, Update, Count, Comma, Call, NoArgument, Argument}
@@ -15,14 +16,6 @@ three_same f {a} {b} {c} {d} {x} {y} e h k = ap (λ z. f z c x) e ∙ ap₂ (f b
 
 four_same : {A B C D E : Type 0} (f : A → B → C → D → E) {a b : A} {c d : B} {x y : C} {u v : D} → a ≡ b → c ≡ d → x ≡ y → u ≡ v → f a c x u ≡ f b d y v
 four_same f {a} {b} {c} {d} {x} {y} {u} {v} e h k l = ap (λ z. f z c x u) e ∙ three_same (f b) h k l
-
-both_so : (a b : Bool) → (a && b) ≡ true → (a ≡ true) × (b ≡ true)
-both_so true b h = (refl, h)
-both_so false b h = cc
-
-not_so : (b : Bool) → not b ≡ true → b ≡ false
-not_so true h = cc
-not_so false h = refl
 
 -- ---- each has its own number
 
@@ -188,7 +181,7 @@ module _ (r s : ℕ → ℕ) (h : (x : ℕ) → r (s x) ≡ x) where
 
 module _ (r s : ℕ → ℕ) (g : ℕ) (h : (x : ℕ) → eqb x g ≡ false → r (new_number g x) ≡ s x) where
   step_slot : (x : ℕ) → not (eqb x g) ≡ true → r (new_number g x) ≡ s x
-  step_slot x l = h x (not_so (eqb x g) l)
+  step_slot x l = h x (not-true (eqb x g) l)
 
   step_home : (h : Home) → home_lacks g h ≡ true → renamed_home r (renumbered_home g h) ≡ renamed_home s h
   step_home (H.Slot x) l = ap H.Slot (step_slot x l)
@@ -200,26 +193,26 @@ module _ (r s : ℕ → ℕ) (g : ℕ) (h : (x : ℕ) → eqb x g ≡ false → 
 
     step_place : (p : PlaceTree) → place_lacks g p ≡ true → renamed_place r (renumbered_place g p) ≡ renamed_place s p
     step_place (Var h) l = ap (Var) (step_home h l)
-    step_place (Cell h a) l = let w = both_so (home_lacks g h) (lacks g a) l in ap₂ (Cell) (step_home h w.0) (step_expression a w.1)
+    step_place (Cell h a) l = let w = and_parts (home_lacks g h) (lacks g a) l in ap₂ (Cell) (step_home h w.0) (step_expression a w.1)
 
     step_node : (n : NodeTree) → node_lacks g n ≡ true → renamed_node r (renumbered_node g n) ≡ renamed_node s n
     step_node (Array h) l = ap (Array) (step_home h l)
     step_node (Read p) l = ap (Read) (step_place p l)
     step_node (Unary op a) l = ap (Unary op) (step_expression a l)
     step_node (Cast a) l = ap (Cast) (step_expression a l)
-    step_node (Binary op a b) l = let w = both_so (lacks g a) (lacks g b) l in ap₂ (Binary op) (step_expression a w.0) (step_expression b w.1)
-    step_node (Conditional a b c) l = let d = both_so (lacks g a) (lacks g b && lacks g c) l in let e = both_so (lacks g b) (lacks g c) d.1 in
+    step_node (Binary op a b) l = let w = and_parts (lacks g a) (lacks g b) l in ap₂ (Binary op) (step_expression a w.0) (step_expression b w.1)
+    step_node (Conditional a b c) l = let d = and_parts (lacks g a) (lacks g b && lacks g c) l in let e = and_parts (lacks g b) (lacks g c) d.1 in
         three_same Conditional (step_expression a d.0) (step_expression b e.0) (step_expression c e.1)
-    step_node (Assign p a) l = let w = both_so (place_lacks g p) (lacks g a) l in ap₂ (Assign) (step_place p w.0) (step_expression a w.1)
-    step_node (Update op p a) l = let w = both_so (place_lacks g p) (lacks g a) l in ap₂ (Update op) (step_place p w.0) (step_expression a w.1)
+    step_node (Assign p a) l = let w = and_parts (place_lacks g p) (lacks g a) l in ap₂ (Assign) (step_place p w.0) (step_expression a w.1)
+    step_node (Update op p a) l = let w = and_parts (place_lacks g p) (lacks g a) l in ap₂ (Update op) (step_place p w.0) (step_expression a w.1)
     step_node (Count p up after) l = ap (λ q. Count q up after) (step_place p l)
-    step_node (Comma a b) l = let w = both_so (lacks g a) (lacks g b) l in ap₂ (Comma) (step_expression a w.0) (step_expression b w.1)
+    step_node (Comma a b) l = let w = and_parts (lacks g a) (lacks g b) l in ap₂ (Comma) (step_expression a w.0) (step_expression b w.1)
     step_node (Call m xs) l = ap (Call m) (step_arguments xs l)
     step_node n l = refl
 
     step_arguments : (xs : Arguments) → arguments_lack g xs ≡ true → renamed_arguments r (renumbered_arguments g xs) ≡ renamed_arguments s xs
     step_arguments NoArgument l = refl
-    step_arguments (Argument x xs) l = let w = both_so (lacks g x) (arguments_lack g xs) l in ap₂ (Argument) (step_expression x w.0) (step_arguments xs w.1)
+    step_arguments (Argument x xs) l = let w = and_parts (lacks g x) (arguments_lack g xs) l in ap₂ (Argument) (step_expression x w.0) (step_arguments xs w.1)
 
   step_test : (t : TestTree) → test_lacks g t ≡ true → renamed_test r (renumbered_test g t) ≡ renamed_test s t
   step_test (Source e) l = ap (Source) (step_expression e l)
@@ -237,7 +230,7 @@ module _ (r s : ℕ → ℕ) (g : ℕ) (h : (x : ℕ) → eqb x g ≡ false → 
 
   step_all : (es : List ExpressionTree) → all_lack g es ≡ true → map (renamed r) (map (renumbered g) es) ≡ map (renamed s) es
   step_all [] l = refl
-  step_all (e ∷ es) l = let w = both_so (lacks g e) (all_lack g es) l in ap₂ (λ z zs. z ∷ zs) (step_expression e w.0) (step_all es w.1)
+  step_all (e ∷ es) l = let w = and_parts (lacks g e) (all_lack g es) l in ap₂ (λ z zs. z ∷ zs) (step_expression e w.0) (step_all es w.1)
 
   step_values : (o : Option (List ExpressionTree)) → values_lack g o ≡ true → renamed_values r (renumbered_values g o) ≡ renamed_values s o
   step_values None l = refl
@@ -246,27 +239,27 @@ module _ (r s : ℕ → ℕ) (g : ℕ) (h : (x : ℕ) → eqb x g ≡ false → 
   mutual
     pub step_list : (a : Forest) → list_lacks g a ≡ true → renamed_list r (renumbered_list g a) ≡ renamed_list s a
     step_list Nil l = refl
-    step_list (Then x xs) l = let w = both_so (item_lacks g x) (list_lacks g xs) l in ap₂ (Then) (step_item x w.0) (step_list xs w.1)
+    step_list (Then x xs) l = let w = and_parts (item_lacks g x) (list_lacks g xs) l in ap₂ (Then) (step_item x w.0) (step_list xs w.1)
 
     step_item : (x : Tree) → item_lacks g x ≡ true → renamed_item r (renumbered_item g x) ≡ renamed_item s x
     step_item (Evaluate e) l = ap (Evaluate) (step_expression e l)
     step_item (Return e) l = ap (Return) (step_option e l)
-    step_item (If t a b) l = let d = both_so (test_lacks g t) (list_lacks g a && list_lacks g b) l in let e =
-        both_so (list_lacks g a) (list_lacks g b)
+    step_item (If t a b) l = let d = and_parts (test_lacks g t) (list_lacks g a && list_lacks g b) l in let e =
+        and_parts (list_lacks g a) (list_lacks g b)
         d.1 in three_same If (step_test t d.0) (step_list a e.0) (step_list b e.1)
-    step_item (While t a) l = let w = both_so (test_lacks g t) (list_lacks g a) l in ap₂ (While) (step_test t w.0) (step_list a w.1)
-    step_item (Do a t) l = let w = both_so (list_lacks g a) (test_lacks g t) l in ap₂ (Do) (step_list a w.0) (step_test t w.1)
-    step_item (For f t u a) l = let c = both_so (list_lacks g f) (option_lacks g t && (option_lacks g u && list_lacks g a)) l in let d =
-        both_so
-        (option_lacks g t) (option_lacks g u && list_lacks g a) c.1 in let e = both_so (option_lacks g u) (list_lacks g a) d.1 in
+    step_item (While t a) l = let w = and_parts (test_lacks g t) (list_lacks g a) l in ap₂ (While) (step_test t w.0) (step_list a w.1)
+    step_item (Do a t) l = let w = and_parts (list_lacks g a) (test_lacks g t) l in ap₂ (Do) (step_list a w.0) (step_test t w.1)
+    step_item (For f t u a) l = let c = and_parts (list_lacks g f) (option_lacks g t && (option_lacks g u && list_lacks g a)) l in let d =
+        and_parts
+        (option_lacks g t) (option_lacks g u && list_lacks g a) c.1 in let e = and_parts (option_lacks g u) (list_lacks g a) d.1 in
         four_same For (step_list f c.0) (step_option t d.0) (step_option u e.0) (step_list a e.1)
-    step_item (Switch v c) l = let w = both_so (selector_lacks g v) (sections_lack g c) l in ap₂ (Switch) (step_selector v w.0) (step_sections c w.1)
+    step_item (Switch v c) l = let w = and_parts (selector_lacks g v) (sections_lack g c) l in ap₂ (Switch) (step_selector v w.0) (step_sections c w.1)
     step_item (Block a) l = ap (Block) (step_list a l)
-    step_item (Local x es) l = let w = both_so (not (eqb x g)) (values_lack g es) l in ap₂ Local (step_slot x w.0) (step_values es w.1)
+    step_item (Local x es) l = let w = and_parts (not (eqb x g)) (values_lack g es) l in ap₂ Local (step_slot x w.0) (step_values es w.1)
     step_item (Arm m e) l = ap (Arm m) (step_option e l)
     step_item x l = refl
 
     step_sections : (c : Sections) → sections_lack g c ≡ true → renamed_sections r (renumbered_sections g c) ≡ renamed_sections s c
     step_sections NoSection l = refl
-    step_sections (Section cases default a ends c) l = let w = both_so (list_lacks g a) (sections_lack g c) l in
+    step_sections (Section cases default a ends c) l = let w = and_parts (list_lacks g a) (sections_lack g c) l in
         ap₂ (λ b d. Section cases default b ends d) (step_list a w.0) (step_sections c w.1)

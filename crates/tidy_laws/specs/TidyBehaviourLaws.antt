@@ -30,7 +30,7 @@ pub record FunctionHasKinds (p : Code) (f : Function) : Type 0 where
   pub items : Everywhere (KindedItem p f.slots) (body_of f)
   pub parameters : f.params ≤ length f.slots
 
--- the same of what stands at file scope
+-- what stands at file scope: a function whose kinds agree, or anything else
 abbrev pub TopHasKinds : Code → Top → Type 0
 TopHasKinds p (T.Function f) = FunctionHasKinds p f
 TopHasKinds p _ = Unit {0}

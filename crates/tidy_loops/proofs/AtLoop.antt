@@ -20,7 +20,7 @@ use Rattle.tidy_loops.proofs.Gone.{exit_laws_hold}
 use Rattle.tidy_loops.specs.Fits.{is_declared_flag, fits}
 use Rattle.tidy_loops.specs.Slots.{may_go, counts_of, stop_slot, rest_test, reset_slot, first_reset, last_reset, but_last, but_first, allowed, breaks, continues, break_slot, continue_slot, broken, continued, broken_lists, continued_lists, found}
 use Rattle.tidy_loops.specs.LoopLaws.{LoopLaws}
-use Rattle.tidy_loops.proofs.Single.{eqb_same, kept_slots, kept_none}
+use Rattle.tidy_loops.proofs.Single.{eqb_same, kept_slots, kept_none, left_true}
 
 -- ---- what is read
 
@@ -73,7 +73,7 @@ second_is g _ = refl
 -- ---- how often that names it
 
 -- a number names no slot
-number_count : (g : ℕ) (e : ExpressionTree) → is_number 0 e ≡ true → expression_count g e ≡ 0
+pub number_count : (g : ℕ) (e : ExpressionTree) → is_number 0 e ≡ true → expression_count g e ≡ 0
 number_count g (Typed (Some Int) (Number (pos m))) h = refl
 number_count g _ h = cc
 
@@ -148,10 +148,6 @@ counted : (f : FunctionTree) (g n k : ℕ) → n ≡ suc k → eqb (counts_of f 
 counted f g n k e =
     ap (eqb (counts_of f g)) e ∙ counted_if (may_go f g) (list_count g (items_of f)) k ∙ sym (ap (λ m. may_go f g && eqb (list_count g (items_of f)) m) e)
 
-left : (a b : Bool) → (a && b) ≡ true → a ≡ true
-left true b h = refl
-left false b h = h
-
 break_fits : (f : FunctionTree) (s : ℕ) (x : Tree) (t : TestTree) (a xs : Forest) (loop : TestTree → Forest → Tree)
     → item_count s x ≡ test_count s t + list_count s a → item_count s (loop (rest_test t) (tailed s Break a)) ≡ test_count s
     (rest_test t) + list_count s (tailed s Break a)
@@ -180,7 +176,7 @@ by_break_loop f n x t a xs loop u v k =
     (breaks (counts_of f) n a xs)
     f.params (length f.slots)
     (λ g. ap (λ z. both_there z (after_reset g xs)) (k g) ∙ broken_is g n loop t a xs)
-    (λ s e b. break_fits f s x t a xs loop (u s) (v s) e (left (is_it s (first_reset xs)) (are_low s n a) b))
+    (λ s e b. break_fits f s x t a xs loop (u s) (v s) e (left_true (is_it s (first_reset xs)) (are_low s n a) b))
     (λ s. ap (λ b. is_it s (first_reset xs) && (are_low s n a && b)) (counted f s (3 + exits_in s a) (2 + exits_in s a) (omega arith))
     ∙ shuffled (is_it s (first_reset xs)) (leb f.params s && ltb s (length f.slots)) (is_declared_flag f s) (are_low s n a)
     (eqb (list_count s (items_of f)) (3 + exits_in s a)))

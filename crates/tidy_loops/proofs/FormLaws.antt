@@ -86,7 +86,7 @@ lacks_by n false false e h = refl
 
 -- ---- checks
 
-at_source : (e : Expression) → test_at (S.Source e) ≡ Source (expression_tree e)
+pub at_source : (e : Expression) → test_at (S.Source e) ≡ Source (expression_tree e)
 at_source e = sym (test_same (S.Source e)) ∙ test-Source e
 
 pub check_alone : (g : ℕ) (t : Test) (e : Expression) (xs : List Item) → t ≡ S.Source e → xs ≡ [] →

@@ -5,13 +5,13 @@ use Rattle.c_tree.specs.declared.tree.Item.{Item}
 use Rattle.c_tree.specs.Trees.{Tree, Forest, Nil, Then, If, trees_of, join}
 use Rattle.c_tree.specs.Views.{tree_at}
 use Rattle.c_tree.specs.Changed.{one}
-use Rattle.c_tree.proofs.TreeLaws.{trees-none}
+use Rattle.c_tree.proofs.TreeLaws.{trees-none, join-join, join-nil}
 use Rattle.c_tree.proofs.Views.{trees-first, trees-at, trees-end, trees-push}
 use Rattle.tidy_laws.specs.Tails.{is_check, is_end}
 use Rattle.tidy_laws.specs.Changes.{given_way, inner, inner_item, tailed, tailed_item}
 use Rattle.tidy_loops.specs.Exits.{then_list, inner_kept, tailed_kept, each_inner, each_tailed, has_check, checks_told, way_given, ways_given}
 use Rattle.tidy_loops.specs.Rewritten.{list_rewritten, each_rewritten}
-use Rattle.tidy_loops.proofs.Made.{inner_by, tailed_by, join_join, join_nil}
+use Rattle.tidy_loops.proofs.Made.{inner_by, tailed_by}
 
 -- ---- one item
 
@@ -107,11 +107,11 @@ pub ways_more : (bs : List Bool) (xs : List Item) (x : Item) → ways_given bs (
 ways_more [] xs x = trees-push xs x
 ways_more (b ∷ bs) [] x =
     ap (ways_given (b ∷ bs)) (trees-first x [] ∙ ap (Then (tree_at x)) trees-none) ∙ ap (join (way_given b (tree_at x))) (none_left bs) ∙
-    join_nil (way_given b (tree_at x))
+    join-nil (way_given b (tree_at x))
     ∙ sym (ap (λ z. join (ways_given (b ∷ bs) z) (way_given b (tree_at x))) trees-none)
 ways_more (b ∷ bs) (y ∷ ys) x =
     ap (ways_given (b ∷ bs)) (trees-first y (ys ++ x ∷ [])) ∙ ap (join (way_given b (tree_at y))) (ways_more bs ys x)
-    ∙ sym (join_join (way_given b (tree_at y)) (ways_given bs (trees_of ys)) (way_given (get_or bs (length ys) false) (tree_at x)))
+    ∙ sym (join-join (way_given b (tree_at y)) (ways_given bs (trees_of ys)) (way_given (get_or bs (length ys) false) (tree_at x)))
     ∙ sym (ap (λ z. join (ways_given (b ∷ bs) z) (way_given (get_or bs (length ys) false) (tree_at x))) (trees-first y ys))
 
 -- with nothing behind it yet

@@ -1,7 +1,7 @@
 -- Items and sections that are changed where they stand, from the last to the first, until no mention of a slot is left.
 use mathlib.Core.Path.{ap₂}
-use Rattle.std.proofs.Common.{◌≡◌, ℕ, zero, suc, ◌+◌, ◌<◌, ◌≤◌, Bool, true, false, cond, ◌&&◌, List, [], ◌∷◌, ◌++◌, length, take, drop, get_or, slice_set, ◌⊎◌, inl, inr, arith, refl, sym, ap, subst, ◌∙◌}
-use Rattle.std.proofs.lemmas.List.{get_or-set_other, length-set, take_all, drop_all, drop_more, drop-set, append-nil}
+use Rattle.std.proofs.Common.{◌≡◌, ℕ, zero, suc, ◌+◌, ◌<◌, ◌≤◌, Bool, true, false, cond, ◌&&◌, List, [], ◌∷◌, length, take, drop, get_or, slice_set, ◌⊎◌, inl, inr, arith, refl, sym, ap, subst, ◌∙◌}
+use Rattle.std.proofs.lemmas.List.{get_or-set_other, length-set, drop_all, drop_more, drop-set}
 use Rattle.c_types.specs.Refill.{refilled}
 use Rattle.c_tree.specs.declared.tree.Item.{Item}
 use Rattle.c_tree.specs.declared.tree.Section as Real
@@ -12,6 +12,7 @@ use Rattle.c_tree.proofs.Views.{trees-first, section-first}
 use Rattle.tidy_laws.specs.Tails.{is_end}
 use Rattle.tidy_laws.specs.Changes.{inner_sections}
 use Rattle.tidy_slots.specs.Counts.{list_count, item_count, sections_count}
+use Rattle.tidy_slots.proofs.LoopLaws.{refilled_same}
 use Rattle.tidy_loops.specs.Exits.{checks_within, each_inner, each_tailed, has_check, checks_told, ways_given}
 use Rattle.tidy_loops.specs.Remaining.{exits_within, item_exits}
 use Rattle.tidy_loops.specs.Rewritten.{each_rewritten, item_rewritten}
@@ -240,13 +241,6 @@ section_change g = record {
 }
 
 -- ---- the list that was lent
-
--- it holds what was left in the slice
-pub refilled_same : {A : Type 0} (old lent new : List A) → lent ≡ old → length new ≡ length lent → refilled old new ≡ new
-refilled_same old lent new e h =
-    let same : length new ≡ length old = h ∙ ap length e in
-    ap (λ z. take (length old) (new ++ z)) (drop_all (length new) old (omega (arith, same))) ∙ ap (take (length old)) (append-nil new) ∙
-    take_all (length old) new (omega (arith, same))
 
 -- and what is told of it gives way then
 pub list_made : (g : ℕ) (each all : Forest → Forest) → ((a : Forest) → ways_given (cond (has_check g a) (checks_told g a) []) (each a) ≡ all a)

@@ -6,6 +6,7 @@ use Rattle.c_tree.specs.Trees.{Tree, Forest, Nil, Then, Local}
 use Rattle.jump_meaning.specs.Code.{FunctionTree, items_of, entry_or}
 use Rattle.jump_meaning.specs.World.{no_slot}
 use Rattle.tidy_laws.specs.Changes.{is_flag, is_zero_value, is_declaration, declares}
+use Rattle.tidy_laws.proofs.Tailed.{and_of_all}
 use Rattle.tidy_slots.specs.Counts.{list_count}
 use Rattle.tidy_slots.specs.Added.{Adds}
 use Rattle.tidy_loops.specs.Views.{is_it}
@@ -142,12 +143,8 @@ all_kept f counts whole old rest new e d g h =
 
 -- ---- of a function
 
-regrouped : (a b c : Bool) → ((a && b) && c) ≡ (a && (b && c))
-regrouped true b c = refl
-regrouped false b c = refl
-
 goes_if : (f : FunctionTree) (g : ℕ) → (is_free f g && declares g (items_of f)) ≡ may_go f g
-goes_if f g = regrouped (leb f.params g && ltb g (length f.slots)) (is_flag (entry_or no_slot f.slots g)) (declares g (items_of f))
+goes_if f g = and_of_all (leb f.params g && ltb g (length f.slots)) (is_flag (entry_or no_slot f.slots g)) (declares g (items_of f))
 
 -- the counts of the body, and those that are kept of them
 pub tells : (f : FunctionTree) (zeros counts kept : List ℕ) → zeros ≡ replicate (length f.slots) 0 →

@@ -1,15 +1,14 @@
 -- What is left of the mentions of a slot behind the parts of a list, from its end on.
-use Rattle.std.proofs.Common.{ℕ, zero, suc, ◌+◌, ◌-◌, ◌≤◌, ◌<◌, Bool, true, false, not, cond, ◌&&◌, eqb, eqb-true, is_some, List, [], ◌∷◌, length, drop, get_or, Option, Some, None, ◌≡◌, refl, sym, ap, subst, ◌∙◌, arith}
+use Rattle.std.proofs.Common.{ℕ, zero, suc, ◌+◌, ◌-◌, ◌≤◌, ◌<◌, Bool, true, false, not, cond, ◌&&◌, eqb, eqb-true, List, [], ◌∷◌, length, drop, get_or, Option, Some, None, ◌≡◌, refl, sym, ap, subst, ◌∙◌, arith}
 use Rattle.c_tree.specs.declared.tree.Item.{Item}
 use Rattle.c_tree.specs.declared.tree.Section.{Section as RealSection}
 use Rattle.c_tree.specs.Paths.{list_of}
-use Rattle.c_tree.specs.ExpressionTrees.{ExpressionTree}
 use Rattle.c_tree.specs.TestTrees.{TestTree}
-use Rattle.c_tree.specs.Trees.{Tree, Forest, Nil, Then, Evaluate, If, trees_of, sections_of}
+use Rattle.c_tree.specs.Trees.{Tree, Forest, Nil, Then, If, trees_of, sections_of}
 use Rattle.c_tree.specs.Views.{tree_at}
 use Rattle.c_tree.proofs.Views.{trees-first, trees-at, trees-end, sections-at, sections-end}
 use Rattle.tidy_laws.specs.Tails.{is_end}
-use Rattle.tidy_laws.specs.Changes.{checks, set_value}
+use Rattle.tidy_laws.specs.Changes.{checks}
 use Rattle.tidy_slots.specs.Counts.{one_if, list_count, item_count, sections_count}
 use Rattle.tidy_loops.specs.Exits.{checks_in, checks_within}
 use Rattle.tidy_loops.specs.Remaining.{exits_within, item_exits, IsLeft}
@@ -123,7 +122,8 @@ items_none tail g left at xs e =
     nothing false = refl
 
 pub items_next : (tail : Bool) (g left now at place : ℕ) (xs : List Item) (x : Item) (last : Bool) (r : Option ℕ) → place ≡ at - 1 → 0 < at → at ≤ length xs →
-    x ≡ get_or xs place x → last ≡ (tail && is_end g (trees_of (drop (place + 1) xs))) → IsLeft now (item_exits last g (tree_at x)) (item_count g (tree_at x)) r →
+    x ≡ get_or xs place x → last ≡ (tail && is_end g (trees_of (drop (place + 1) xs))) →
+    IsLeft now (item_exits last g (tree_at x)) (item_count g (tree_at x)) r →
     IsLeft left (exits_within tail g (trees_of (drop at xs))) (list_count g (trees_of (drop at xs))) (Some now) →
     IsLeft left (exits_within tail g (trees_of (drop place xs))) (list_count g (trees_of (drop place xs))) r
 items_next tail g left now at place xs x last r p f l e o h i =
@@ -213,7 +213,3 @@ pub in_if : (tail : Bool) (g : ℕ) (t : TestTree) (a b : Forest) →
     item_exits tail g (If t a b) ≡ one_if (checks g t b) + (exits_within tail g a + exits_within tail g b)
 in_if true g t a b = refl
 in_if false g t a b = refl
-
-pub in_set : (tail : Bool) (g : ℕ) (e : ExpressionTree) → item_exits tail g (Evaluate e) ≡ cond tail (one_if (is_some (set_value g e))) 0
-in_set true g e = refl
-in_set false g e = refl

@@ -37,14 +37,6 @@ tailed_by g l (If t a b) = unchecked_at t (tailed g l a) (tailed g l b) (checks 
 tailed_by g l (Evaluate e) = refl
 tailed_by g l x = inner_by g x
 
-pub join_join : (a b c : Forest) → join (join a b) c ≡ join a (join b c)
-join_join Nil b c = refl
-join_join (Then x xs) b c = ap (Then x) (join_join xs b c)
-
-pub join_nil : (a : Forest) → join a Nil ≡ a
-join_nil Nil = refl
-join_nil (Then x xs) = ap (Then x) (join_nil xs)
-
 -- ---- low sets
 
 pub low_first : (g n : ℕ) (xs : List Item) (i : ℕ) (x : Item) (b : Bool) → i < length xs → x ≡ get_or xs i x → is_low g n (tree_at x) ≡ b →

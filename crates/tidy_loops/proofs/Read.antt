@@ -13,7 +13,6 @@ use Rattle.c_tree.specs.declared.tree.Function.{Function}
 use Rattle.c_tree.specs.ExpressionTrees.{expression_tree}
 use Rattle.c_tree.specs.TestTrees.{Source, test_tree}
 use Rattle.c_tree.specs.Trees.{Tree, Then, trees_of}
-use Rattle.c_tree.proofs.ExpressionLaws.{test-Source}
 use Rattle.c_tree.proofs.TreeLaws.{trees-none}
 use Rattle.jump_meaning.specs.Code.{FunctionTree, function_tree, entry_or}
 use Rattle.jump_meaning.specs.World.{no_slot}
@@ -23,9 +22,6 @@ use Rattle.tidy_laws.specs.Changes.{is_number, is_zero_value, is_flag}
 use Rattle.tidy_loops.specs.Views.{test_at}
 use Rattle.tidy_loops.proofs.FormLaws.{test_same}
 use Rattle.tidy_loops.specs.Slots.{second_half, rest_test, reset_slot, first_reset, last_reset, but_last, is_free}
-
-pub at_source : (e : Expression) → test_at (S.Source e) ≡ Source (expression_tree e)
-at_source e = sym (test_same (S.Source e)) ∙ test-Source e
 
 pub rest_some : (t : Test) (e : Expression) → Some (expression_tree e) ≡ second_half (test_at t) → rest_test (test_tree t) ≡ Source (expression_tree e)
 rest_some t e h = ap rest_test (test_same t) ∙ sym (ap (λ o. option_map_or Source o (test_at t)) h)
@@ -48,9 +44,6 @@ first_some [] x h e = absurd (omega (arith, h))
 first_some (y ∷ ys) x h e = ap (λ z. reset_slot (tree_at z)) e ∙ sym (ap first_reset (trees-first y ys))
 
 -- ---- the last item
-
-minus : (n : ℕ) → suc (suc n) - 1 ≡ suc n
-minus n = omega arith
 
 last_first : (x : Tree) (xs : List Item) (y : Item) → last_reset (Then x (trees_of (y ∷ xs))) ≡ last_reset (trees_of (y ∷ xs))
 last_first x xs y = ap (λ z. last_reset (Then x z)) (trees-first y xs) ∙ sym (ap last_reset (trees-first y xs))

@@ -2,17 +2,13 @@
 use mathlib.Core.Path.{ap₂}
 use Rattle.std.proofs.Common.{ℕ, zero, suc, ◌+◌, ◌-◌, ◌<◌, ◌≤◌, ◌≢◌, Bool, true, false, cond, ◌&&◌, ◌||◌, eqb, leb, ltb, List, [], ◌∷◌, ◌++◌, Option, Some, None, ◌≡◌, refl, sym, ap, ◌∙◌, arith}
 use Rattle.std.specs.Prelude.{filter}
-use Rattle.std.proofs.lemmas.Bool.{eq-eqb, ne_eqb, eqb-true, eqb-false, le-leb, leb-true, lt-ltb, ltb-true}
+use Rattle.std.proofs.lemmas.Bool.{eq-eqb, ne_eqb, eqb-true, eqb-false, le-leb, leb-true, lt-ltb, ltb-true, and_from}
 use Rattle.std.proofs.lemmas.List.{append-nil}
 use Rattle.c_tree.specs.Trees.{Forest}
 use Rattle.tidy_laws.specs.Changes.{changed_for, listed}
+use Rattle.tidy_laws.proofs.TidyNumberingNumbers.{same_bool}
 use Rattle.tidy_loops.specs.Views.{is_it}
 use Rattle.tidy_loops.specs.Slots.{allowed, found}
-
-same_bool : (a b : Bool) → (a ≡ true → b ≡ true) → (b ≡ true → a ≡ true) → a ≡ b
-same_bool true b f g = sym (f refl)
-same_bool false true f g = g refl
-same_bool false false f g = refl
 
 pub eqb_same : (x y u v : ℕ) → (x ≡ y → u ≡ v) → (u ≡ v → x ≡ y) → eqb x y ≡ eqb u v
 eqb_same x y u v f g = same_bool (eqb x y) (eqb u v) (λ e. eq-eqb u v (f (eqb-true x y e))) (λ e. eq-eqb x y (g (eqb-true u v e)))
@@ -59,10 +55,7 @@ most : (p n s : ℕ) → among p n s ≡ true → s < p + n
 most p zero s h = cc
 most p (suc n) s h = most_at p n s (eqb s p) refl h (most (suc p) n s)
 
-both_true : (a b : Bool) → a ≡ true → b ≡ true → (a && b) ≡ true
-both_true a b e h = ap (λ z. z && b) e ∙ h
-
-left_true : (a b : Bool) → (a && b) ≡ true → a ≡ true
+pub left_true : (a b : Bool) → (a && b) ≡ true → a ≡ true
 left_true true b h = refl
 left_true false b h = h
 
@@ -74,7 +67,7 @@ among_is : (p m s : ℕ) → among p (m - p) s ≡ (leb p s && ltb s m)
 among_is p m s =
     same_bool (among p (m - p) s) (leb p s && ltb s m)
     (λ h. let l = least p (m - p) s h in let u = most p (m - p) s h in let v : s < m = omega (arith, l, u) in
-    both_true (leb p s) (ltb s m) (le-leb p s l) (lt-ltb s m v))
+    and_from (leb p s) (ltb s m) (le-leb p s l) (lt-ltb s m v))
     (λ h. let l = leb-true p s (left_true (leb p s) (ltb s m) h) in let u = ltb-true s m (right_true (leb p s) (ltb s m) h) in
     let v : s < p + (m - p) = omega (arith, l, u) in inside p (m - p) s l v)
 

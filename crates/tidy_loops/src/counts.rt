@@ -72,7 +72,7 @@ fn put(kept: &mut List<u64>, slot: u32, count: u64)
 }
 
 /// The slot that the item declares as `int g = 0;`.
-fn declared(item: &Item) -> Option<u32>
+fn declared_slot(item: &Item) -> Option<u32>
     ensures { result ≡ the_declared (tree_at item.now) }
 {
     match item {
@@ -92,7 +92,7 @@ fn keep_if(function: &Function, counts: &List<u64>, item: &Item, kept: &mut List
     ensures as_long { length kept.new ≡ length kept.old }
     ensures kept { (g : ℕ) → g < length kept.old → count_in kept.new g ≡ cond (the_is_free (function_tree function.now) g && is_declaration g (tree_at item.now)) (count_in counts.now g) (count_in kept.old g) }
 {
-    match declared(item) {
+    match declared_slot(item) {
         Some(at) => {
             if is_free(function, at) {
                 put(kept, at, count_of(counts, at));

@@ -106,8 +106,8 @@ pub fn tailed(
     rewrite_list(alloc, slot, exit, true, list, left)
 }
 
-/// The same for a list that may be at no tail. What it takes away from the number is no more than the list names the slot,
-/// so the number bounds the mentions before it too.
+/// Makes exits of the sets of the slot in a list that may be at no tail. What it takes away from the number is no more than
+/// the list names the slot, so the number bounds the mentions before it too.
 #[cycle(rewrite)]
 fn rewrite_list(
     alloc: Global,

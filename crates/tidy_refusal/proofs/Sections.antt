@@ -7,7 +7,8 @@ use Rattle.c_tree.specs.Everywhere.{EverywhereIn}
 use Rattle.c_tree.specs.Trees.{Forest, Nil, Then, SectionTree, expression_trees, trees_of, section_tree, sections, sections_of}
 use Rattle.c_tree.proofs.TreeLaws.{trees-append, trees-none, trees-more, tree-Evaluate}
 use Rattle.c_tree.proofs.KeptLemmas.{everywhere_join}
-use Rattle.c_statements.specs.Sections.{Reading, extended, closed, passed_on, front}
+use Rattle.c_tree.specs.SectionLabels.{labels_passed}
+use Rattle.c_statements.specs.Sections.{Reading, extended, closed, front}
 use Rattle.c_statements.specs.Statements as statements
 use Rattle.c_resolved_defs.specs.Form.{ends_with_break}
 use Rattle.c_resolved_defs.specs.Within.{Each}
@@ -90,7 +91,7 @@ still_trees [] h = tt
 still_trees (c ∷ cs) h = (h.0, still_trees cs h.1)
 
 -- the sections of a switch
-pub are_still : (cs : List Section) → StillSections cs → EverywhereIn IsStill (sections_of (passed_on [] false cs))
+pub are_still : (cs : List Section) → StillSections cs → EverywhereIn IsStill (sections_of (labels_passed cs))
 are_still cs h =
-    subst (EverywhereIn IsStill) (sym (sections_are (passed_on [] false cs) ∙ ap sections (passed_same [] false cs)))
+    subst (EverywhereIn IsStill) (sym (sections_are (labels_passed cs) ∙ ap sections (passed_same cs)))
     (passed_still [] false (map section_tree cs) (still_trees cs h))

@@ -6,6 +6,7 @@ use Rattle.c_tree.specs.Everywhere.{EverywhereOf}
 use Rattle.c_tree.specs.Trees.{Tree, tree_of, trees_of}
 use Rattle.c_tree.specs.Trees as tree
 use Rattle.c_tree.proofs.TreeLaws.{tree-Evaluate, tree-Return, tree-If, tree-While, tree-Do, tree-For, tree-Switch, tree-Block, tree-Local, tree-Break, tree-Continue, tree-Mark, tree-Note, trees-none, trees-more}
+use Rattle.c_tree.specs.SectionLabels.{labels_passed}
 use Rattle.c_grammar.specs.Items.{Declarator, Label, Named, Case, Default, Start, NoStart, StartValue, StartNames, Item, Declares, States, Plain, From, Statement, Null, Evaluate, If, IfElse, While, DoWhile, For, Switch, Block, Goto, Break, Continue, Return, Unread, Body, Braces, Lone, Items, NoItem, Then}
 use Rattle.c_grammar.specs.Items as items
 use Rattle.c_statements.specs.declared.extents.Kinded.{Kinded}
@@ -14,7 +15,7 @@ use Rattle.c_statements.specs.declared.anchors.Anchor.TheVariants.{Before, AtEnd
 use Rattle.c_statements.specs.Context.{Context, Walk, env_at, env_in, enter, notes_at, number_in}
 use Rattle.c_statements.specs.Declarations.{kinded, declared, local, locals, initial, value_at}
 use Rattle.c_statements.specs.Labels.{has_case, mark, labels_items, section_marks}
-use Rattle.c_statements.specs.Sections.{Reading, extended, closed, passed_on, front}
+use Rattle.c_statements.specs.Sections.{Reading, extended, closed, front}
 use Rattle.c_statements.specs.Statements as statements
 use Rattle.c_statements.specs.Statements.{behind_start, behind_item, behind_plain, behind_body, declared_by, declaration_items, dropped_at, test_at, start_items, begun, item_items, plain_items, statement_items, body_items, list_items, switch_sections, sections_from, sections_at, outside_item, outside_items, begins, is_null}
 use Rattle.c_resolving_laws.proofs.Lists.{each_append}
@@ -154,7 +155,7 @@ module _ (ctx : Context) where
         )
     still_statement (Switch t b) w rest e =
         let q = still_switch b w rest e in (
-          still_one _ _ (tree-Switch (selector.Source (value_at (env_at ctx w) t)) (passed_on [] false (switch_sections ctx b w)))
+          still_one _ _ (tree-Switch (selector.Source (value_at (env_at ctx w) t)) (labels_passed (switch_sections ctx b w)))
               (tt, are_still (switch_sections ctx b w) q.0),
           q.1,
         )

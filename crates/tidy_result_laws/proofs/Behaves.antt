@@ -1,6 +1,6 @@
 -- A file behaves as it does after its changes, and once its sections have their plain form.
 use mathlib.Core.Path.{ap₂}
-use Rattle.std.proofs.Common.{ℕ, zero, suc, ◌+◌, Bool, true, false, cond, ◌&&◌, List, [], ◌∷◌, length, Option, Some, None, option_map, bytes_eq, inl, inr, ◌≡◌, refl, sym, ap, ◌∙◌, subst, arith}
+use Rattle.std.proofs.Common.{ℕ, zero, suc, ◌+◌, Bool, true, cond, ◌&&◌, List, [], ◌∷◌, length, Option, Some, None, option_map, bytes_eq, inl, inr, ◌≡◌, refl, sym, ap, ◌∙◌, subst, arith}
 use Rattle.std.specs.Prelude.{is_some, Contains}
 use Rattle.std.specs.Option.{option_map_or}
 use Rattle.std.proofs.lemmas.List.Elements.{All-from_recursion}
@@ -19,6 +19,7 @@ use Rattle.struct_meaning.specs.Structured.{IsStructured, IsTopStructured}
 use Rattle.struct_meaning.proofs.Programs.{code_structured}
 use Rattle.plain_laws.specs.Tidied.{tidy, tidy_function, tidy_code}
 use Rattle.plain_laws.proofs.TidyTrees.{tidied_trees}
+use Rattle.plain_laws.proofs.PlainLookup.{map_choice}
 use Rattle.whole_laws.specs.Rewritten.{IsNoFunction}
 use Rattle.c_resolved_defs.specs.Within.{Each}
 use Rattle.tidy_laws.specs.Changes.{changes_of}
@@ -109,10 +110,6 @@ section_tree all f h (inl e) l = ap function_tree e.1 ∙ (λ i. record { result
     nothing None e = refl
     nothing (Some xs) e = cc
 section_tree all f h (inr m) l = unmoved_tree all f h m l
-
-map_choice : {A B : Type 0} (h : A → B) (b : Bool) (x y : Option A) → option_map h (cond b x y) ≡ cond b (option_map h x) (option_map h y)
-map_choice h true x y = refl
-map_choice h false x y = refl
 
 found : (r : Bool → Bool) (m : List ℕ) (all : List Top) {ts us : List Top} → Over IsSectioned ts us → Each (TopIsLoose all) ts →
     function_in (λ f. r (is_some f.body)) m us ≡ option_map tidy_function (function_in (λ f. r (is_some f.body)) m ts)

@@ -1,6 +1,7 @@
 -- A body whose names are bound stays so without a slot that it doesn't name, and without its declaration.
 use Rattle.std.proofs.Common.{◌≡◌, ℕ, Bool, true, false, not, ◌&&◌, cond, eqb, eqb-true, eq-eqb, nat_lt, List, Option, Some, None, bytes_eq, refl, sym, ap, ◌∙◌, subst, true≢false, arith}
 use Rattle.std.proofs.lemmas.Bool.Decides.{nat_tests}
+use Rattle.std.proofs.lemmas.Bool.{and_parts, not-true}
 use Rattle.c_tree.specs.declared.tree.Slot.{Slot}
 use Rattle.c_tree.specs.declared.tree.Home.{Home}
 use Rattle.c_tree.specs.declared.tree.Home.TheVariants as H
@@ -16,8 +17,7 @@ use Rattle.tidy_laws.specs.Mentions.{home_lacks, lacks, place_lacks, test_lacks,
 use Rattle.tidy_laws.specs.Renumbered.{new_number, without, renumbered_home, renumbered, renumbered_place, renumbered_values, renumbered_list, renumbered_item, renumbered_sections}
 use Rattle.tidy_laws.specs.Changes.{is_zero_value, is_declaration, undeclared}
 use Rattle.tidy_laws.proofs.TidyChangesNumbers.{number_before}
-use Rattle.tidy_laws.proofs.TidyZeroExpressions.{both}
-use Rattle.tidy_result_laws.proofs.SlotGone.{is_false, slot_same, home_same, IsFreeOf, within_without}
+use Rattle.tidy_result_laws.proofs.SlotGone.{slot_same, home_same, IsFreeOf, within_without}
 use Rattle.tidy_result_laws.proofs.ItemsGone.{HasFreeCases, test_without, option_without, values_without, selector_without, each_case}
 use Rattle.tidy_result_laws.proofs.FileScopes.{AreBelow}
 use Rattle.tidy_result_laws.proofs.TrimBound.{look_bound, found_first, new_first, first_new, first_bound, unbound_before}
@@ -78,7 +78,7 @@ module _ (g : ℕ) where
           look_up ts m ≡ Some (renumbered_meaning b)
       at m true b o e =
           let q : AVariable (H.Slot g) ≡ b = ap (meaning_or b) e in
-          let r : not (eqb g g) ≡ true = ap is_other q ∙ o in absurd (true≢false (sym (eq-eqb g g refl) ∙ is_false (eqb g g) r))
+          let r : not (eqb g g) ≡ true = ap is_other q ∙ o in absurd (true≢false (sym (eq-eqb g g refl) ∙ not-true (eqb g g) r))
       at m false b o e = h.finds m b o e
 
   module _ (slots : List Slot) where
@@ -95,14 +95,14 @@ module _ (g : ℕ) where
       home_place : (at : PlaceTree) → place_lacks g at ≡ true → look_up ss (home_name slots (home_of at)) ≡ Some (AVariable (home_of at))
           → look_up ts (home_name fewer (home_of (renumbered_place g at))) ≡ Some (AVariable (home_of (renumbered_place g at)))
       home_place (Var a) l e = home_bound a l e
-      home_place (Cell a x) l e = home_bound a (both (home_lacks g a) (lacks g x) l).0 e
+      home_place (Cell a x) l e = home_bound a (and_parts (home_lacks g a) (lacks g x) l).0 e
 
       name_bound : (e : ExpressionTree) → lacks g e ≡ true → NameIsBound slots ss e → NameIsBound fewer ts (renumbered g e)
       name_bound (Typed kind (EnumName m z)) l i = h.finds m (AConstant z) refl i
       name_bound (Typed kind (Array a)) l i = home_bound a l i
       name_bound (Typed kind (Read at)) l i = home_place at l i
-      name_bound (Typed kind (Assign at a)) l i = home_place at (both (place_lacks g at) (lacks g a) l).0 i
-      name_bound (Typed kind (Update op at a)) l i = home_place at (both (place_lacks g at) (lacks g a) l).0 i
+      name_bound (Typed kind (Assign at a)) l i = home_place at (and_parts (place_lacks g at) (lacks g a) l).0 i
+      name_bound (Typed kind (Update op at a)) l i = home_place at (and_parts (place_lacks g at) (lacks g a) l).0 i
       name_bound (Typed kind (Count at up after)) l i = home_place at l i
       name_bound (Typed kind (Call m xs)) l i = h.finds m AFunction refl i
       name_bound (Typed kind (Number z)) l i = tt
@@ -120,7 +120,7 @@ module _ (g : ℕ) where
     -- ---- items
 
     other_slot : (x : ℕ) (es : Option (List ExpressionTree)) → (not (eqb x g) && values_lack g es) ≡ true → (eqb x g ≡ false) × (values_lack g es ≡ true)
-    other_slot x es l = let i = both (not (eqb x g)) (values_lack g es) l in (is_false (eqb x g) i.0, i.1)
+    other_slot x es l = let i = and_parts (not (eqb x g)) (values_lack g es) l in (not-true (eqb x g) i.0, i.1)
 
     -- behind a declaration of another variable
     local_behind : (x : ℕ) (es ds : Option (List ExpressionTree)) (ss ts : List Scope) → eqb x g ≡ false → AreWithout ss ts →
@@ -137,7 +137,7 @@ module _ (g : ℕ) where
         AreWithout (behind_all slots ss a) (behind_all fewer ts (renumbered_list g a))
     all_behind Nil ss ts l h = h
     all_behind (Then x xs) ss ts l h =
-        let i = both (item_lacks g x) (list_lacks g xs) l in all_behind xs (behind slots ss x) (behind fewer ts (renumbered_item g x)) i.1
+        let i = and_parts (item_lacks g x) (list_lacks g xs) l in all_behind xs (behind slots ss x) (behind fewer ts (renumbered_item g x)) i.1
         (item_behind x ss ts i.0 h)
 
     abbrev IsFit : Tree → Type 0
@@ -148,33 +148,33 @@ module _ (g : ℕ) where
           AreBound fewer ts (renumbered_list g a)
       list_bound Nil ss ts l p h i = tt
       list_bound (Then x xs) ss ts l p h i =
-          let j = both (item_lacks g x) (list_lacks g xs) l in
+          let j = and_parts (item_lacks g x) (list_lacks g xs) l in
           (item_bound x ss ts j.0 p.0 h i.0, list_bound xs (behind slots ss x) (behind fewer ts (renumbered_item g x)) j.1 p.1 (item_behind x ss ts j.0 h) i.1)
 
       item_bound : (x : Tree) (ss ts : List Scope) → item_lacks g x ≡ true → EverywhereOf IsFit x → AreWithout ss ts → ItemIsBound slots ss x →
           ItemIsBound fewer ts (renumbered_item g x)
       item_bound (If t a b) ss ts l p h i =
-          let j = both (test_lacks g t) (list_lacks g a && list_lacks g b) l in
-          let m = both (list_lacks g a) (list_lacks g b) j.1 in
+          let j = and_parts (test_lacks g t) (list_lacks g a && list_lacks g b) l in
+          let m = and_parts (list_lacks g a) (list_lacks g b) j.1 in
           let n = without_inside ss ts h in (
             test_without g (IsBound slots ss) (IsBound fewer ts) (bound_without ss ts h) t j.0 i.0,
             list_bound a (inside ss) (inside ts) m.0 p.1 n i.1,
             list_bound b (inside ss) (inside ts) m.1 p.2 n i.2,
           )
       item_bound (While t a) ss ts l p h i =
-          let j = both (test_lacks g t) (list_lacks g a) l in (
+          let j = and_parts (test_lacks g t) (list_lacks g a) l in (
             test_without g (IsBound slots ss) (IsBound fewer ts) (bound_without ss ts h) t j.0 i.0,
             list_bound a (inside ss) (inside ts) j.1 p.1 (without_inside ss ts h) i.1,
           )
       item_bound (Do a t) ss ts l p h i =
-          let j = both (list_lacks g a) (test_lacks g t) l in (
+          let j = and_parts (list_lacks g a) (test_lacks g t) l in (
             test_without g (IsBound slots ss) (IsBound fewer ts) (bound_without ss ts h) t j.1 i.0,
             list_bound a (inside ss) (inside ts) j.0 p.1 (without_inside ss ts h) i.1,
           )
       item_bound (For f t u a) ss ts l p h i =
-          let j = both (list_lacks g f) (option_lacks g t && (option_lacks g u && list_lacks g a)) l in
-          let m = both (option_lacks g t) (option_lacks g u && list_lacks g a) j.1 in
-          let n = both (option_lacks g u) (list_lacks g a) m.1 in
+          let j = and_parts (list_lacks g f) (option_lacks g t && (option_lacks g u && list_lacks g a)) l in
+          let m = and_parts (option_lacks g t) (option_lacks g u && list_lacks g a) j.1 in
+          let n = and_parts (option_lacks g u) (list_lacks g a) m.1 in
           let k = without_inside ss ts h in
           let r = all_behind f (inside ss) (inside ts) j.0 k in
           let s = behind_all slots (inside ss) f in
@@ -185,7 +185,7 @@ module _ (g : ℕ) where
             list_bound a (inside s) (inside z) n.1 p.2 (without_inside s z r) i.3,
           )
       item_bound (Switch s c) ss ts l p h i =
-          let j = both (selector_lacks g s) (sections_lack g c) l in (
+          let j = and_parts (selector_lacks g s) (sections_lack g c) l in (
             selector_without g (IsBound slots ss) (IsBound fewer ts) (bound_without ss ts h) s j.0 i.0,
             sections_bound c (inside ss) (inside ts) j.1 p.0.1 p.1 (without_inside ss ts h) i.1,
           )
@@ -207,7 +207,7 @@ module _ (g : ℕ) where
           AreWithout ss ts → SectionsAreBound slots ss c → SectionsAreBound fewer ts (renumbered_sections g c)
       sections_bound NoSection ss ts l q p h i = tt
       sections_bound (Section cases default a ends c) ss ts l q p h i =
-          let j = both (list_lacks g a) (sections_lack g c) l in (
+          let j = and_parts (list_lacks g a) (sections_lack g c) l in (
             each_case g (IsBound slots ss) (IsBound fewer ts) (bound_without ss ts h) cases q.0 i.0,
             list_bound a ss ts j.0 p.0 h i.1,
             sections_bound c (behind_all slots ss a) (behind_all fewer ts (renumbered_list g a)) j.1 q.1 p.1 (all_behind a ss ts j.0 h) i.2,
@@ -217,7 +217,7 @@ module _ (g : ℕ) where
 
     its_behind : (x : Tree) (ss ts : List Scope) → is_declaration g x ≡ true → AreWithout ss ts → AreWithout (behind slots ss x) ts
     its_behind (Local x es) ss ts e h = subst (λ y. AreWithout (bind (slot_name slots y) (AVariable (H.Slot y)) ss) ts)
-        (sym (eqb-true x g (both (eqb x g) (is_zero_value es) e).0)) (without_its (slot_name slots g) ss ts h)
+        (sym (eqb-true x g (and_parts (eqb x g) (is_zero_value es) e).0)) (without_its (slot_name slots g) ss ts h)
     its_behind x ss ts e h = absurd (true≢false (sym e))
 
     pub body_bound : (a : Forest) (ss ts : List Scope) → list_lacks g (undeclared g a) ≡ true → Everywhere IsFit a → AreWithout ss ts →
@@ -231,7 +231,7 @@ module _ (g : ℕ) where
             AreBound fewer (behind fewer ts (renumbered_item g x)) (renumbered_list g (undeclared g xs)))
             → AreBound fewer ts (renumbered_list g (cond b xs (Then x (undeclared g xs))))
         at true q l k = list_bound xs (behind slots ss x) ts l p.1 (its_behind x ss ts q h) i.1
-        at false q l k = let j = both (item_lacks g x) (list_lacks g (undeclared g xs)) l in
+        at false q l k = let j = and_parts (item_lacks g x) (list_lacks g (undeclared g xs)) l in
             (item_bound x ss ts j.0 p.0 h i.0, k j.1 (item_behind x ss ts j.0 h))
 
   -- ---- parameters, which are all before the slot

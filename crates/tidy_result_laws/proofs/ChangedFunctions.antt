@@ -2,6 +2,7 @@
 use Rattle.std.proofs.Common.{◌≡◌, ℕ, zero, suc, pred, ◌+◌, ◌-◌, ◌<◌, ◌≤◌, Bool, true, false, true≢false, ◌&&◌, List, [], ◌∷◌, length, take, drop, Option, Some, None, option_map, refl, sym, ap, ◌∙◌, subst, arith}
 use Rattle.std.specs.Prelude.{Contains, is_some}
 use Rattle.std.specs.Option.{option_map_or}
+use Rattle.std.proofs.lemmas.Bool.{and_parts}
 use Rattle.c_tree.specs.declared.tree.Function.{Function}
 use Rattle.c_tree.specs.declared.tree.Item.{Item}
 use Rattle.c_tree.specs.declared.tree.Slot.{Slot}
@@ -28,7 +29,7 @@ use Rattle.tidy_laws.specs.Renumbered.{without, renumbered_item, renumbered_list
 use Rattle.tidy_laws.specs.Changes.{is_flag, declares, undeclared, changes, changes_of}
 use Rattle.tidy_laws.proofs.Reach.{of_change, in_reach, fewer as slots_fewer, first_among}
 use Rattle.tidy_laws.specs.Ends.{IsChangedFirst}
-use Rattle.tidy_laws.proofs.TidyZeroExpressions.{both}
+use Rattle.tidy_laws.proofs.TheLaws.{front_without}
 use Rattle.whole_laws.proofs.SameFile.{SameDeclaration}
 use Rattle.whole_laws.proofs.ScopeLists.{parameters_take}
 use Rattle.tidy_result_laws.proofs.Trims.{Trim}
@@ -38,7 +39,7 @@ use Rattle.tidy_result_laws.proofs.TrimFacts.{IsKept, trim_everywhere}
 use Rattle.tidy_result_laws.proofs.KeptFacts.{HasEntries, kinds_kept, consts_kept, returns_kept, cases_kept, entries_kept, initialised_kept, firsts_kept, jumps_kept, unguarded_kept}
 use Rattle.tidy_result_laws.proofs.TrimSpelled.{trim_spelled}
 use Rattle.tidy_result_laws.proofs.TrimBound.{trim_bound}
-use Rattle.tidy_result_laws.proofs.SlotGone.{take_without, drop_without}
+use Rattle.tidy_result_laws.proofs.SlotGone.{drop_without}
 use Rattle.tidy_result_laws.proofs.KindsGone.{fewer_names}
 use Rattle.tidy_result_laws.proofs.ItemsGone.{HasFreeCases, everywhere_undeclared, everywhere_without, free_cases, agrees_without, keeps_without, fits_without, cases_stay, initialised_without, firsts_without, jumps_without, unguarded_without, entries_without}
 use Rattle.tidy_result_laws.proofs.CountsGone.{declared_gone, breaks_gone, continues_gone, depth_gone}
@@ -76,8 +77,8 @@ is_change ts f c l k = at f.body refl k
         let is_body : body_of f ≡ trees_of xs = ap (λ b. option_map_or trees_of b Nil) e in
         let h = of_change (λ d. (b : Bool) → Trim d.0 b 1 (trees_of xs) d.1) (function_tree f) (trees_of xs)
         (lists_trim f.slots f.params (length f.slots - f.params) (trees_of xs) (subst (Everywhere (HasFirst f.slots)) is_body l.firsts) 1) c k in
-        let i = both (is_flag (entry_or no_slot f.slots c.0)) (declares c.0 c.1 && list_lacks c.0 (undeclared c.0 c.1)) h.1 in
-        let j = both (declares c.0 c.1) (list_lacks c.0 (undeclared c.0 c.1)) i.1 in
+        let i = and_parts (is_flag (entry_or no_slot f.slots c.0)) (declares c.0 c.1 && list_lacks c.0 (undeclared c.0 c.1)) h.1 in
+        let j = and_parts (declares c.0 c.1) (list_lacks c.0 (undeclared c.0 c.1)) i.1 in
         record { some = ap is_some e; trim = subst (λ a. Trim c.0 false 1 a c.1) (sym is_body) (h.0 false); declared = j.0; lacks = j.1 }
 
 lengths_without : (P : Option ℕ → Type 0) (g : ℕ) (ss : List Slot) → AreLengths P ss → AreLengths P (without g ss)
@@ -114,7 +115,7 @@ module _ (ts : List Top) (f h : Function) (s : IsChangedFirst f h) (l : IsLoose 
   params_are = ap (λ (k : Function). k.params) s.kept
 
   taken : take h.params h.slots ≡ take f.params f.slots
-  taken = (λ i. take (params_are i) (slots_are i)) ∙ take_without f.params g f.slots reach.0
+  taken = (λ i. take (params_are i) (slots_are i)) ∙ front_without f.params g f.slots reach.0
 
   fewer : suc (length h.slots) ≡ length f.slots
   fewer = ap (λ ss. suc (length ss)) slots_are ∙ slots_fewer (function_tree f) s.first contained

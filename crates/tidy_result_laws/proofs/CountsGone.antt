@@ -2,6 +2,7 @@
 use Rattle.std.proofs.Common.{ℕ, zero, suc, pred, ◌+◌, ◌≤◌, Bool, true, false, ◌||◌, cond, eqb, eqb-true, nat_lt, List, [], ◌∷◌, ◌++◌, map, ◌≡◌, refl, sym, ap, ◌∙◌, subst, true≢false, arith, append_assoc}
 use Rattle.std.proofs.lemmas.Bool.Decides.{nat_tests}
 use Rattle.std.specs.Prelude.{max}
+use Rattle.std.proofs.lemmas.Bool.{and_parts}
 use Rattle.c_tree.specs.Exits.{breaks, breaks_of, continues, continues_of, continues_in}
 use Rattle.c_tree.specs.Trees.{Tree, Forest, Nil, Then, Sections, NoSection, Section, If, While, Do, For, Switch, Block, Local}
 use Rattle.c_resolved_defs.specs.Form.{gathered, gathered_of, gathered_in, declared_slot, marked_label, numbers_from}
@@ -9,8 +10,7 @@ use Rattle.c_resolved_defs.specs.PrintableStatements.{depth, depth_of, depth_in}
 use Rattle.tidy_laws.specs.Renumbered.{new_number, renumbered_test, renumbered_list, renumbered_item, renumbered_sections}
 use Rattle.tidy_laws.specs.Changes.{is_zero_value, is_declaration, undeclared, declares}
 use Rattle.tidy_laws.proofs.TidyChangesNumbers.{number_before, number_behind}
-use Rattle.tidy_laws.proofs.TidyZeroExpressions.{both}
-use Rattle.tidy_result_laws.proofs.TrimCounts.{depth_if}
+use Rattle.whole_laws.proofs.UnmovedSpelled.{depth_if}
 
 -- ---- numbers in a row
 
@@ -63,7 +63,7 @@ module _ (g : ℕ) where
     gone : gathered declared_slot (undeclared g a) ≡ pre ++ post
 
   is_its : (x : Tree) → is_declaration g x ≡ true → gathered_of declared_slot x ≡ g ∷ []
-  is_its (Local k es) h = ap (λ n. n ∷ []) (eqb-true k g (both (eqb k g) (is_zero_value es) h).0)
+  is_its (Local k es) h = ap (λ n. n ∷ []) (eqb-true k g (and_parts (eqb k g) (is_zero_value es) h).0)
   is_its x h = absurd (true≢false (sym h))
 
   find : (a : Forest) → declares g a ≡ true → Removed a

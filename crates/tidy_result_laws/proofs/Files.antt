@@ -1,5 +1,5 @@
 -- Files of which each function becomes another of the same declaration, and of which all else stays.
-use Rattle.std.proofs.Common.{◌≡◌, ◌+◌, ◌≤◌, ℤ, List, [], ◌∷◌, take, Option, Some, None, refl, sym, ap, ◌∙◌, subst, arith}
+use Rattle.std.proofs.Common.{◌≡◌, ◌+◌, ◌≤◌, ℤ, List, [], ◌∷◌, take, Option, Some, None, refl, sym, ap, ◌∙◌, subst}
 use Rattle.std.specs.Prelude.{IfSome}
 use Rattle.std.specs.Option.{option_map_or}
 use Rattle.c_types.specs.Words.{is_known}
@@ -31,6 +31,7 @@ use Rattle.c_resolved_laws.proofs.Ranged.{each_map, if_some_map}
 use Rattle.whole_laws.proofs.NamesKept.{KeepsNames, names_kept, keeps_self, kinds_over, consts_over}
 use Rattle.whole_laws.proofs.SameFile.{SameDeclaration, SameFile, sf_none, sf_function, sf_other, global_over, callee_over}
 use Rattle.whole_laws.proofs.ScopeLists.{new_take}
+use Rattle.whole_laws.proofs.FileSpelled.{spelled_body}
 use Rattle.tidy_result_laws.proofs.FileScopes.{AreBelow, below_top}
 use Rattle.tidy_result_laws.proofs.Loose.{IsLoose, TopIsLoose}
 
@@ -86,10 +87,6 @@ module _ (R : Function → Function → Type 0) (all : List Top) where
 
 -- ---- spelling
 
-spelled_items : (f : Function) (o : Option (List Item)) → f.body ≡ o → IfSome o (BodyIsSpelled f) → AreSpelled f (body_of f) × (1 + depth (body_of f) ≤ most)
-spelled_items f None e h = subst (λ a. AreSpelled f a × (1 + depth a ≤ most)) (sym (ap (λ b. option_map_or trees_of b Nil) e)) (tt, omega arith)
-spelled_items f (Some a) e h = subst (λ b. AreSpelled f b × (1 + depth b ≤ most)) (sym (ap (λ b. option_map_or trees_of b Nil) e)) (h.items, h.shallow)
-
 items_spelled : (f : Function) (o : Option (List Item)) → f.body ≡ o → AreSpelled f (body_of f) → 1 + depth (body_of f) ≤ most → IfSome o (BodyIsSpelled f)
 items_spelled f None e h d = tt
 items_spelled f (Some a) e h d =
@@ -103,7 +100,7 @@ pub record KeepsSpelling (f h : Function) : Type 0 where
 
 function_spelled : (f h : Function) → SameDeclaration f h → KeepsSpelling f h → FunctionIsSpelled f → FunctionIsSpelled h
 function_spelled f h d k s =
-    let b = spelled_items f f.body refl s.body in
+    let b = spelled_body f f.body refl s.body in
     record {
       named = subst IsName (sym d.name) s.named;
       parameters = subst ParametersPrint (sym d.parameters) s.parameters;

@@ -1,6 +1,7 @@
 -- Facts of the items of a body stay without a slot that it doesn't name, over the slots without it.
 use Rattle.std.proofs.Common.{ℕ, suc, ◌≤◌, Bool, true, false, not, ◌&&◌, cond, List, [], ◌∷◌, ◌++◌, map, length, Option, Some, None, option_map, slice_get, eqb, ◌≡◌, refl, sym, ap, ◌∙◌, subst}
 use Rattle.std.specs.Prelude.{IsSomeAnd, IfSome}
+use Rattle.std.proofs.lemmas.Bool.{and_parts, not-true}
 use Rattle.c_types.specs.declared.kinds.IntKind.{IntKind}
 use Rattle.c_tree.specs.declared.tree.Slot.{Slot}
 use Rattle.c_tree.specs.Cases.{selector_source, selector_kind, AllEntered}
@@ -21,8 +22,7 @@ use Rattle.struct_meaning.specs.Structured.{IsStructured}
 use Rattle.tidy_laws.specs.Mentions.{lacks, test_lacks, selector_lacks, all_lack, option_lacks, values_lack, list_lacks, item_lacks, sections_lack}
 use Rattle.tidy_laws.specs.Renumbered.{without, renumbered, renumbered_test, renumbered_selector, renumbered_option, renumbered_values, renumbered_list, renumbered_item, renumbered_sections}
 use Rattle.tidy_laws.specs.Changes.{is_declaration, undeclared}
-use Rattle.tidy_laws.proofs.TidyZeroExpressions.{both}
-use Rattle.tidy_result_laws.proofs.SlotGone.{is_false, same_get, kind_stays, IsFreeOf, constant_free}
+use Rattle.tidy_result_laws.proofs.SlotGone.{same_get, kind_stays, IsFreeOf, constant_free}
 use Rattle.tidy_result_laws.proofs.KindsGone.{operand_stays, value_stays, fewer_names, kinds_without, consts_without}
 use Rattle.tidy_result_laws.proofs.TrimLists.{HasFirst}
 use Rattle.tidy_result_laws.proofs.KeptFacts.{HasEntries}
@@ -44,19 +44,19 @@ module _ (g : ℕ) (P Q : Tree → Type 0) (f : (x : Tree) → item_lacks g x �
   mutual
     pub everywhere_without : (a : Forest) → list_lacks g a ≡ true → Everywhere P a → Everywhere Q (renumbered_list g a)
     everywhere_without Nil l h = tt
-    everywhere_without (Then x xs) l h = let i = both (item_lacks g x) (list_lacks g xs) l in (item_without x i.0 h.0, everywhere_without xs i.1 h.1)
+    everywhere_without (Then x xs) l h = let i = and_parts (item_lacks g x) (list_lacks g xs) l in (item_without x i.0 h.0, everywhere_without xs i.1 h.1)
 
     item_without : (x : Tree) → item_lacks g x ≡ true → EverywhereOf P x → EverywhereOf Q (renumbered_item g x)
     item_without (If t a b) l h =
-        let i = both (test_lacks g t) (list_lacks g a && list_lacks g b) l in
-        let j = both (list_lacks g a) (list_lacks g b) i.1 in (f (If t a b) l h.0, everywhere_without a j.0 h.1, everywhere_without b j.1 h.2)
-    item_without (While t a) l h = (f (While t a) l h.0, everywhere_without a (both (test_lacks g t) (list_lacks g a) l).1 h.1)
-    item_without (Do a t) l h = (f (Do a t) l h.0, everywhere_without a (both (list_lacks g a) (test_lacks g t) l).0 h.1)
+        let i = and_parts (test_lacks g t) (list_lacks g a && list_lacks g b) l in
+        let j = and_parts (list_lacks g a) (list_lacks g b) i.1 in (f (If t a b) l h.0, everywhere_without a j.0 h.1, everywhere_without b j.1 h.2)
+    item_without (While t a) l h = (f (While t a) l h.0, everywhere_without a (and_parts (test_lacks g t) (list_lacks g a) l).1 h.1)
+    item_without (Do a t) l h = (f (Do a t) l h.0, everywhere_without a (and_parts (list_lacks g a) (test_lacks g t) l).0 h.1)
     item_without (For first t u a) l h =
-        let i = both (list_lacks g first) (option_lacks g t && (option_lacks g u && list_lacks g a)) l in
-        let j = both (option_lacks g t) (option_lacks g u && list_lacks g a) i.1 in
-        let k = both (option_lacks g u) (list_lacks g a) j.1 in (f (For first t u a) l h.0, everywhere_without first i.0 h.1, everywhere_without a k.1 h.2)
-    item_without (Switch s c) l h = (f (Switch s c) l h.0, sections_without c (both (selector_lacks g s) (sections_lack g c) l).1 h.1)
+        let i = and_parts (list_lacks g first) (option_lacks g t && (option_lacks g u && list_lacks g a)) l in
+        let j = and_parts (option_lacks g t) (option_lacks g u && list_lacks g a) i.1 in
+        let k = and_parts (option_lacks g u) (list_lacks g a) j.1 in (f (For first t u a) l h.0, everywhere_without first i.0 h.1, everywhere_without a k.1 h.2)
+    item_without (Switch s c) l h = (f (Switch s c) l h.0, sections_without c (and_parts (selector_lacks g s) (sections_lack g c) l).1 h.1)
     item_without (Block a) l h = (f (Block a) l h.0, everywhere_without a l h.1)
     item_without (Evaluate e) l h = f (Evaluate e) l h
     item_without (Return e) l h = f (Return e) l h
@@ -73,7 +73,7 @@ module _ (g : ℕ) (P Q : Tree → Type 0) (f : (x : Tree) → item_lacks g x �
 
     sections_without : (c : Sections) → sections_lack g c ≡ true → EverywhereIn P c → EverywhereIn Q (renumbered_sections g c)
     sections_without NoSection l h = tt
-    sections_without (Section cases default a ends c) l h = let i = both (list_lacks g a) (sections_lack g c) l in
+    sections_without (Section cases default a ends c) l h = let i = and_parts (list_lacks g a) (sections_lack g c) l in
         (everywhere_without a i.0 h.0, sections_without c i.1 h.1)
 
 -- ---- cases name no slot
@@ -132,7 +132,7 @@ module _ (g : ℕ) (P Q : ExpressionTree → Type 0) (f : (e : ExpressionTree) �
 
   pub list_without : (es : List ExpressionTree) → all_lack g es ≡ true → Each P es → Each Q (map (renumbered g) es)
   list_without [] l h = tt
-  list_without (e ∷ es) l h = let i = both (lacks g e) (all_lack g es) l in (f e i.0 h.0, list_without es i.1 h.1)
+  list_without (e ∷ es) l h = let i = and_parts (lacks g e) (all_lack g es) l in (f e i.0 h.0, list_without es i.1 h.1)
 
   pub values_without : (o : Option (List ExpressionTree)) → values_lack g o ≡ true → IfSome o (Each P) → IfSome (renumbered_values g o) (Each Q)
   values_without None l h = tt
@@ -153,15 +153,15 @@ module _ (g : ℕ) (P Q : ExpressionTree → Type 0) (f : (e : ExpressionTree) �
       ItemExpressions Q (renumbered_item g x)
   expressions_without (Evaluate e) j l k h = f e l h
   expressions_without (Return e) j l k h = option_without e l h
-  expressions_without (If t a b) j l k h = test_without t (both (test_lacks g t) (list_lacks g a && list_lacks g b) l).0 h
-  expressions_without (While t a) j l k h = test_without t (both (test_lacks g t) (list_lacks g a) l).0 h
-  expressions_without (Do a t) j l k h = test_without t (both (list_lacks g a) (test_lacks g t) l).1 h
+  expressions_without (If t a b) j l k h = test_without t (and_parts (test_lacks g t) (list_lacks g a && list_lacks g b) l).0 h
+  expressions_without (While t a) j l k h = test_without t (and_parts (test_lacks g t) (list_lacks g a) l).0 h
+  expressions_without (Do a t) j l k h = test_without t (and_parts (list_lacks g a) (test_lacks g t) l).1 h
   expressions_without (For first t u a) j l k h =
-      let i = both (list_lacks g first) (option_lacks g t && (option_lacks g u && list_lacks g a)) l in
-      let m = both (option_lacks g t) (option_lacks g u && list_lacks g a) i.1 in
-      let n = both (option_lacks g u) (list_lacks g a) m.1 in (option_without t m.0 h.0, option_without u n.0 h.1)
-  expressions_without (Switch s c) j l k h = (selector_without s (both (selector_lacks g s) (sections_lack g c) l).0 h.0, cases_without c k h.1)
-  expressions_without (Local x es) j l k h = values_without es (both _ (values_lack g es) l).1 h
+      let i = and_parts (list_lacks g first) (option_lacks g t && (option_lacks g u && list_lacks g a)) l in
+      let m = and_parts (option_lacks g t) (option_lacks g u && list_lacks g a) i.1 in
+      let n = and_parts (option_lacks g u) (list_lacks g a) m.1 in (option_without t m.0 h.0, option_without u n.0 h.1)
+  expressions_without (Switch s c) j l k h = (selector_without s (and_parts (selector_lacks g s) (sections_lack g c) l).0 h.0, cases_without c k h.1)
+  expressions_without (Local x es) j l k h = values_without es (and_parts _ (values_lack g es) l).1 h
   expressions_without (Arm m e) j l k h = option_without e l h
   expressions_without (Arrival e) j l k h = absurd j
   expressions_without _ j l k h = tt
@@ -172,16 +172,16 @@ module _ (g : ℕ) where
   uses_without : (x : Tree) → item_lacks g x ≡ true → UsesValues x → UsesValues (renumbered_item g x)
   uses_without (Evaluate e) l h = operand_stays g e h
   uses_without (Return e) l h = option_without g HasValue HasValue (λ e l. value_stays g e) e l h
-  uses_without (If t a b) l h = test_without g HasValue HasValue (λ e l. value_stays g e) t (both (test_lacks g t) (list_lacks g a && list_lacks g b) l).0 h
-  uses_without (While t a) l h = test_without g HasValue HasValue (λ e l. value_stays g e) t (both (test_lacks g t) (list_lacks g a) l).0 h
-  uses_without (Do a t) l h = test_without g HasValue HasValue (λ e l. value_stays g e) t (both (list_lacks g a) (test_lacks g t) l).1 h
+  uses_without (If t a b) l h = test_without g HasValue HasValue (λ e l. value_stays g e) t (and_parts (test_lacks g t) (list_lacks g a && list_lacks g b) l).0 h
+  uses_without (While t a) l h = test_without g HasValue HasValue (λ e l. value_stays g e) t (and_parts (test_lacks g t) (list_lacks g a) l).0 h
+  uses_without (Do a t) l h = test_without g HasValue HasValue (λ e l. value_stays g e) t (and_parts (list_lacks g a) (test_lacks g t) l).1 h
   uses_without (For first t u a) l h =
-      let i = both (list_lacks g first) (option_lacks g t && (option_lacks g u && list_lacks g a)) l in
-      let m = both (option_lacks g t) (option_lacks g u && list_lacks g a) i.1 in
-      let n = both (option_lacks g u) (list_lacks g a) m.1 in
+      let i = and_parts (list_lacks g first) (option_lacks g t && (option_lacks g u && list_lacks g a)) l in
+      let m = and_parts (option_lacks g t) (option_lacks g u && list_lacks g a) i.1 in
+      let n = and_parts (option_lacks g u) (list_lacks g a) m.1 in
       (option_without g HasValue HasValue (λ e l. value_stays g e) t m.0 h.0, option_without g IsOperand IsOperand (λ e l. operand_stays g e) u n.0 h.1)
-  uses_without (Switch s c) l h = selector_without g HasValue HasValue (λ e l. value_stays g e) s (both (selector_lacks g s) (sections_lack g c) l).0 h
-  uses_without (Local x es) l h = values_without g HasValue HasValue (λ e l. value_stays g e) es (both _ (values_lack g es) l).1 h
+  uses_without (Switch s c) l h = selector_without g HasValue HasValue (λ e l. value_stays g e) s (and_parts (selector_lacks g s) (sections_lack g c) l).0 h
+  uses_without (Local x es) l h = values_without g HasValue HasValue (λ e l. value_stays g e) es (and_parts _ (values_lack g es) l).1 h
   uses_without _ l h = tt
 
   pub agrees_without : (n : Names) (x : Tree) → item_lacks g x ≡ true → IsStructured x × (HasFreeCases g x × ItemAgrees n x) →
@@ -248,16 +248,16 @@ module _ (g : ℕ) where
 
     pub initialised_without : (x : Tree) → item_lacks g x ≡ true → IsInitialised ss x → IsInitialised (without g ss) (renumbered_item g x)
     initialised_without (Local x es) l h =
-        let i = both (not (eqb x g)) (values_lack g es) l in
-        subst (λ o. SlotIsInitialised o (renumbered_values g es)) (sym (same_get g x ss (is_false (eqb x g) i.0))) (initialisers_stay (slice_get ss x) es h)
+        let i = and_parts (not (eqb x g)) (values_lack g es) l in
+        subst (λ o. SlotIsInitialised o (renumbered_values g es)) (sym (same_get g x ss (not-true (eqb x g) i.0))) (initialisers_stay (slice_get ss x) es h)
     initialised_without x l h = tt
 
     alike_without : (s : Slot) (a : Forest) → list_lacks g a ≡ true → AreAlike ss s a → AreAlike (without g ss) s (renumbered_list g a)
     alike_without s Nil l h = tt
     alike_without s (Then (Local x es) xs) l h =
-        let i = both (not (eqb x g) && values_lack g es) (list_lacks g xs) l in
-        let j = both (not (eqb x g)) (values_lack g es) i.0 in (
-          subst (λ o. IsSomeAnd o (λ (r : Slot). (r.kind ≡ s.kind) × (r.constant ≡ s.constant))) (sym (same_get g x ss (is_false (eqb x g) j.0))) h.0,
+        let i = and_parts (not (eqb x g) && values_lack g es) (list_lacks g xs) l in
+        let j = and_parts (not (eqb x g)) (values_lack g es) i.0 in (
+          subst (λ o. IsSomeAnd o (λ (r : Slot). (r.kind ≡ s.kind) × (r.constant ≡ s.constant))) (sym (same_get g x ss (not-true (eqb x g) j.0))) h.0,
           alike_without s xs i.1 h.1,
         )
     alike_without s (Then _ xs) l h = absurd h
@@ -271,14 +271,14 @@ module _ (g : ℕ) where
     first_without Nil l h = tt
     first_without (Then (Evaluate e) Nil) l h = tt
     first_without (Then (Local x es) xs) l h =
-        let i = both (not (eqb x g) && values_lack g es) (list_lacks g xs) l in
-        let j = both (not (eqb x g)) (values_lack g es) i.0 in
-        subst (λ o. IsSomeAnd o (λ s. AreAlike (without g ss) s (renumbered_list g xs))) (sym (same_get g x ss (is_false (eqb x g) j.0)))
+        let i = and_parts (not (eqb x g) && values_lack g es) (list_lacks g xs) l in
+        let j = and_parts (not (eqb x g)) (values_lack g es) i.0 in
+        subst (λ o. IsSomeAnd o (λ s. AreAlike (without g ss) s (renumbered_list g xs))) (sym (same_get g x ss (not-true (eqb x g) j.0)))
         (first_alike (slice_get ss x) xs i.1 h)
     first_without _ l h = absurd h
 
     pub firsts_without : (x : Tree) → item_lacks g x ≡ true → HasFirst ss x → HasFirst (without g ss) (renumbered_item g x)
-    firsts_without (For first t u a) l h = first_without first (both (list_lacks g first) _ l).0 h
+    firsts_without (For first t u a) l h = first_without first (and_parts (list_lacks g first) _ l).0 h
     firsts_without x l h = tt
 
   -- ---- forms

@@ -1,6 +1,7 @@
 -- Kinds that agree in an expression do so without a slot that it doesn't name.
 use Rattle.std.proofs.Common.{ℕ, Bool, true, eqb, List, [], ◌∷◌, Option, Some, None, option_map, ◌≡◌, refl, sym, ap, ◌∙◌, subst}
 use Rattle.std.specs.Prelude.{IsSomeAnd}
+use Rattle.std.proofs.lemmas.Bool.{and_parts, not-true}
 use Rattle.c_types.specs.declared.kinds.IntKind.{IntKind}
 use Rattle.c_types.specs.Numbers.{usual_kind}
 use Rattle.c_tree.specs.declared.tree.Slot.{Slot}
@@ -13,8 +14,7 @@ use Rattle.c_resolved_defs.specs.Names.{Names, Callee, Plain, Printf, Unknown, v
 use Rattle.c_resolved_defs.specs.Within.{Within}
 use Rattle.tidy_laws.specs.Mentions.{home_lacks, lacks, place_lacks, arguments_lack}
 use Rattle.tidy_laws.specs.Renumbered.{without, renumbered_home, renumbered, renumbered_place, renumbered_arguments}
-use Rattle.tidy_laws.proofs.TidyZeroExpressions.{both}
-use Rattle.tidy_result_laws.proofs.SlotGone.{is_false, same_get, kind_stays, within_without}
+use Rattle.tidy_result_laws.proofs.SlotGone.{same_get, kind_stays, within_without}
 
 module _ (g : ℕ) where
   pub operand_stays : (e : ExpressionTree) → IsOperand e → IsOperand (renumbered g e)
@@ -43,7 +43,7 @@ module _ (g : ℕ) (n : Names) where
   fewer_names = record { tops = n.tops; slots = without g n.slots }
 
   pub variable_same : (h : Home) → home_lacks g h ≡ true → variable fewer_names (renumbered_home g h) ≡ variable n h
-  variable_same (H.Slot x) l = same_get g x n.slots (is_false (eqb x g) l)
+  variable_same (H.Slot x) l = same_get g x n.slots (not-true (eqb x g) l)
   variable_same (H.Global m) l = refl
 
   some_same : (P : Slot → Type 0) (h : Home) → home_lacks g h ≡ true → IsSomeAnd (variable n h) P → IsSomeAnd (variable fewer_names (renumbered_home g h)) P
@@ -52,7 +52,7 @@ module _ (g : ℕ) (n : Names) where
   place_agrees : (kind : Option IntKind) (at : PlaceTree) → place_lacks g at ≡ true → PlaceAgrees n kind at →
       PlaceAgrees fewer_names kind (renumbered_place g at)
   place_agrees kind (Var h) l i = some_same _ h l i
-  place_agrees kind (Cell h a) l i = (some_same _ h (both (home_lacks g h) (lacks g a) l).0 i.0, value_stays g a i.1)
+  place_agrees kind (Cell h a) l i = (some_same _ h (and_parts (home_lacks g h) (lacks g a) l).0 i.0, value_stays g a i.1)
 
   -- ---- calls
 
@@ -68,7 +68,7 @@ module _ (g : ℕ) (n : Names) where
       ArgumentsFit fewer_names defined ss (renumbered_arguments g xs)
   arguments_fit defined [] NoArgument l h = tt
   arguments_fit defined (s ∷ ss) (Argument x xs) l h =
-      let i = both (lacks g x) (arguments_lack g xs) l in (
+      let i = and_parts (lacks g x) (arguments_lack g xs) l in (
         fits_cells s.cells (HasValue x) (IsArrayFor n defined s x) (HasValue (renumbered g x)) (IsArrayFor fewer_names defined s (renumbered g x))
             (value_stays g x) (array_for defined s x i.0) h.0,
         arguments_fit defined ss xs i.1 h.1,
@@ -115,19 +115,19 @@ module _ (g : ℕ) (n : Names) where
       (value_stays g a h.0, value_stays g b h.1, h.2 ∙ (λ i. of_both (binary_kind op) (sym (kind_stays g a) i) (sym (kind_stays g b) i)))
   kind_agrees (Typed kind (Conditional a b c)) l h =
       (value_stays g a h.0, value_stays g b h.1, value_stays g c h.2, h.3 ∙ (λ i. of_both usual_kind (sym (kind_stays g b) i) (sym (kind_stays g c) i)))
-  kind_agrees (Typed kind (Assign at a)) l h = (place_agrees kind at (both (place_lacks g at) (lacks g a) l).0 h.0, value_stays g a h.1)
-  kind_agrees (Typed kind (Update op at a)) l h = (place_agrees kind at (both (place_lacks g at) (lacks g a) l).0 h.0, value_stays g a h.1)
+  kind_agrees (Typed kind (Assign at a)) l h = (place_agrees kind at (and_parts (place_lacks g at) (lacks g a) l).0 h.0, value_stays g a h.1)
+  kind_agrees (Typed kind (Update op at a)) l h = (place_agrees kind at (and_parts (place_lacks g at) (lacks g a) l).0 h.0, value_stays g a h.1)
   kind_agrees (Typed kind (Count at up after)) l h = place_agrees kind at l h
   kind_agrees (Typed kind (Comma a b)) l h = (operand_stays g a h.0, operand_stays g b h.1, h.2 ∙ sym (kind_stays g b))
   kind_agrees (Typed kind (Call m xs)) l h = call_fits kind (callee n m) xs l h
 
   writable_stays : (at : PlaceTree) → place_lacks g at ≡ true → IsWritable n at → IsWritable fewer_names (renumbered_place g at)
   writable_stays (Var h) l i = some_same _ h l i
-  writable_stays (Cell h a) l i = some_same _ h (both (home_lacks g h) (lacks g a) l).0 i
+  writable_stays (Cell h a) l i = some_same _ h (and_parts (home_lacks g h) (lacks g a) l).0 i
 
   writes_stay : (e : ExpressionTree) → lacks g e ≡ true → WritesNoConst n e → WritesNoConst fewer_names (renumbered g e)
-  writes_stay (Typed kind (Assign at a)) l h = writable_stays at (both (place_lacks g at) (lacks g a) l).0 h
-  writes_stay (Typed kind (Update op at a)) l h = writable_stays at (both (place_lacks g at) (lacks g a) l).0 h
+  writes_stay (Typed kind (Assign at a)) l h = writable_stays at (and_parts (place_lacks g at) (lacks g a) l).0 h
+  writes_stay (Typed kind (Update op at a)) l h = writable_stays at (and_parts (place_lacks g at) (lacks g a) l).0 h
   writes_stay (Typed kind (Count at up after)) l h = writable_stays at l h
   writes_stay (Typed kind (Number z)) l h = tt
   writes_stay (Typed kind (Character b)) l h = tt

@@ -1,8 +1,9 @@
 -- Expressions with a slot gone, which they don't name: facts of them stay, over the slots without it.
 use mathlib.Core.Path.{ap₂}
-use Rattle.std.proofs.Common.{ℕ, zero, suc, pred, ◌≤◌, ◌<◌, Bool, true, false, not, ◌&&◌, eqb, nat_lt, List, [], ◌∷◌, take, drop, slice_get, ◌≡◌, refl, sym, ap, ◌∙◌, true≢false, arith}
+use Rattle.std.proofs.Common.{ℕ, zero, suc, pred, ◌≤◌, ◌<◌, Bool, true, false, ◌&&◌, eqb, nat_lt, List, [], ◌∷◌, drop, slice_get, ◌≡◌, refl, sym, ap, ◌∙◌, true≢false, arith}
 use Rattle.std.proofs.lemmas.Bool.Decides.{nat_tests}
 use Rattle.std.specs.Option.{option_map_or}
+use Rattle.std.proofs.lemmas.Bool.{and_parts, and_from, not-true}
 use Rattle.c_tree.specs.declared.tree.Slot.{Slot}
 use Rattle.c_tree.specs.declared.tree.Home.{Home}
 use Rattle.c_tree.specs.declared.tree.Home.TheVariants as H
@@ -13,15 +14,6 @@ use Rattle.c_resolved_defs.specs.Within.{Within, NodeWithin, PlaceWithin, Argume
 use Rattle.tidy_laws.specs.Mentions.{home_lacks, lacks, node_lacks, place_lacks, arguments_lack}
 use Rattle.tidy_laws.specs.Renumbered.{new_number, without, renumbered_home, renumbered, renumbered_place, renumbered_node, renumbered_arguments}
 use Rattle.tidy_laws.proofs.TidyChangesNumbers.{other, number_before, number_behind}
-use Rattle.tidy_laws.proofs.TidyZeroExpressions.{both}
-
-pub is_false : (b : Bool) → not b ≡ true → b ≡ false
-is_false true h = cc
-is_false false h = refl
-
-pub both_true : (a b : Bool) → a ≡ true → b ≡ true → (a && b) ≡ true
-both_true true b h k = k
-both_true false b h k = cc
 
 -- ---- slots without one
 
@@ -50,13 +42,6 @@ same_get g x ss h = at (nat_lt g x) refl
     at true i = ap (slice_get (without g ss)) (number_behind g x i) ∙ behind x i
     at false i = let n = other x g h in let l : x < g = grind (arith, nat_tests) in ap (slice_get (without g ss)) (number_before g x i) ∙ get_before g x ss l
 
--- those before it stay
-pub take_without : (n g : ℕ) (ss : List Slot) → n ≤ g → take n (without g ss) ≡ take n ss
-take_without zero g ss l = refl
-take_without (suc n) zero ss l = absurd (omega (arith, l))
-take_without (suc n) (suc g) [] l = refl
-take_without (suc n) (suc g) (s ∷ ss) l = ap (λ ts. s ∷ ts) (take_without n g ss (omega (arith, l)))
-
 pub drop_without : (P : List Slot → Type 0) (n g : ℕ) (ss : List Slot) → n ≤ g → ((h : ℕ) (ts : List Slot) → P ts → P (without h ts)) →
     P (drop n ss) → P (drop n (without g ss))
 drop_without P zero g ss l f h = f g ss h
@@ -72,7 +57,7 @@ module _ (g : ℕ) (ss : List Slot) where
   slot_same x h = ap (λ o. option_map_or (λ (s : Slot). s.name) o []) (same_get g x ss h)
 
   pub home_same : (h : Home) → home_lacks g h ≡ true → home_name fewer (renumbered_home g h) ≡ home_name ss h
-  home_same (H.Slot x) l = slot_same x (is_false (eqb x g) l)
+  home_same (H.Slot x) l = slot_same x (not-true (eqb x g) l)
   home_same (H.Global m) l = refl
 
 -- ---- facts of each part of an expression
@@ -89,24 +74,24 @@ module _ (g : ℕ) (P Q : ExpressionTree → Type 0) (f : (e : ExpressionTree) �
     node_without (Read at) l h = place_without at l h
     node_without (Unary op a) l h = within_without a l h
     node_without (Cast a) l h = within_without a l h
-    node_without (Binary op a b) l h = let i = both (lacks g a) (lacks g b) l in (within_without a i.0 h.0, within_without b i.1 h.1)
+    node_without (Binary op a b) l h = let i = and_parts (lacks g a) (lacks g b) l in (within_without a i.0 h.0, within_without b i.1 h.1)
     node_without (Conditional a b c) l h =
-        let i = both (lacks g a) (lacks g b && lacks g c) l in
-        let j = both (lacks g b) (lacks g c) i.1 in (within_without a i.0 h.0, within_without b j.0 h.1, within_without c j.1 h.2)
-    node_without (Assign at a) l h = let i = both (place_lacks g at) (lacks g a) l in (place_without at i.0 h.0, within_without a i.1 h.1)
-    node_without (Update op at a) l h = let i = both (place_lacks g at) (lacks g a) l in (place_without at i.0 h.0, within_without a i.1 h.1)
+        let i = and_parts (lacks g a) (lacks g b && lacks g c) l in
+        let j = and_parts (lacks g b) (lacks g c) i.1 in (within_without a i.0 h.0, within_without b j.0 h.1, within_without c j.1 h.2)
+    node_without (Assign at a) l h = let i = and_parts (place_lacks g at) (lacks g a) l in (place_without at i.0 h.0, within_without a i.1 h.1)
+    node_without (Update op at a) l h = let i = and_parts (place_lacks g at) (lacks g a) l in (place_without at i.0 h.0, within_without a i.1 h.1)
     node_without (Count at up after) l h = place_without at l h
-    node_without (Comma a b) l h = let i = both (lacks g a) (lacks g b) l in (within_without a i.0 h.0, within_without b i.1 h.1)
+    node_without (Comma a b) l h = let i = and_parts (lacks g a) (lacks g b) l in (within_without a i.0 h.0, within_without b i.1 h.1)
     node_without (Call m xs) l h = arguments_without xs l h
     node_without _ l h = tt
 
     place_without : (at : PlaceTree) → place_lacks g at ≡ true → PlaceWithin P at → PlaceWithin Q (renumbered_place g at)
     place_without (Var h) l i = tt
-    place_without (Cell h a) l i = within_without a (both (home_lacks g h) (lacks g a) l).1 i
+    place_without (Cell h a) l i = within_without a (and_parts (home_lacks g h) (lacks g a) l).1 i
 
     arguments_without : (xs : Arguments) → arguments_lack g xs ≡ true → ArgumentsWithin P xs → ArgumentsWithin Q (renumbered_arguments g xs)
     arguments_without NoArgument l h = tt
-    arguments_without (Argument x xs) l h = let i = both (lacks g x) (arguments_lack g xs) l in (within_without x i.0 h.0, arguments_without xs i.1 h.1)
+    arguments_without (Argument x xs) l h = let i = and_parts (lacks g x) (arguments_lack g xs) l in (within_without x i.0 h.0, arguments_without xs i.1 h.1)
 
 -- ---- constants name no slot
 
@@ -122,12 +107,12 @@ constant_free g (Typed kind (Unary op a)) h = let i = constant_free g a h in (i.
 constant_free g (Typed kind (Cast a)) h = let i = constant_free g a h.1 in (i.0, ap (λ x. Typed kind (Cast x)) i.1)
 constant_free g (Typed kind (Binary op a b)) h =
     let i = constant_free g a h.0 in
-    let j = constant_free g b h.1 in (both_true (lacks g a) (lacks g b) i.0 j.0, ap₂ (λ x y. Typed kind (Binary op x y)) i.1 j.1)
+    let j = constant_free g b h.1 in (and_from (lacks g a) (lacks g b) i.0 j.0, ap₂ (λ x y. Typed kind (Binary op x y)) i.1 j.1)
 constant_free g (Typed kind (Conditional a b c)) h =
     let i = constant_free g a h.0 in
     let j = constant_free g b h.1 in
     let k = constant_free g c h.2 in
-    (both_true (lacks g a) (lacks g b && lacks g c) i.0 (both_true (lacks g b) (lacks g c) j.0 k.0), (λ t. Typed kind (Conditional (i.1 t) (j.1 t) (k.1 t))))
+    (and_from (lacks g a) (lacks g b && lacks g c) i.0 (and_from (lacks g b) (lacks g c) j.0 k.0), (λ t. Typed kind (Conditional (i.1 t) (j.1 t) (k.1 t))))
 constant_free g (Typed kind (Text bs)) h = absurd h
 constant_free g (Typed kind (Array a)) h = absurd h
 constant_free g (Typed kind (Read at)) h = absurd h

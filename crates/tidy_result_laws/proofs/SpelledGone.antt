@@ -1,5 +1,6 @@
 -- A body that is spelled stays so without a slot that it doesn't name.
 use Rattle.std.proofs.Common.{◌≡◌, ℕ, ◌+◌, ◌≤◌, Bool, true, false, not, ◌&&◌, cond, eqb, List, [], ◌∷◌, map, Option, Some, None, slice_get, refl, sym, subst}
+use Rattle.std.proofs.lemmas.Bool.{and_parts, not-true}
 use Rattle.c_types.specs.declared.kinds.IntKind.{IntKind}
 use Rattle.c_tree.specs.declared.tree.Slot.{Slot}
 use Rattle.c_tree.specs.declared.tree.Function.{Function}
@@ -17,8 +18,7 @@ use Rattle.struct_meaning.specs.Structured.{IsStructured}
 use Rattle.tidy_laws.specs.Mentions.{home_lacks, lacks, node_lacks, place_lacks, arguments_lack, test_lacks, selector_lacks, all_lack, option_lacks, values_lack, list_lacks, item_lacks, sections_lack}
 use Rattle.tidy_laws.specs.Renumbered.{new_number, without, renumbered_home, renumbered, renumbered_place, renumbered_node, renumbered_arguments, renumbered_test, renumbered_selector, renumbered_option, renumbered_values, renumbered_list, renumbered_item, renumbered_sections}
 use Rattle.tidy_laws.specs.Changes.{is_declaration, undeclared}
-use Rattle.tidy_laws.proofs.TidyZeroExpressions.{both}
-use Rattle.tidy_result_laws.proofs.SlotGone.{is_false, same_get, home_same, IsFreeOf}
+use Rattle.tidy_result_laws.proofs.SlotGone.{same_get, home_same, IsFreeOf}
 use Rattle.tidy_result_laws.proofs.ItemsGone.{HasFreeCases}
 
 -- ---- counted tokens
@@ -94,23 +94,23 @@ module _ (g : ℕ) (ss : List Slot) where
     node_prints kind (Read at) l h = place_prints at l h
     node_prints kind (Unary op a) l h = prints_without a l h
     node_prints kind (Cast a) l h = prints_without a l h
-    node_prints kind (Binary op a b) l h = let i = both (lacks g a) (lacks g b) l in (prints_without a i.0 h.0, prints_without b i.1 h.1)
+    node_prints kind (Binary op a b) l h = let i = and_parts (lacks g a) (lacks g b) l in (prints_without a i.0 h.0, prints_without b i.1 h.1)
     node_prints kind (Conditional a b c) l h =
-        let i = both (lacks g a) (lacks g b && lacks g c) l in
-        let j = both (lacks g b) (lacks g c) i.1 in (prints_without a i.0 h.0, prints_without b j.0 h.1, prints_without c j.1 h.2)
-    node_prints kind (Assign at a) l h = let i = both (place_lacks g at) (lacks g a) l in (place_prints at i.0 h.0, prints_without a i.1 h.1)
-    node_prints kind (Update op at a) l h = let i = both (place_lacks g at) (lacks g a) l in (place_prints at i.0 h.0, prints_without a i.1 h.1)
+        let i = and_parts (lacks g a) (lacks g b && lacks g c) l in
+        let j = and_parts (lacks g b) (lacks g c) i.1 in (prints_without a i.0 h.0, prints_without b j.0 h.1, prints_without c j.1 h.2)
+    node_prints kind (Assign at a) l h = let i = and_parts (place_lacks g at) (lacks g a) l in (place_prints at i.0 h.0, prints_without a i.1 h.1)
+    node_prints kind (Update op at a) l h = let i = and_parts (place_lacks g at) (lacks g a) l in (place_prints at i.0 h.0, prints_without a i.1 h.1)
     node_prints kind (Count at up after) l h = place_prints at l h
-    node_prints kind (Comma a b) l h = let i = both (lacks g a) (lacks g b) l in (prints_without a i.0 h.0, prints_without b i.1 h.1)
+    node_prints kind (Comma a b) l h = let i = and_parts (lacks g a) (lacks g b) l in (prints_without a i.0 h.0, prints_without b i.1 h.1)
     node_prints kind (Call m xs) l h = (h.0, arguments_print xs l h.1)
 
     place_prints : (at : PlaceTree) → place_lacks g at ≡ true → PlacePrints ss at → PlacePrints rest (renumbered_place g at)
     place_prints (Var h) l i = home_prints h l i
-    place_prints (Cell h a) l i = let j = both (home_lacks g h) (lacks g a) l in (home_prints h j.0 i.0, prints_without a j.1 i.1)
+    place_prints (Cell h a) l i = let j = and_parts (home_lacks g h) (lacks g a) l in (home_prints h j.0 i.0, prints_without a j.1 i.1)
 
     arguments_print : (xs : Arguments) → arguments_lack g xs ≡ true → AllPrint ss xs → AllPrint rest (renumbered_arguments g xs)
     arguments_print NoArgument l h = tt
-    arguments_print (Argument x xs) l h = let i = both (lacks g x) (arguments_lack g xs) l in (argument_prints x i.0 h.0, arguments_print xs i.1 h.1)
+    arguments_print (Argument x xs) l h = let i = and_parts (lacks g x) (arguments_lack g xs) l in (argument_prints x i.0 h.0, arguments_print xs i.1 h.1)
 
     argument_prints : (x : ExpressionTree) → lacks g x ≡ true → ArgumentPrints (Prints ss x) x → ArgumentPrints (Prints rest (renumbered g x)) (renumbered g x)
     argument_prints (Typed kind node) l h = argument_node kind node l h
@@ -126,14 +126,14 @@ module _ (g : ℕ) (ss : List Slot) where
     argument_node kind (Read at) l h = place_prints at l h
     argument_node kind (Unary op a) l h = prints_without a l h
     argument_node kind (Cast a) l h = prints_without a l h
-    argument_node kind (Binary op a b) l h = let i = both (lacks g a) (lacks g b) l in (prints_without a i.0 h.0, prints_without b i.1 h.1)
+    argument_node kind (Binary op a b) l h = let i = and_parts (lacks g a) (lacks g b) l in (prints_without a i.0 h.0, prints_without b i.1 h.1)
     argument_node kind (Conditional a b c) l h =
-        let i = both (lacks g a) (lacks g b && lacks g c) l in
-        let j = both (lacks g b) (lacks g c) i.1 in (prints_without a i.0 h.0, prints_without b j.0 h.1, prints_without c j.1 h.2)
-    argument_node kind (Assign at a) l h = let i = both (place_lacks g at) (lacks g a) l in (place_prints at i.0 h.0, prints_without a i.1 h.1)
-    argument_node kind (Update op at a) l h = let i = both (place_lacks g at) (lacks g a) l in (place_prints at i.0 h.0, prints_without a i.1 h.1)
+        let i = and_parts (lacks g a) (lacks g b && lacks g c) l in
+        let j = and_parts (lacks g b) (lacks g c) i.1 in (prints_without a i.0 h.0, prints_without b j.0 h.1, prints_without c j.1 h.2)
+    argument_node kind (Assign at a) l h = let i = and_parts (place_lacks g at) (lacks g a) l in (place_prints at i.0 h.0, prints_without a i.1 h.1)
+    argument_node kind (Update op at a) l h = let i = and_parts (place_lacks g at) (lacks g a) l in (place_prints at i.0 h.0, prints_without a i.1 h.1)
     argument_node kind (Count at up after) l h = place_prints at l h
-    argument_node kind (Comma a b) l h = let i = both (lacks g a) (lacks g b) l in (prints_without a i.0 h.0, prints_without b i.1 h.1)
+    argument_node kind (Comma a b) l h = let i = and_parts (lacks g a) (lacks g b) l in (prints_without a i.0 h.0, prints_without b i.1 h.1)
     argument_node kind (Call m xs) l h = (h.0, arguments_print xs l h.1)
 
   -- ---- the parts of statements
@@ -147,7 +147,7 @@ module _ (g : ℕ) (ss : List Slot) where
 
   list_prints : (need : ℕ) (es : List ExpressionTree) → all_lack g es ≡ true → ListPrints ss need es → ListPrints rest need (map (renumbered g) es)
   list_prints need [] l h = tt
-  list_prints need (e ∷ es) l h = let i = both (lacks g e) (all_lack g es) l in (full_without need e i.0 h.0, list_prints need es i.1 h.1)
+  list_prints need (e ∷ es) l h = let i = and_parts (lacks g e) (all_lack g es) l in (full_without need e i.0 h.0, list_prints need es i.1 h.1)
 
   cases_print : (es : List ExpressionTree) → Each (IsFreeOf g) es → ListPrints ss 3 es → ListPrints rest 3 es
   cases_print [] k h = tt
@@ -156,7 +156,7 @@ module _ (g : ℕ) (ss : List Slot) where
   values_print : (c : Option ℕ) (o : Option (List ExpressionTree)) → values_lack g o ≡ true → ValuesPrint ss c o → ValuesPrint rest c (renumbered_values g o)
   values_print c None l h = tt
   values_print None (Some []) l h = absurd h
-  values_print None (Some (e ∷ [])) l h = full_without 2 e (both (lacks g e) true l).0 h
+  values_print None (Some (e ∷ [])) l h = full_without 2 e (and_parts (lacks g e) true l).0 h
   values_print None (Some (e ∷ d ∷ es)) l h = absurd h
   values_print (Some n) (Some []) l h = absurd h
   values_print (Some n) (Some (e ∷ es)) l h = list_prints 2 (e ∷ es) l h
@@ -169,8 +169,8 @@ module _ (g : ℕ) (ss : List Slot) where
   local_prints : (x : ℕ) (es : Option (List ExpressionTree)) → (not (eqb x g) && values_lack g es) ≡ true → SlotPrints ss (slice_get ss x) es →
       SlotPrints rest (slice_get rest (new_number g x)) (renumbered_values g es)
   local_prints x es l h =
-      let i = both (not (eqb x g)) (values_lack g es) l in subst (λ o. SlotPrints rest o (renumbered_values g es))
-      (sym (same_get g x ss (is_false (eqb x g) i.0))) (slot_prints (slice_get ss x) es i.1 h)
+      let i = and_parts (not (eqb x g)) (values_lack g es) l in subst (λ o. SlotPrints rest o (renumbered_values g es))
+      (sym (same_get g x ss (not-true (eqb x g) i.0))) (slot_prints (slice_get ss x) es i.1 h)
 
   test_prints : (t : TestTree) → test_lacks g t ≡ true → TestPrints ss t → TestPrints rest (renumbered_test g t)
   test_prints (Source e) l h = full_without 1 e l h
@@ -182,14 +182,14 @@ module _ (g : ℕ) (ss : List Slot) where
 
   further_print : (a : Forest) → list_lacks g a ≡ true → FurtherPrint ss a → FurtherPrint rest (renumbered_list g a)
   further_print Nil l h = tt
-  further_print (Then (Local x es) xs) l h = let i = both (not (eqb x g) && values_lack g es) (list_lacks g xs) l in
+  further_print (Then (Local x es) xs) l h = let i = and_parts (not (eqb x g) && values_lack g es) (list_lacks g xs) l in
       (local_prints x es i.0 h.0, further_print xs i.1 h.1)
   further_print (Then _ a) l h = absurd h
 
   start_prints : (a : Forest) → list_lacks g a ≡ true → StartPrints ss a → StartPrints rest (renumbered_list g a)
   start_prints Nil l h = tt
-  start_prints (Then (Evaluate e) Nil) l h = full_without 1 e (both (lacks g e) true l).0 h
-  start_prints (Then (Local x es) xs) l h = let i = both (not (eqb x g) && values_lack g es) (list_lacks g xs) l in
+  start_prints (Then (Evaluate e) Nil) l h = full_without 1 e (and_parts (lacks g e) true l).0 h
+  start_prints (Then (Local x es) xs) l h = let i = and_parts (not (eqb x g) && values_lack g es) (list_lacks g xs) l in
       (local_prints x es i.0 h.0, further_print xs i.1 h.1)
   start_prints _ l h = absurd h
 
@@ -205,35 +205,35 @@ module _ (g : ℕ) (f h : Function) (e : h.slots ≡ without g f.slots) where
   mutual
     pub spelled_without : (a : Forest) → list_lacks g a ≡ true → Everywhere IsFit a → AreSpelled f a → AreSpelled h (renumbered_list g a)
     spelled_without Nil l p k = tt
-    spelled_without (Then x xs) l p k = let i = both (item_lacks g x) (list_lacks g xs) l in (item_spelled x i.0 p.0 k.0, spelled_without xs i.1 p.1 k.1)
+    spelled_without (Then x xs) l p k = let i = and_parts (item_lacks g x) (list_lacks g xs) l in (item_spelled x i.0 p.0 k.0, spelled_without xs i.1 p.1 k.1)
 
     item_spelled : (x : Tree) → item_lacks g x ≡ true → EverywhereOf IsFit x → ItemIsSpelled f x → ItemIsSpelled h (renumbered_item g x)
     item_spelled (If t a b) l p k =
-        let i = both (test_lacks g t) (list_lacks g a && list_lacks g b) l in
-        let j = both (list_lacks g a) (list_lacks g b) i.1 in
+        let i = and_parts (test_lacks g t) (list_lacks g a && list_lacks g b) l in
+        let j = and_parts (list_lacks g a) (list_lacks g b) i.1 in
         (over (λ ss. TestPrints ss (renumbered_test g t)) (test_prints g f.slots t i.0 k.0), spelled_without a j.0 p.1 k.1, spelled_without b j.1 p.2 k.2)
     item_spelled (While t a) l p k =
-        let i = both (test_lacks g t) (list_lacks g a) l in (
+        let i = and_parts (test_lacks g t) (list_lacks g a) l in (
           over (λ ss. TestPrints ss (renumbered_test g t)) (test_prints g f.slots t i.0 k.0),
           spelled_without a i.1 p.1 k.1,
         )
     item_spelled (Do a t) l p k =
-        let i = both (list_lacks g a) (test_lacks g t) l in (
+        let i = and_parts (list_lacks g a) (test_lacks g t) l in (
           spelled_without a i.0 p.1 k.0,
           over (λ ss. TestPrints ss (renumbered_test g t))
               (test_prints g f.slots t i.1 k.1),
         )
     item_spelled (For first t u a) l p k =
-        let i = both (list_lacks g first) (option_lacks g t && (option_lacks g u && list_lacks g a)) l in
-        let j = both (option_lacks g t) (option_lacks g u && list_lacks g a) i.1 in
-        let m = both (option_lacks g u) (list_lacks g a) j.1 in (
+        let i = and_parts (list_lacks g first) (option_lacks g t && (option_lacks g u && list_lacks g a)) l in
+        let j = and_parts (option_lacks g t) (option_lacks g u && list_lacks g a) i.1 in
+        let m = and_parts (option_lacks g u) (list_lacks g a) j.1 in (
           over (λ ss. StartPrints ss (renumbered_list g first)) (start_prints g f.slots first i.0 k.0),
           over (λ ss. OptionPrints ss (renumbered_option g t)) (option_prints g f.slots t j.0 k.1),
           over (λ ss. OptionPrints ss (renumbered_option g u)) (option_prints g f.slots u m.0 k.2),
           spelled_without a m.1 p.2 k.3,
         )
     item_spelled (Switch s c) l p k =
-        let i = both (selector_lacks g s) (sections_lack g c) l in
+        let i = and_parts (selector_lacks g s) (sections_lack g c) l in
         (over (λ ss. SelectorPrints ss (renumbered_selector g s)) (selector_prints g f.slots s i.0 k.0), sections_spelled c i.1 p.0.1 p.1 k.1)
     item_spelled (Block a) l p k = spelled_without a l p.1 k
     item_spelled (Evaluate x) l p k = over (λ ss. FullPrints ss 1 (renumbered g x)) (full_without g f.slots 1 x l k)
@@ -253,7 +253,7 @@ module _ (g : ℕ) (f h : Function) (e : h.slots ≡ without g f.slots) where
         SectionsAreSpelled h (renumbered_sections g c)
     sections_spelled NoSection l q p k = tt
     sections_spelled (Section cases default a ends c) l q p k =
-        let i = both (list_lacks g a) (sections_lack g c) l in
+        let i = and_parts (list_lacks g a) (sections_lack g c) l in
         (over (λ ss. ListPrints ss 3 cases) (cases_print g f.slots cases q.0 k.0), spelled_without a i.0 p.0 k.1, sections_spelled c i.1 q.1 p.1 k.2)
 
 -- ---- a list without its declaration

@@ -1,21 +1,17 @@
 -- What a change keeps of a body: its declarations, its labels, what leaves it, its cases, and how deep it nests.
-use Rattle.std.proofs.Common.{ℕ, suc, ◌+◌, ◌≤◌, Bool, true, false, List, [], ◌∷◌, ◌++◌, ◌≡◌, refl, sym, ap, ◌∙◌, true≢false, arith, append_assoc}
-use Rattle.std.specs.Prelude.{max}
+use Rattle.std.proofs.Common.{ℕ, suc, ◌+◌, ◌≤◌, Bool, true, false, List, [], ◌++◌, ◌≡◌, refl, sym, ap, ◌∙◌, true≢false, arith, append_assoc, append-nil}
 use Rattle.c_tree.specs.ExpressionTrees.{ExpressionTree}
-use Rattle.c_tree.specs.TestTrees.{TestTree}
 use Rattle.c_tree.specs.Cases.{all_cases}
 use Rattle.c_tree.specs.Exits.{breaks, breaks_of, continues, continues_of, continues_in}
-use Rattle.c_tree.specs.Trees.{Tree, Forest, Nil, Then, Sections, Evaluate, If, Break, Continue, join}
+use Rattle.c_tree.specs.Trees.{Tree, Forest, Nil, Then, Sections, Evaluate, Break, Continue, join}
 use Rattle.c_resolved_defs.specs.Form.{gathered, gathered_of, gathered_in}
 use Rattle.c_resolved_defs.specs.PrintableStatements.{depth, depth_of, depth_in}
 use Rattle.c_resolved_defs.specs.Switches.{arrivals, arrivals_of, switch_labels, section_labels}
 use Rattle.tidy_laws.specs.Tails.{reset}
 use Rattle.tidy_laws.specs.Settles.{jump_by}
+use Rattle.whole_laws.proofs.UnmovedSpelled.{depth_if, depth_join}
+use Rattle.whole_laws.proofs.PlainCases.{arrivals_join}
 use Rattle.tidy_result_laws.proofs.Trims.{setting, Trim, t_nil, t_then, t_given, t_left, t_left_if, t_reset, TrimItem, i_same, i_if, i_while, i_do, i_for, i_switch, i_block, i_checked, TrimSections, s_none, s_more}
-
-no_more : {A : Type 0} (xs : List A) → xs ++ [] ≡ xs
-no_more [] = refl
-no_more (x ∷ xs) = ap (λ l. x ∷ l) (no_more xs)
 
 both_lists : {A : Type 0} (a b c d : List A) → a ≡ c → b ≡ d → a ++ b ≡ c ++ d
 both_lists a b c d e f = (λ i. e i ++ f i)
@@ -46,12 +42,12 @@ module _ (g : ℕ) (f : Tree → List ℕ) (none : IsOfLeaves f) where
         (item_gathered i) (trim_gathered h)
     trim_gathered (t_given e {a = a} {c = c} {xs = xs} {ys = ys} k q h) =
         gathered_join c ys ∙ both_lists (gathered f c) (gathered f ys) (gathered f a ++ []) (gathered f xs)
-        (trim_gathered k ∙ sym (no_more (gathered f a))) (trim_gathered h)
+        (trim_gathered k ∙ sym (append-nil (gathered f a))) (trim_gathered h)
     trim_gathered (t_left leave k e {xs = xs} {ys = ys} q h) = both_lists (gathered_of f (jump_by leave)) (gathered f ys) (f (setting g k e))
         (gathered f xs) (jump_none leave ∙ sym (none.evaluate _)) (trim_gathered h)
     trim_gathered (t_left_if leave k e {xs = xs} {ys = ys} q l h) =
         both_lists ((gathered_of f (jump_by leave) ++ []) ++ []) (gathered f ys) (f (setting g k e)) (gathered f xs)
-        (no_more (gathered_of f (jump_by leave) ++ []) ∙ no_more (gathered_of f (jump_by leave)) ∙ jump_none leave ∙ sym (none.evaluate _))
+        (append-nil (gathered_of f (jump_by leave) ++ []) ∙ append-nil (gathered_of f (jump_by leave)) ∙ jump_none leave ∙ sym (none.evaluate _))
         (trim_gathered h)
     trim_gathered (t_reset {xs = xs} {ys = ys} h) = trim_gathered h ∙ sym (leads (f (reset g)) (gathered f xs) (gathered f xs) (none.evaluate _) refl)
 
@@ -64,7 +60,7 @@ module _ (g : ℕ) (f : Tree → List ℕ) (none : IsOfLeaves f) where
     item_gathered (i_for first t u {a = a} {c = c} h) = ap (λ l. gathered f first ++ l) (trim_gathered h)
     item_gathered (i_switch s h) = sections_gathered h
     item_gathered (i_block h) = trim_gathered h
-    item_gathered (i_checked e {a = a} h) = trim_gathered h ∙ sym (no_more (gathered f a))
+    item_gathered (i_checked e {a = a} h) = trim_gathered h ∙ sym (append-nil (gathered f a))
 
     sections_gathered : {n : ℕ} {c d : Sections} → TrimSections g n c d → gathered_in f d ≡ gathered_in f c
     sections_gathered s_none = refl
@@ -72,10 +68,6 @@ module _ (g : ℕ) (f : Tree → List ℕ) (none : IsOfLeaves f) where
         both_lists (gathered f b) (gathered_in f d) (gathered f a) (gathered_in f c) (trim_gathered h) (sections_gathered k)
 
 -- ---- nested case labels
-
-arrivals_join : (a b : Forest) → arrivals (join a b) ≡ arrivals a ++ arrivals b
-arrivals_join Nil b = refl
-arrivals_join (Then x a) b = ap (λ l. arrivals_of x ++ l) (arrivals_join a b) ∙ sym (append_assoc (arrivals_of x) (arrivals a) (arrivals b))
 
 jump_arrives : (leave : Bool) → arrivals_of (jump_by leave) ≡ []
 jump_arrives true = refl
@@ -88,13 +80,13 @@ module _ (g : ℕ) where
     trim_arrivals (t_then {x = x} {y = y} {xs = xs} {ys = ys} i h) = both_lists (arrivals_of y) (arrivals ys) (arrivals_of x) (arrivals xs)
         (item_arrivals i) (trim_arrivals h)
     trim_arrivals (t_given e {a = a} {c = c} {xs = xs} {ys = ys} k q h) =
-        arrivals_join c ys ∙ both_lists (arrivals c) (arrivals ys) (arrivals a ++ []) (arrivals xs) (trim_arrivals k ∙ sym (no_more (arrivals a)))
+        arrivals_join c ys ∙ both_lists (arrivals c) (arrivals ys) (arrivals a ++ []) (arrivals xs) (trim_arrivals k ∙ sym (append-nil (arrivals a)))
         (trim_arrivals h)
     trim_arrivals (t_left leave k e {xs = xs} {ys = ys} q h) = both_lists (arrivals_of (jump_by leave)) (arrivals ys) [] (arrivals xs)
         (jump_arrives leave) (trim_arrivals h)
     trim_arrivals (t_left_if leave k e {xs = xs} {ys = ys} q l h) =
         both_lists ((arrivals_of (jump_by leave) ++ []) ++ []) (arrivals ys) [] (arrivals xs)
-        (no_more (arrivals_of (jump_by leave) ++ []) ∙ no_more (arrivals_of (jump_by leave)) ∙ jump_arrives leave) (trim_arrivals h)
+        (append-nil (arrivals_of (jump_by leave) ++ []) ∙ append-nil (arrivals_of (jump_by leave)) ∙ jump_arrives leave) (trim_arrivals h)
     trim_arrivals (t_reset h) = trim_arrivals h
 
     item_arrivals : {b : Bool} {n : ℕ} {x y : Tree} → TrimItem g b n x y → arrivals_of y ≡ arrivals_of x
@@ -106,7 +98,7 @@ module _ (g : ℕ) where
     item_arrivals (i_for first t u h) = trim_arrivals h
     item_arrivals (i_switch s h) = refl
     item_arrivals (i_block h) = trim_arrivals h
-    item_arrivals (i_checked e {a = a} h) = trim_arrivals h ∙ sym (no_more (arrivals a))
+    item_arrivals (i_checked e {a = a} h) = trim_arrivals h ∙ sym (append-nil (arrivals a))
 
   pub sections_labels : {n : ℕ} {c d : Sections} → TrimSections g n c d → switch_labels d ≡ switch_labels c
   sections_labels s_none = refl
@@ -175,14 +167,6 @@ module _ (g : ℕ) where
     sections_continue (s_more cases default ends h k) = let j = trim_continues refl h in let l = sections_continue k in omega (arith, j, l)
 
 -- ---- nesting
-
-depth_join : (a b : Forest) → depth (join a b) ≡ max (depth a) (depth b)
-depth_join Nil b = omega arith
-depth_join (Then x a) b = let e = depth_join a b in omega (arith, e)
-
-pub depth_if : (t : TestTree) (a b : Forest) → depth_of (If t a b) ≡ max (depth a) (depth b) + 1
-depth_if t a Nil = omega arith
-depth_if t a (Then x b) = refl
 
 jump_depth : (leave : Bool) → depth_of (jump_by leave) ≡ 0
 jump_depth true = refl

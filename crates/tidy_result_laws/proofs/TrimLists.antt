@@ -6,12 +6,13 @@ use Rattle.c_tree.specs.ExpressionTrees.{Typed, Binary}
 use Rattle.c_tree.specs.TestTrees.{TestTree, Source}
 use Rattle.c_tree.specs.Trees.{Tree, Forest, Nil, Then, Sections, NoSection, Section, Evaluate, If, While, Do, For, Switch, Block, Local, Break, Continue}
 use Rattle.c_tree.specs.Everywhere.{Everywhere, EverywhereOf, EverywhereIn}
+use Rattle.c_tree.proofs.MoveLemmas.{some_same}
 use Rattle.c_resolved_defs.specs.Form.{AreAlike, IsFirstPart}
 use Rattle.c_resolved_laws.proofs.Ranged.{the_some}
 use Rattle.tidy_laws.specs.Tails.{reset}
 use Rattle.tidy_laws.specs.Changes.{tailed, are_low, second_test, before_reset, with_breaks, broken_loop, after_reset, both_there, with_continues, continued_loop, around, changed_here, changed_lists, changed_items, changed_sections, is_reset}
 use Rattle.tidy_laws.proofs.Lists.{Each, each_both, each_around, each_for}
-use Rattle.tidy_laws.proofs.ChangedLists.{reset_is, before_is, Guarded, second_is, some_same, none_some}
+use Rattle.tidy_laws.proofs.ChangedLists.{reset_is, before_is, Guarded, second_is, none_some}
 use Rattle.tidy_result_laws.proofs.Trims.{NewTest, same_test, second_half, Trim, t_then, t_reset, TrimItem, i_same, i_if, i_while, i_do, i_for, i_switch, i_block, TrimSections, s_more, trim_same, sections_same, tail_trim, reset_behind}
 
 -- the first part of a `for` is nothing, one expression, or declarations of variables that are there

@@ -1,5 +1,5 @@
 -- A body that is spelled stays so where it is changed.
-use Rattle.std.proofs.Common.{ℕ, ◌≤◌, Bool, true, false, cond, List, Option, nat_lt, arith}
+use Rattle.std.proofs.Common.{ℕ, Bool, true, false, List, Option, arith}
 use Rattle.c_types.specs.declared.kinds.IntKind.{IntKind}
 use Rattle.c_tree.specs.declared.tree.Slot.{Slot}
 use Rattle.c_tree.specs.declared.tree.Function.{Function}
@@ -8,33 +8,27 @@ use Rattle.c_tree.specs.declared.tree.BinaryOp.TheVariants.{AndThen}
 use Rattle.c_tree.specs.ExpressionTrees.{ExpressionTree, Typed, Var, Binary, Assign}
 use Rattle.c_tree.specs.TestTrees.{TestTree}
 use Rattle.c_tree.specs.Trees.{Tree, Forest, Nil, Then, Sections, join}
-use Rattle.c_resolved_defs.specs.PrintableExpressions.{bracket_count, level_of}
+use Rattle.c_resolved_defs.specs.PrintableExpressions.{level_of}
 use Rattle.c_resolved_defs.specs.PrintableStatements.{FullPrints, TestPrints}
 use Rattle.c_resolved_defs.specs.Spelling.{ItemIsSpelled, AreSpelled, SectionsAreSpelled}
 use Rattle.tidy_laws.specs.Settles.{jump_by}
+use Rattle.whole_laws.proofs.Wrappers.{bracket_most}
 use Rattle.tidy_result_laws.proofs.Trims.{NewTest, same_test, second_half, Trim, t_nil, t_then, t_given, t_left, t_left_if, t_reset, TrimItem, i_same, i_if, i_while, i_do, i_for, i_switch, i_block, i_checked, TrimSections, s_none, s_more}
 
 -- ---- counted tokens
-
-bracket_small : (level need : ℕ) → bracket_count level need ≤ 1
-bracket_small level need = at (nat_lt level need)
-  where
-    at : (b : Bool) → cond b 1 0 ≤ 1
-    at true = omega arith
-    at false = omega arith
 
 module _ (ss : List Slot) (g : ℕ) where
   set_prints : (k : Option IntKind) (e : ExpressionTree) → FullPrints ss 1 (Typed k (Assign (Var (H.Slot g)) e)) → FullPrints ss 1 e
   set_prints k e h =
       let p = h.prints in
       let f = h.few in
-      let b = bracket_small (level_of e) 1 in record { prints = p.1; few = omega (arith, f, b) }
+      let b = bracket_most (level_of e) 1 in record { prints = p.1; few = omega (arith, f, b) }
 
   half_prints : (k : Option IntKind) (e t : ExpressionTree) → FullPrints ss 1 (Typed k (Binary AndThen e t)) → FullPrints ss 1 t
   half_prints k e t h =
       let p = h.prints in
       let f = h.few in
-      let b = bracket_small (level_of t) 1 in record { prints = p.1; few = omega (arith, f, b) }
+      let b = bracket_most (level_of t) 1 in record { prints = p.1; few = omega (arith, f, b) }
 
   test_prints : {t s : TestTree} → NewTest g t s → TestPrints ss t → TestPrints ss s
   test_prints (same_test t) h = h

@@ -2,6 +2,7 @@
 -- half, and resets go.
 use Rattle.std.proofs.Common.{ℕ, suc, ◌≤◌, Bool, true, false, cond, ◌&&◌, eqb, eqb-true, nat_le, ◌||◌, List, Option, Some, None, ◌≡◌, refl, sym, ap, ◌∙◌, subst, arith}
 use Rattle.std.proofs.lemmas.Bool.Decides.{nat_tests}
+use Rattle.std.proofs.lemmas.Bool.{and_parts}
 use Rattle.c_types.specs.declared.kinds.IntKind.{IntKind}
 use Rattle.c_tree.specs.declared.tree.Home.TheVariants as H
 use Rattle.c_tree.specs.declared.tree.BinaryOp.TheVariants.{AndThen}
@@ -9,12 +10,12 @@ use Rattle.c_tree.specs.ExpressionTrees.{ExpressionTree, Typed, Var, Binary, Ass
 use Rattle.c_tree.specs.TestTrees.{TestTree, Source, SelectorTree}
 use Rattle.c_tree.specs.Trees.{Tree, Forest, Nil, Then, Sections, NoSection, Section, Evaluate, Return, If, While, Do, For, Switch, Block, Local, Break, Continue, Goto, Mark, Arm, Leap, Land, Arrival, Note, join}
 use Rattle.c_tree.specs.Changed.{one}
+use Rattle.c_tree.proofs.MoveLemmas.{some_same}
 use Rattle.tidy_laws.specs.Tails.{is_off, is_end, reset}
 use Rattle.tidy_laws.specs.Mentions.{lacks}
 use Rattle.tidy_laws.specs.Changes.{is_narrow_expression, set_value, is_number, leaving, has_local, unchecked, set_or, inner, inner_item, inner_sections, tailed, tailed_item, low_set, are_low, is_low}
-use Rattle.tidy_laws.proofs.TidyZeroExpressions.{both}
 use Rattle.tidy_laws.specs.Settles.{jump_by}
-use Rattle.tidy_laws.proofs.ChangedLists.{some_same, none_some}
+use Rattle.tidy_laws.proofs.ChangedLists.{none_some}
 
 module _ (g : ℕ) where
   -- a set of the slot
@@ -125,7 +126,7 @@ module _ (g : ℕ) where
       at true q i = record {
         kind = k;
         is = ap (λ z. Typed k (Assign (Var (H.Slot z)) w))
-            (eqb-true x g (both (eqb x g) (is_narrow_expression w && lacks g w) q).0) ∙ ap (λ z. Typed k (Assign (Var (H.Slot g)) z)) (some_same i);
+            (eqb-true x g (and_parts (eqb x g) (is_narrow_expression w && lacks g w) q).0) ∙ ap (λ z. Typed k (Assign (Var (H.Slot g)) z)) (some_same i);
       }
       at false q i = absurd (none_some i)
   set_is e v h = absurd (none_some h)
@@ -148,14 +149,14 @@ module _ (g : ℕ) where
   mutual
     pub tail_trim : {n : ℕ} (leave : Bool) (a : Forest) → are_low g n a ≡ true → Trim true n a (tailed g (jump_by leave) a)
     tail_trim leave Nil l = t_nil
-    tail_trim {n} leave (Then x xs) l = let i = both (is_low g n x) (are_low g n xs) l in tail_then leave (is_end g xs) x i.0 (tail_trim leave xs i.1)
+    tail_trim {n} leave (Then x xs) l = let i = and_parts (is_low g n x) (are_low g n xs) l in tail_then leave (is_end g xs) x i.0 (tail_trim leave xs i.1)
 
     tail_then : {n : ℕ} (leave y : Bool) (x : Tree) {xs ys : Forest} → is_low g n x ≡ true → Trim true n xs ys →
         Trim true n (Then x xs) (join (cond y (tailed_item g (jump_by leave) x) (inner_item g x)) ys)
     tail_then leave false x l h = inner_then x h
     tail_then leave true (Evaluate e) l h = set_trim leave e (set_value g e) refl l h
-    tail_then {n} leave true (If (Source e) a Nil) l h = check_trim e (tail_trim leave a (both (are_low g (suc n) a) true l).0) (is_off g e) h
-    tail_then {n} leave true (If t a d) l h = let i = both (are_low g (suc n) a) (are_low g (suc n) d) l in
+    tail_then {n} leave true (If (Source e) a Nil) l h = check_trim e (tail_trim leave a (and_parts (are_low g (suc n) a) true l).0) (is_off g e) h
+    tail_then {n} leave true (If t a d) l h = let i = and_parts (are_low g (suc n) a) (are_low g (suc n) d) l in
         t_then (i_if t (tail_trim leave a i.0) (tail_trim leave d i.1)) h
     tail_then leave true x l h = inner_then x h
 

@@ -1,7 +1,5 @@
 -- Counts added one after another.
-use Rattle.std.proofs.Common.{ℕ, ◌+◌, ◌<◌, ◌≤◌, Bool, true, false, eqb, List, map, length, get_or, drop, slice_set, Result, Ok, Err, OnOk, ◌≡◌, ◌≢◌, refl, sym, ap, ◌∙◌, subst, arith}
-use Rattle.std.proofs.Common.{eqb-true, eq-eqb, true≢false}
-use Rattle.std.proofs.lemmas.List.{get_or-set_same, get_or-set_other, length-set}
+use Rattle.std.proofs.Common.{ℕ, ◌+◌, ◌<◌, ◌≤◌, List, map, length, get_or, drop, Result, Ok, Err, OnOk, ◌≡◌, refl, sym, ap, ◌∙◌, subst, arith}
 use Rattle.std.proofs.lemmas.List.{at_drop_more, at_drop_all}
 use Rattle.c_tree.specs.declared.tree.Expression.{Expression, out-Expression}
 use Rattle.c_tree.specs.declared.tree.Place.{Place}
@@ -15,7 +13,7 @@ use Rattle.c_tree.specs.declared.tree.Section.{Section}
 use Rattle.c_tree.specs.Trees.{Tree, trees_of, sections_of, expression_trees}
 use Rattle.c_tree.proofs.ExpressionLaws.{expression-parts}
 use Rattle.c_tree.specs.Views.{tree_at}
-use Rattle.tidy_slots.specs.Counts.{one_if, expression_count, place_count, node_count, arguments_count, test_count, selector_count, all_count, list_count, item_count, sections_count}
+use Rattle.tidy_slots.specs.Counts.{expression_count, place_count, node_count, arguments_count, test_count, selector_count, all_count, list_count, item_count, sections_count}
 use Rattle.tidy_slots.specs.Added.{Adds}
 
 pub none_added : (a : List ℕ) → Adds a (λ g. 0) a
@@ -84,12 +82,6 @@ pub seen : (a b : List ℕ) (e x : Expression) → e ≡ x → Adds a (λ g. exp
 seen a b e x h p = subst (λ z. Adds a (λ g. expression_count g (expression_tree z)) b) h p
 
 -- ---- one more
-
-counted_at : (a : List ℕ) (s n g : ℕ) (b : Bool) → eqb s g ≡ b → s < length a → n ≡ get_or a s 0 + 1 → get_or (slice_set a s n) g 0 ≡ get_or a g 0 + one_if b
-counted_at a s n g true e h k =
-    let q : s ≡ g = eqb-true s g e in
-    ap (λ z. get_or (slice_set a s n) z 0) (sym q) ∙ get_or-set_same a s n 0 h ∙ k ∙ ap (λ z. get_or a z 0 + 1) q
-counted_at a s n g false e h k = get_or-set_other a s g n 0 (λ q. true≢false (sym (eq-eqb s g (sym q)) ∙ e)) ∙ omega arith
 
 -- ---- over a list
 

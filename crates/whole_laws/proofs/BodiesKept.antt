@@ -1,5 +1,5 @@
 -- What the moves and the simplifications of a body keep of each of its items.
-use Rattle.std.proofs.Common.{◌≡◌, ℕ, inl, inr, eqb, List, None, sym, subst}
+use Rattle.std.proofs.Common.{ℕ, inl, inr, eqb, List, sym, subst}
 use Rattle.c_tree.specs.declared.tree.Item.{Item}
 use Rattle.c_tree.specs.declared.tree.Slot.{Slot}
 use Rattle.c_tree.specs.Trees.{Tree, Forest, trees_of}
@@ -10,7 +10,6 @@ use Rattle.c_tree.proofs.RuleChanges.{joins_changed}
 use Rattle.jump_meaning.specs.Code.{Code}
 use Rattle.move_laws.specs.Simplifications.{Simplified}
 use Rattle.move_laws.specs.Drops.{dropped}
-use Rattle.label_offsets.specs.Leaps.{leaps_from, first}
 use Rattle.move_order_laws.specs.declared.kept.Kept.{Kept}
 use Rattle.move_order_laws.specs.Next.{Point}
 use Rattle.move_order_laws.specs.Derivations.{Eliminates, joins, moves, Derives, ends, chooses}
@@ -61,9 +60,3 @@ kinds_derived p ss d h = derived_kept (KindedItem p ss) (λ xs ys r i. kinds_mov
 pub kinds_reached : (p : Code) (ss : List Slot) {old : List Item} {cs : List Choice} {new : List Item} → Reaches old cs new →
     Everywhere (KindedItem p ss) (trees_of old) → Everywhere (KindedItem p ss) (trees_of new)
 kinds_reached p ss r h = reached_kept (KindedItem p ss) (λ xs ys r i. kinds_simplified p ss r i) (λ l xs i. kinds_dropped p ss (eqb l) xs i) r h
-
--- ---- the end of the moves
-
-pub none_left : {body : List Item} {ms : List Kept} {new : List Item} → Derives body ms new → first (leaps_from 0 new) ≡ None
-none_left (ends body n) = n
-none_left (chooses body at l ms ns mid new f e d) = none_left d

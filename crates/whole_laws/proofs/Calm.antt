@@ -1,5 +1,5 @@
 -- A source function without jumps has no goto and no nested case label.
-use Rattle.std.proofs.Common.{◌≡◌, ℕ, zero, suc, ◌+◌, arith, Bool, true, false, cond, not, ◌||◌, List, [], ◌∷◌, ◌++◌, Some, None, refl}
+use Rattle.std.proofs.Common.{◌≡◌, ℕ, ◌+◌, arith, Bool, true, false, cond, not, ◌||◌, List, [], ◌∷◌, Some, None, refl}
 use Rattle.c_tree.specs.declared.tree.Function.{Function}
 use Rattle.c_tree.specs.ExpressionTrees.{ExpressionTree}
 use Rattle.c_tree.specs.TestTrees.{TestTree, Source, SelectorTree, Selects, Pick}
@@ -8,21 +8,15 @@ use Rattle.c_tree.specs.Everywhere.{total, total_of, total_in, Everywhere, Every
 use Rattle.c_tree.specs.InRange.{body_of}
 use Rattle.flat_laws.specs.Loose.{Setting, AreIn}
 use Rattle.c_tree.specs.TextItems.{is_empty}
-use Rattle.flat_laws.specs.Parts.{arrivals, arrivals_in, is_scattered, jumps_of, has_jumps, is_some_number}
+use Rattle.flat_laws.specs.Parts.{arrivals, arrivals_in, is_scattered, jumps_of, has_jumps}
 use Rattle.flat_laws.specs.Source.{InTest, InSelector, IsSourceItem}
 use Rattle.flat_laws.specs.Unlabelled.{IsCalmItem}
+use Rattle.flat_laws.proofs.Hopless.{some_number}
+use Rattle.flat_laws.proofs.LooserItems.{empty_left, empty_right}
 use Rattle.whole_laws.specs.Rewritten.{setting, without_labels}
 use Rattle.whole_laws.proofs.Source.{IsSourceFunction}
 
 -- ---- without jumps
-
-first_empty : {A : Type 0} (xs ys : List A) → is_empty (xs ++ ys) ≡ true → is_empty xs ≡ true
-first_empty [] ys h = refl
-first_empty (x ∷ xs) ys h = cc
-
-second_empty : {A : Type 0} (xs ys : List A) → is_empty (xs ++ ys) ≡ true → is_empty ys ≡ true
-second_empty [] ys h = h
-second_empty (x ∷ xs) ys h = cc
 
 not_one : (b : Bool) (n : ℕ) → cond b 1 0 + n ≡ 0 → b ≡ false
 not_one true n h = absurd (omega (arith, h))
@@ -59,15 +53,15 @@ module _ (f : Function) (live : ℕ → Bool) where
     calm : (a : Forest) → Everywhere (IsSourceItem F live) a → total jumps_of a ≡ 0 → is_empty (arrivals a) ≡ true → Everywhere (IsCalmItem W) a
     calm Nil h j r = tt
     calm (Then x a) h j r = (
-      calm_of x h.0 (omega (arith, j)) (first_empty (arrivals_in x) (arrivals a) r),
-      calm a h.1 (omega (arith, j)) (second_empty (arrivals_in x) (arrivals a) r),
+      calm_of x h.0 (omega (arith, j)) (empty_left (arrivals_in x) (arrivals a) r),
+      calm a h.1 (omega (arith, j)) (empty_right (arrivals_in x) (arrivals a) r),
     )
 
     calm_of : (x : Tree) → EverywhereOf (IsSourceItem F live) x → total_of jumps_of x ≡ 0 → is_empty (arrivals_in x) ≡ true → EverywhereOf (IsCalmItem W) x
     calm_of (If t a b) h j r = (
       test_in t h.0,
-      calm a h.1 (omega (arith, j)) (first_empty (arrivals a) (arrivals b) r),
-      calm b h.2 (omega (arith, j)) (second_empty (arrivals a) (arrivals b) r),
+      calm a h.1 (omega (arith, j)) (empty_left (arrivals a) (arrivals b) r),
+      calm b h.2 (omega (arith, j)) (empty_right (arrivals a) (arrivals b) r),
     )
     calm_of (While t a) h j r = (test_in t h.0, calm a h.1 (omega (arith, j)) r)
     calm_of (Do a t) h j r = (test_in t h.0, calm a h.1 (omega (arith, j)) r)
@@ -95,9 +89,5 @@ module _ (f : Function) (live : ℕ → Bool) where
       calm_in c h.1 (omega (arith, j)) (second_false (is_empty (arrivals a)) (is_scattered c) r),
     )
 
-no_number : (n : ℕ) → is_some_number n ≡ false → n ≡ 0
-no_number zero h = refl
-no_number (suc n) h = cc
-
 pub source_calm : (f : Function) → IsSourceFunction f → has_jumps (body_of f) ≡ false → Everywhere (IsCalmItem (without_labels f f)) (body_of f)
-source_calm f s free = calm f _ (body_of f) s.items (no_number (total jumps_of (body_of f)) free) s.good.cases
+source_calm f s free = calm f _ (body_of f) s.items (some_number (total jumps_of (body_of f)) free) s.good.cases

@@ -21,9 +21,10 @@ use Rattle.guard_simplify.proofs.Next.{choice_laws}
 use Rattle.plain_laws.specs.Laws.{IsNoLeap}
 use Rattle.report_moves.specs.declared.moves.Move.{Move}
 use Rattle.move_order_laws.specs.Moved.{IsMoved, MovedTop, mt_moved, mt_other}
+use Rattle.move_order_laws.proofs.SomeDerivation.{none_left}
 use Rattle.whole_laws.specs.Rewritten.{FlatTop, ft_flat, ft_unlabelled, ft_declared, ft_other}
 use Rattle.whole_laws.proofs.Source.{IsSourceTop}
-use Rattle.whole_laws.proofs.BodiesKept.{reached_kept, none_left}
+use Rattle.whole_laws.proofs.BodiesKept.{reached_kept}
 use Rattle.whole_laws.proofs.Chains.{IsConvertible}
 use Rattle.whole_laws.proofs.Unlabelled.{IsPlainItem}
 use Rattle.whole_laws.proofs.Flattened.{body_is, left_plain}

@@ -15,6 +15,7 @@ use Rattle.guard_vars.specs.Conversion.{converted_list}
 use Rattle.move_laws.proofs.Kept.{IsOfLabels, shorter_kept, round_kept, selector_kept, IsStable, simplified_kept}
 use Rattle.move_laws.specs.Drops.{dropped_sections}
 use Rattle.move_laws.proofs.DroppedItems.{Becomes, becomes}
+use Rattle.move_laws.proofs.WellDropped.{cases_drop}
 use Rattle.c_resolved_defs.specs.Within.{TestExpression}
 use Rattle.whole_laws.proofs.Unlabelled.{IsLeft, left}
 use Rattle.whole_laws.proofs.Facts.{ItemHas}
@@ -28,10 +29,6 @@ same_cases cases c d e = ap (λ es. cases ++ es) e
 converted_cases : (c : Sections) → all_cases (convert_sections c) ≡ all_cases c
 converted_cases NoSection = refl
 converted_cases (Section cases default a ends c) = same_cases cases c (convert_sections c) (converted_cases c)
-
-dropped_cases : (d : ℕ → Bool) (c : Sections) → all_cases (dropped_sections d c) ≡ all_cases c
-dropped_cases d NoSection = refl
-dropped_cases d (Section cases default a ends c) = same_cases cases c (dropped_sections d c) (dropped_cases d c)
 
 unlabelled_cases : (c : Sections) → all_cases (unlabelled_among c) ≡ all_cases c
 unlabelled_cases NoSection = refl
@@ -98,7 +95,7 @@ module _ (V O C : ExpressionTree → Type 0) (R : Option ExpressionTree → Type
     whiles = λ t a h. h;
     dos = λ t a h. h;
     fors = λ first t u a h. h;
-    switches = λ s c h. (h.0, cases_over c (dropped_sections d c) (dropped_cases d c) h.1);
+    switches = λ s c h. (h.0, cases_over c (dropped_sections d c) (cases_drop d c) h.1);
     blocks = λ a h. tt;
     others = λ x o h. h;
   }

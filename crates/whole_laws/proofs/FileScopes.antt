@@ -20,9 +20,10 @@ use Rattle.c_resolved_defs.specs.Limits.{FlatCounts}
 use Rattle.c_resolved_defs.specs.Resolved.{IsResolvedFunction}
 use Rattle.c_resolved_laws.proofs.Ranged.{function_ranged}
 use Rattle.c_resolved_laws.proofs.SourceGiven.{Declared, function_declared}
+use Rattle.c_resolved_laws.proofs.Scoped.{other_name}
 use Rattle.whole_laws.specs.Names.{TopIsOther, IsFreeIn}
 use Rattle.whole_laws.proofs.SameFile.{SameDeclaration}
-use Rattle.whole_laws.proofs.ScopeLists.{slot_in, IsNoSlot, other_name, new_take}
+use Rattle.whole_laws.proofs.ScopeLists.{slot_in, IsNoSlot, new_take}
 use Rattle.whole_laws.proofs.SourceBound.{DeclaresIn}
 
 -- ---- the scopes of the file

@@ -30,7 +30,7 @@ use Rattle.whole_laws.proofs.UnmovedSpelled.{spelled_unmoved, depth_unmoved}
 
 -- ---- bodies
 
-spelled_body : (f : Function) (o : Option (List Item)) → f.body ≡ o → IfSome o (BodyIsSpelled f) → AreSpelled f (body_of f) × (1 + depth (body_of f) ≤ most)
+pub spelled_body : (f : Function) (o : Option (List Item)) → f.body ≡ o → IfSome o (BodyIsSpelled f) → AreSpelled f (body_of f) × (1 + depth (body_of f) ≤ most)
 spelled_body f None e h = subst (λ a. AreSpelled f a × (1 + depth a ≤ most)) (sym (ap (λ b. option_map_or trees_of b Nil) e)) (tt, omega arith)
 spelled_body f (Some a) e h = subst (λ b. AreSpelled f b × (1 + depth b ≤ most)) (sym (ap (λ b. option_map_or trees_of b Nil) e)) (h.items, h.shallow)
 

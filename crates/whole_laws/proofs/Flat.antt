@@ -14,9 +14,10 @@ use Rattle.jump_meaning.specs.World.{no_slot}
 use Rattle.jump_meaning.specs.Step.{switch_kind}
 use Rattle.flat_laws.specs.Pieces.{Aim, Stays, Becomes, Absent, mark_of, test_or_one, third_items, with_third, assigned_cells, Names, is_number, test_for, tests_for, tests, tests_in, tests_among, case_marks}
 use Rattle.flat_laws.specs.Loose.{Arrivals, NoArrival, Arrives}
-use Rattle.flat_laws.specs.Parts.{is_scattered, kept_breaks, holds_jump, Here, past, past_item, inside, Ending, Gone, Breaks, Jumps, Otherwise, later, if_jumps, is_gone, ending, ending_of}
+use Rattle.flat_laws.specs.Parts.{is_scattered, kept_breaks, holds_jump, Here, past, past_item, inside, Ending, Gone, Breaks, later, is_gone, ending, ending_of}
 use Rattle.flat_laws.specs.FlatForm.{Plan, names_of, scatter_aim, otherwise_label, aim, exit, end_goto, is_jumpy_switch, assigned, mark_if, arrival, dissolved, if_breaks, flat_for, flat, flat_item, flat_last, flat_last_item, flat_sections, spread, marks, coded, numbered, first_here, flat_body}
 use Rattle.flat_laws.specs.Unlabelled.{unlabelled, unlabelled_item, unlabelled_among}
+use Rattle.flat_laws.proofs.Stand.{later_gone, switch_no_break, switch_stays}
 use Rattle.whole_laws.specs.Notes.{notes, notes_in, notes_among}
 use Rattle.whole_laws.proofs.Lists.{both, notes_join, behind_none, before_none, notes_one, none_both}
 
@@ -100,20 +101,9 @@ module _ (number : IntKind → ℤ → ExpressionTree) (k : IntKind) (v : ℕ) (
 
 -- ---- lists of which nothing stays
 
-later_gone : (e f : Ending) → later e f ≡ Gone → (e ≡ Gone) × (f ≡ Gone)
-later_gone Gone f h = (refl, h)
-later_gone _ f h = cc
-
 gone_is : (e : Ending) → is_gone e ≡ true → e ≡ Gone
 gone_is Gone h = refl
 gone_is _ h = cc
-
-if_not_gone : (b : Bool) (e : Ending) → cond b (if_jumps e) Otherwise ≡ Gone → ⊥
-if_not_gone true Jumps h = cc
-if_not_gone true Gone h = cc
-if_not_gone true Breaks h = cc
-if_not_gone true Otherwise h = cc
-if_not_gone false e h = cc
 
 module _ (live : ℕ → Bool) where
   mutual
@@ -128,7 +118,7 @@ module _ (live : ℕ → Bool) where
     none_stays_of (Mark l) h = refl
     none_stays_of Break h = cc
     none_stays_of (Goto l) h = cc
-    none_stays_of (Switch s d) h = absurd (if_not_gone _ _ h)
+    none_stays_of (Switch s d) h = absurd (switch_stays _ _ h)
     none_stays_of _ h = cc
 
 -- ---- the flat form
@@ -141,13 +131,6 @@ later_first : (e f : Ending) → is_gone e ≡ false → later e f ≡ Breaks �
 later_first Gone f g h = cc
 later_first Breaks f g h = refl
 later_first _ f g h = cc
-
-if_no_break : (b : Bool) (e : Ending) → cond b (if_jumps e) Otherwise ≡ Breaks → ⊥
-if_no_break true Jumps h = cc
-if_no_break true Gone h = cc
-if_no_break true Breaks h = cc
-if_no_break true Otherwise h = cc
-if_no_break false e h = cc
 
 module _ (p : Plan) where
   loop_notes : (a b : Forest) (c : Aim) → notes a ≡ notes b → notes (join a (mark_of c)) ≡ notes b
@@ -256,7 +239,7 @@ module _ (p : Plan) where
     last_notes_of h b c r (Goto l) e = refl
     last_notes_of h b c r (Mark l) e = refl
     last_notes_of h b c r (Local x i) e = refl
-    last_notes_of h b c r (Switch s d) e = absurd (if_no_break _ _ e)
+    last_notes_of h b c r (Switch s d) e = absurd (switch_no_break _ _ e)
     last_notes_of h b c r (If t x y) e = cc
     last_notes_of h b c r (While t a) e = cc
     last_notes_of h b c r (Do a t) e = cc

@@ -1,5 +1,5 @@
 -- The flat form of a body nests no deeper than the body.
-use Rattle.std.proofs.Common.{◌≡◌, ℕ, zero, suc, ◌+◌, ◌≤◌, ℤ, Bool, true, false, cond, List, [], ◌∷◌, Option, Some, None, refl, arith}
+use Rattle.std.proofs.Common.{◌≡◌, ℕ, zero, suc, ◌+◌, ◌≤◌, ℤ, Bool, true, false, List, [], ◌∷◌, Option, Some, None, refl, arith}
 use Rattle.std.specs.Prelude.{max}
 use Rattle.std.specs.Option.{option_map_or}
 use Rattle.c_types.specs.declared.kinds.IntKind.{IntKind}
@@ -20,6 +20,7 @@ use Rattle.flat_laws.specs.FlatForm.{Plan, names_of, scatter_aim, otherwise_labe
 use Rattle.flat_laws.specs.FlatMade.{AreFirst, IsPlainItem}
 use Rattle.move_order_laws.specs.Nesting.{nesting, nesting_of, nesting_in}
 use Rattle.move_order_laws.proofs.Around.{nesting_some, nesting-join, nesting_in_some}
+use Rattle.move_order_laws.proofs.Depth.{cond_depth}
 
 -- ---- lists in which no list stands
 
@@ -116,10 +117,6 @@ module _ (number : IntKind → ℤ → ExpressionTree) (k : IntKind) (v : ℕ) (
 
 -- ---- along the flat form
 
-choose : (b : Bool) (x y : Forest) (n : ℕ) → nesting x ≤ n → nesting y ≤ n → nesting (cond b x y) ≤ n
-choose true x y n h g = h
-choose false x y n h g = g
-
 by_ending : (e : Ending) (x y : Forest) (n : ℕ) → nesting x ≤ n → nesting y ≤ n → nesting (if_breaks e x y) ≤ n
 by_ending Breaks x y n h g = h
 by_ending _ x y n h g = g
@@ -184,7 +181,7 @@ module _ (p : Plan) where
         let w = tests_among_depth p.number (switch_kind s) h.variable n d in
         let m = mark_flat B in
         let z = nesting_in_some d in
-        choose (is_scattered d) (dissolved p h s d y) (Then (Switch s (flat_sections p i (is_jumpy_switch p c d) B c d)) (mark_of B))
+        cond_depth (is_scattered d) (dissolved p h s d y) (Then (Switch s (flat_sections p i (is_jumpy_switch p c d) B c d)) (mark_of B))
         (1 + nesting_in d) (omega (arith, l, k, w, z)) (omega (arith, e, m))
     item_depth h b c r (Local x None) o = omega arith
     item_depth h b c r (Local x (Some es)) o = let i = assigned_flat (entry_or no_slot p.slots x).kind x (entry_or no_slot p.slots x).cells es in
@@ -206,7 +203,7 @@ module _ (p : Plan) where
         let j = last_depth (past_item x h) b c r xs o.1 in
         let k = nesting-join (flat_item p h b c r x) (flat_last p (past_item x h) b c r xs) in
         let l = last_item_depth h b c r x o.0 in
-        choose (is_gone (ending p.live xs)) (flat_last_item p h b c r x) (join (flat_item p h b c r x) (flat_last p (past_item x h) b c r xs))
+        cond_depth (is_gone (ending p.live xs)) (flat_last_item p h b c r x) (join (flat_item p h b c r x) (flat_last p (past_item x h) b c r xs))
         (max (1 + nesting_of x) (nesting xs)) (omega (arith, l)) (omega (arith, i, j, k))
 
     last_item_depth : (h : Here) (b c : Aim) (r : Arrivals) (x : Tree) → EverywhereOf IsPlainItem x → nesting (flat_last_item p h b c r x) ≤ 1 + nesting_of x

@@ -43,15 +43,15 @@ body_is f a e = ap (λ o. option_map_or trees_of o Nil) e
 items_are : (f : Function) (a : List Item) → f.body ≡ Some a → items_of (function_tree f) ≡ trees_of a
 items_are f a e = ap (λ o. option_map_or (λ (x : Forest). x) (option_map trees_of o) Nil) e
 
-items_body : (f : Function) (a : List Item) → f.body ≡ Some a → items_of (function_tree f) ≡ body_of f
+pub items_body : (f : Function) (a : List Item) → f.body ≡ Some a → items_of (function_tree f) ≡ body_of f
 items_body f a e = items_are f a e ∙ sym (body_is f a e)
 
-defined : (f : Function) (a : List Item) → f.body ≡ Some a → IsSome (function_tree f).body
+pub defined : (f : Function) (a : List Item) → f.body ≡ Some a → IsSome (function_tree f).body
 defined f a e = subst (λ (o : Option (List Item)). IsSome (option_map trees_of o)) (sym e) refl
 
 -- ---- slots behind those of the source
 
-cells_stay : (ss ts : List Slot) → ExtendSlots ss ts → (x : ℕ) → x < length ss → (entry_or no_slot ts x).cells ≡ (entry_or no_slot ss x).cells
+pub cells_stay : (ss ts : List Slot) → ExtendSlots ss ts → (x : ℕ) → x < length ss → (entry_or no_slot ts x).cells ≡ (entry_or no_slot ss x).cells
 cells_stay [] ts h x b = absurd (omega (arith, b))
 cells_stay (s ∷ ss) [] h x b = absurd h
 cells_stay (s ∷ ss) (t ∷ ts) h zero b = sym h.1

@@ -35,7 +35,7 @@ word_tail (c ∷ cs) e = and_from (is_word_byte c) (list_all is_word_byte cs) (o
 
 -- ---- numbers
 
-glyph_digit : (d : ℕ) → d < 10 → is_digit (digit_glyph false d) ≡ true
+pub glyph_digit : (d : ℕ) → d < 10 → is_digit (digit_glyph false d) ≡ true
 glyph_digit d h = grind (arith, nat_tests)
 
 digits_tail : (k n : ℕ) (acc : List ℕ) → IsTail acc → IsTail (digits_onto k 10 false n acc)

@@ -4,6 +4,7 @@ use Rattle.std.specs.Prelude.{◌≢◌}
 use Rattle.std.specs.Str.{bytes_eq}
 use Rattle.std.proofs.lemmas.Slice.Eq.{bytes_eq-Decides}
 use Rattle.std.proofs.lemmas.Bool.{or_parts}
+use Rattle.std.proofs.lemmas.List.{drop-append-le, take-append-le}
 use Rattle.c_types.specs.Words.{is_known, known_functions}
 use Rattle.c_copies.specs.Names.{has_name, with_names, given_name, slot_names, slots_names, enum_names, enums_names, top_names, tops_names, names, option_names, given_names}
 use Rattle.c_copies.proofs.Rising.{rising-members}
@@ -20,7 +21,7 @@ use Rattle.c_resolved_defs.specs.Within.{Each, AllDiffer}
 use Rattle.c_resolved_defs.specs.PrintableExpressions.{IsName}
 use Rattle.whole_laws.specs.Names.{TopIsOther, IsFreeIn, HasOwnNames}
 use Rattle.whole_laws.specs.Guards.{HasNames}
-use Rattle.whole_laws.proofs.PlainLists.{each_map, each_both, each_append, drop_append, take_append, each_taken, each_dropped, each_name}
+use Rattle.whole_laws.proofs.PlainLists.{each_map, each_both, each_append, each_taken, each_dropped, each_name}
 use Rattle.whole_laws.proofs.GuardWords.{IsGuardName, are_guard_names, guard_is_name, guard_unknown, guard_some}
 use Rattle.whole_laws.proofs.PlainTops.{plain_flat, no_body}
 
@@ -159,12 +160,12 @@ module _ (p : Program) (g : Function) (params : g.params ≤ length g.slots) (n 
   each_own : (P : List ℕ → Type 0) → Each (λ (s : Slot). P s.name) variables → ((m : List ℕ) → IsGood m → P m) →
       Each (λ (s : Slot). P s.name) (drop g.params (g.slots ++ map guard_slot chosen))
   each_own P h f =
-      subst (Each (λ (s : Slot). P s.name)) (sym (drop_append g.params g.slots (map guard_slot chosen) params))
+      subst (Each (λ (s : Slot). P s.name)) (sym (drop-append-le g.params g.slots (map guard_slot chosen) params))
       (each_append (λ (s : Slot). P s.name) variables (map guard_slot chosen) h (each_guard P chosen (each_map IsGood P f chosen good)))
 
   apart : AllDiffer (map (λ (s : Slot). s.name) (drop g.params (g.slots ++ map guard_slot chosen)))
   apart =
-      let e = ap (map (λ (s : Slot). s.name)) (drop_append g.params g.slots (map guard_slot chosen) params) ∙ map_more variables chosen in
+      let e = ap (map (λ (s : Slot). s.name)) (drop-append-le g.params g.slots (map guard_slot chosen) params) ∙ map_more variables chosen in
       let names_of = map (λ (s : Slot). s.name) variables in
       subst AllDiffer (sym e)
       (differ_append names_of chosen n.variables.apart (differ_left xs 0 given (all_differ Elsewhere given n.guards))
@@ -181,7 +182,7 @@ module _ (p : Program) (g : Function) (params : g.params ≤ length g.slots) (n 
     free = each_own (IsFreeIn p.tops) n.variables.free (λ m h. in_file m h.1);
     apart = apart;
     beside = subst (λ taken. Each (λ (s : Slot). Beside taken s.name) (drop g.params (g.slots ++ map guard_slot chosen)))
-        (sym (take_append g.params g.slots (map guard_slot chosen) params))
+        (sym (take-append-le g.params g.slots (map guard_slot chosen) params))
         (each_own (Beside (take g.params g.slots)) n.variables.beside (λ m h. each_taken (λ (t : Slot). t.name ≢ m) g.params g.slots (in_slots m h)));
   }
 

@@ -9,9 +9,10 @@ use Rattle.c_tree.proofs.KeptLemmas.{total-join}
 use Rattle.jump_meaning.specs.Step.{switch_kind}
 use Rattle.flat_laws.specs.Pieces.{Aim, mark_of, third_items, Names, tests_among, case_marks}
 use Rattle.flat_laws.specs.Loose.{Arrivals, NoArrival, Arrives}
-use Rattle.flat_laws.specs.Parts.{is_scattered, holds_jump, kept_breaks, jumps_of, Here, past, past_item, inside, Ending, Gone, Breaks, Jumps, Otherwise, later, if_jumps, ending, ending_of, is_gone}
+use Rattle.flat_laws.specs.Parts.{is_scattered, holds_jump, kept_breaks, jumps_of, Here, past, past_item, inside, Ending, Gone, Breaks, later, ending, ending_of, is_gone}
 use Rattle.flat_laws.specs.FlatForm.{Plan, names_of, scatter_aim, otherwise_label, end_goto, aim, is_jumpy_switch, dissolved, if_breaks, flat_for, flat, flat_item, flat_last, flat_last_item, flat_sections, spread}
 use Rattle.flat_laws.proofs.SameCounts.{weight}
+use Rattle.flat_laws.proofs.Stand.{later_gone, switch_no_break, switch_stays}
 
 -- ---- where there is no label there is no goto
 
@@ -41,24 +42,6 @@ some_label (suc n) a h g = omega arith
 
 -- ---- gotos stay, and of a scattered switch there is one
 
-later_gone : (e f : Ending) → later e f ≡ Gone → (e ≡ Gone) × (f ≡ Gone)
-later_gone Gone f h = (refl, h)
-later_gone _ f h = cc
-
-not_gone : (b : Bool) (e : Ending) → cond b (if_jumps e) Otherwise ≡ Gone → ⊥
-not_gone true Gone h = cc
-not_gone true Breaks h = cc
-not_gone true Jumps h = cc
-not_gone true Otherwise h = cc
-not_gone false e h = cc
-
-not_breaks : (b : Bool) (e : Ending) → cond b (if_jumps e) Otherwise ≡ Breaks → ⊥
-not_breaks true Gone h = cc
-not_breaks true Breaks h = cc
-not_breaks true Jumps h = cc
-not_breaks true Otherwise h = cc
-not_breaks false e h = cc
-
 module _ (p : Plan) where
   abbrev Gotos : Forest → ℕ
   Gotos a = total (weight 1 0) a
@@ -74,7 +57,7 @@ module _ (p : Plan) where
 
     gone_free_of : (x : Tree) → ending_of p.live x ≡ Gone → total_of jumps_of x ≡ 0
     gone_free_of (Block a) e = let i = gone_free a e in omega (arith, i)
-    gone_free_of (Switch s d) e = absurd (not_gone _ _ e)
+    gone_free_of (Switch s d) e = absurd (switch_stays _ _ e)
     gone_free_of (Goto l) e = cc
     gone_free_of (If t a b) e = cc
     gone_free_of (While t a) e = cc
@@ -164,7 +147,7 @@ module _ (p : Plan) where
 
     last_item_kept : (h : Here) (b c : Aim) (r : Arrivals) (x : Tree) → ending_of p.live x ≡ Breaks → total_of jumps_of x ≤ Gotos (flat_last_item p h b c r x)
     last_item_kept h b c r (Block a) e = let i = last_kept h b c r a e in omega (arith, i)
-    last_item_kept h b c r (Switch s d) e = absurd (not_breaks _ _ e)
+    last_item_kept h b c r (Switch s d) e = absurd (switch_no_break _ _ e)
     last_item_kept h b c r (Goto l) e = cc
     last_item_kept h b c r (If t x y) e = cc
     last_item_kept h b c r (While t a) e = cc

@@ -1,5 +1,5 @@
 -- The plain form of a function with jumps of a resolved program has few counted tokens, since the function isn't too tangled.
-use Rattle.std.proofs.Common.{◌≡◌, ℕ, zero, suc, ◌+◌, ◌*◌, ◌≤◌, ◌<◌, Bool, true, false, cond, List, length, Some, None, sym, ap, ◌∙◌, arith, subst}
+use Rattle.std.proofs.Common.{◌≡◌, ℕ, ◌+◌, ◌*◌, ◌≤◌, ◌<◌, Bool, true, false, cond, List, length, Some, None, sym, ap, ◌∙◌, arith, subst}
 use Rattle.std.specs.Prelude.{IfSome}
 use Rattle.c_tree.specs.declared.tree.Slot.{Slot}
 use Rattle.c_tree.specs.declared.tree.Function.{Function}
@@ -11,7 +11,7 @@ use Rattle.c_tree.specs.Slots.{ItemSlots}
 use Rattle.c_tree.specs.Trees.{Forest}
 use Rattle.flat_laws.specs.Pieces.{Stays}
 use Rattle.flat_laws.specs.Loose.{NoArrival}
-use Rattle.flat_laws.specs.Parts.{is_some_number, has_jumps, jumps_of}
+use Rattle.flat_laws.specs.Parts.{has_jumps, jumps_of}
 use Rattle.flat_laws.specs.FlatForm.{coded, numbered, first_here, flat, flat_body, marks}
 use Rattle.flat_laws.specs.FlatWellMadeLaws.{IsGoodSource, label_count}
 use Rattle.flat_laws.proofs.WellMade.{made_laws}
@@ -21,16 +21,12 @@ use Rattle.c_resolved_defs.specs.PrintableStatements.{most}
 use Rattle.c_resolved_defs.specs.Resolved.{IsResolvedFunction}
 use Rattle.c_resolved_laws.specs.Counts.{counts_of, measured_form, flat_counts}
 use Rattle.c_resolved_laws.proofs.Counted.{counted_plainly}
-use Rattle.c_resolved_laws.proofs.GoodSource.{good_source}
+use Rattle.c_resolved_laws.proofs.GoodSource.{good_source, some_there}
 use Rattle.c_resolved_laws.proofs.Measures.{same_labels}
 use Rattle.c_resolved_laws.proofs.Ranged.{function_ranged}
 use Rattle.whole_laws.proofs.FewCounted.{moved_few}
 use Rattle.whole_laws.proofs.JumpsKept.{jumps_kept, some_label}
 use Rattle.whole_laws.proofs.PlainTops.{IsMovedForm, IsDerivedForm}
-
-some_number : (n : ℕ) → is_some_number n ≡ true → 0 < n
-some_number zero e = cc
-some_number (suc n) e = omega arith
 
 pub has_label : (slots : List Slot) (n : ℕ) (body : Forest) → IsGoodSource n body → Everywhere (ItemSlots (λ x. x < length slots)) body →
     has_jumps body ≡ true → 0 < label_count slots n body
@@ -38,7 +34,7 @@ has_label slots n body good ranged jumps =
     let p = coded constant slots n body in
     let q = numbered (marks (flat p (first_here (length slots)) Stays Stays NoArrival body)) p in
     let kept = jumps_kept q (first_here (length slots)) Stays Stays NoArrival body in
-    let there = some_number (total jumps_of body) jumps in
+    let there = some_there (total jumps_of body) jumps in
     some_label (label_count slots n body) (flat_body constant slots n body) (made_laws.ranges slots n body good ranged).labels (omega (arith, kept, there))
 
 with_jumps : (b : Bool) (n : ℕ × ℕ) (P : ℕ × ℕ → Type 0) → b ≡ true → IfSome (cond b (Some n) None) P → P n

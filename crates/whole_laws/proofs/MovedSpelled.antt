@@ -4,6 +4,7 @@ use Rattle.std.specs.Prelude.{IfSome, IsSomeAnd}
 use Rattle.std.specs.Option.{option_map_or}
 use Rattle.std.specs.List.{AllByRecursion}
 use Rattle.std.proofs.lemmas.Option.{slice_get_within}
+use Rattle.std.proofs.lemmas.Bool.{cases_lt}
 use Rattle.c_types.specs.declared.kinds.IntKind.{IntKind}
 use Rattle.c_types.specs.declared.kinds.IntKind.TheVariants.{Int}
 use Rattle.c_types.specs.Numbers.{promoted, converted}
@@ -70,15 +71,6 @@ cells_in (Some s) = s.cells
 
 -- ---- names of slots
 
-below_or : (a b : ℕ) → (a < b) ⊎ (b ≤ a)
-below_or a zero = inr (omega arith)
-below_or zero (suc b) = inl (omega arith)
-below_or (suc a) (suc b) = up (below_or a b)
-  where
-    up : (a < b) ⊎ (b ≤ a) → (suc a < suc b) ⊎ (suc b ≤ suc a)
-    up (inl h) = inl (omega (arith, h))
-    up (inr h) = inr (omega (arith, h))
-
 name_there : (ss : List Slot) (k : ℕ) → IsName (slot_name ss k) → k < length ss
 name_there ss k h = at (slice_get ss k) refl h
   where
@@ -113,7 +105,7 @@ module _ (f h : Function) (m : IsMovedForm f h) (params : f.params ≤ length f.
   longer = let e = moved_length f h m params in omega (arith, e)
 
   name_over : (k : ℕ) → IsName (slot_name f.slots k) → IsName (slot_name h.slots k)
-  name_over k i = at (below_or k f.params)
+  name_over k i = at (cases_lt k f.params)
     where
       at : (k < f.params) ⊎ (f.params ≤ k) → IsName (slot_name h.slots k)
       at (inl b) =

@@ -13,6 +13,7 @@ use Rattle.plain_laws.specs.Plain.{labels_left, slot_among, declared, tidied, wi
 use Rattle.plain_laws.proofs.PlainFunctions as P
 use Rattle.plain_laws.proofs.PlainFunctions.{are_declared}
 use Rattle.plain_laws.proofs.TidyTrees.{tidied_trees}
+use Rattle.plain_laws.proofs.PlainShown.{second_true}
 use Rattle.whole_laws.specs.Notes.{notes, notes_in, notes_among}
 use Rattle.whole_laws.proofs.Lists.{both, behind_none}
 
@@ -71,14 +72,10 @@ give_notes cases default Nil false (Section cases' default' b ends c) = refl
 give_notes cases default Nil true c = refl
 give_notes cases default (Then x a) ends c = refl
 
-second_holds : (x y : Bool) → (x && y) ≡ true → y ≡ true
-second_holds true y h = h
-second_holds false y h = cc
-
 put_notes : (b : Bool) (cases : List ExpressionTree) (default : Bool) (a : Forest) (ends : Bool) (c : Sections) → (not ends && last_break a) ≡ b
     → notes_among (cond b (give cases default (without_last a) true c) (give cases default a ends c)) ≡ notes a ++ notes_among c
 put_notes true cases default a ends c e = give_notes cases default (without_last a) true c ∙ ap (λ l. l ++ notes_among c)
-    (cut_notes a (second_holds (not ends) (last_break a) e))
+    (cut_notes a (second_true (not ends) (last_break a) e))
 put_notes false cases default a ends c e = give_notes cases default a ends c
 
 mutual

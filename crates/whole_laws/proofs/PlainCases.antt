@@ -36,7 +36,7 @@ use Rattle.c_resolved_defs.specs.Switches.{arrivals, arrivals_of, section_labels
 use Rattle.c_resolved_laws.proofs.GoodSource.{same_cases, same_defaults}
 use Rattle.whole_laws.proofs.Facts.{AnyNote, ItemHas}
 use Rattle.whole_laws.proofs.FactsMoved.{labels_of, slot_of, reached_of, plain_trees, left_trees, Source, facts_moved}
-use Rattle.whole_laws.proofs.FactsPlain.{tidy_cases}
+use Rattle.whole_laws.proofs.FactsPlain.{tidy_cases, plain_cases}
 use Rattle.whole_laws.proofs.ItemKinds.{each_front, each_back, each_join}
 use Rattle.whole_laws.proofs.PlainForms.{body_before}
 use Rattle.whole_laws.proofs.PlainTops.{IsMovedForm, IsUnmovedForm}
@@ -134,7 +134,7 @@ tidied_cases a p h =
 
 -- ---- without jumps
 
-arrivals_join : (a b : Forest) → arrivals (join a b) ≡ arrivals a ++ arrivals b
+pub arrivals_join : (a b : Forest) → arrivals (join a b) ≡ arrivals a ++ arrivals b
 arrivals_join Nil b = refl
 arrivals_join (Then x a) b = ap (λ l. arrivals_of x ++ l) (arrivals_join a b) ∙ sym (append_assoc (arrivals_of x) (arrivals a) (arrivals b))
 
@@ -285,10 +285,6 @@ kind_cases (Some j) k Q h e q = subst Q (sym e) q
 well_cases : (o : Option IntKind) (c : Sections) → IsSome o → IfSome (option_map promoted o) (λ k. AreCases k c) → AreCases (promoted (operand_kind o)) c
 well_cases None c h i = cc
 well_cases (Some j) c h i = i
-
-plain_cases : (slot : ℕ → ℕ) (c : Sections) → all_cases (plain_sections slot c) ≡ all_cases c
-plain_cases slot NoSection = refl
-plain_cases slot (Section cases default a ends c) = ap (λ es. cases ++ es) (plain_cases slot c)
 
 plain_defaults : (slot : ℕ → ℕ) (c : Sections) → defaults (plain_sections slot c) ≡ defaults c
 plain_defaults slot NoSection = refl

@@ -10,6 +10,7 @@ use Rattle.c_tree.specs.InRange.{body_of}
 use Rattle.c_tree.specs.WellMade.{IsConverted, HasEntries, IsPlainFor}
 use Rattle.c_tree.proofs.TreeLaws.{tree-Local, trees-none, trees-more, trees-append}
 use Rattle.c_tree.proofs.WellMoved.{everywhere_both}
+use Rattle.c_tree.proofs.ExitsKept.{breaks-join, continues-join}
 use Rattle.flat_laws.specs.Unlabelled.{unlabelled, unlabelled_item, unlabelled_among, IsCalmItem}
 use Rattle.plain_laws.specs.Laws.{IsNoLeap}
 use Rattle.plain_laws.specs.Plain as Plain
@@ -198,14 +199,6 @@ module _ (h : Function) (slot : ℕ → ℕ) where
     continues_plain_in (Section cases default a ends c) = both_sums (continues (plain_list slot a)) (continues_in (plain_sections slot c))
         (continues a) (continues_in c) (continues_plain a) (continues_plain_in c)
 
-breaks_join : (a b : Forest) → breaks (join a b) ≡ breaks a + breaks b
-breaks_join Nil b = omega arith
-breaks_join (Then x a) b = let e = breaks_join a b in omega (arith, e)
-
-continues_join : (a b : Forest) → continues (join a b) ≡ continues a + continues b
-continues_join Nil b = omega arith
-continues_join (Then x a) b = let e = continues_join a b in omega (arith, e)
-
 declarations_exit : (base end : ℕ) (a : Forest) → AreDeclarations base end a → (breaks a ≡ 0) × (continues a ≡ 0)
 declarations_exit base end Nil none = (refl, refl)
 declarations_exit base end (Then x a) (one_more (variable y) r) = let i = declarations_exit base end a r in let b = i.0 in let c = i.1 in
@@ -262,8 +255,8 @@ module _ (f h : Function) (m : IsMovedForm f h) (params : f.params ≤ length f.
       let d = declarations_exit _ _ decls (are_declared (reached_of f h m) (labels_of f h m)) in
       let i = d.0 in
       let j = d.1 in
-      let b = breaks_join decls items in
-      let c = continues_join decls items in
+      let b = breaks-join decls items in
+      let c = continues-join decls items in
       let p = breaks_plain h (slot_of f h m) (trees_of m.new) in
       let q = continues_plain h (slot_of f h m) (trees_of m.new) in
       let e = m.made.bound in omega (arith, i, j, b, c, p, q, e)
@@ -358,7 +351,7 @@ module _ (g : Tree → List ℕ) (none : (l : ℕ) → g (Mark l) ≡ []) where
 mutual
   breaks_left : (a : Forest) → breaks (unlabelled a) ≡ breaks a
   breaks_left Nil = refl
-  breaks_left (Then x a) = let e = breaks_join (unlabelled_item x) (unlabelled a) in let i = breaks_left_of x in let j = breaks_left a in omega (arith, e, i, j)
+  breaks_left (Then x a) = let e = breaks-join (unlabelled_item x) (unlabelled a) in let i = breaks_left_of x in let j = breaks_left a in omega (arith, e, i, j)
 
   breaks_left_of : (x : Tree) → breaks (unlabelled_item x) ≡ breaks_of x
   breaks_left_of (If t a b) = let i = breaks_left a in let j = breaks_left b in omega (arith, i, j)
@@ -370,7 +363,7 @@ mutual
 mutual
   continues_left : (a : Forest) → continues (unlabelled a) ≡ continues a
   continues_left Nil = refl
-  continues_left (Then x a) = let e = continues_join (unlabelled_item x) (unlabelled a) in let i = continues_left_of x in let j = continues_left a in
+  continues_left (Then x a) = let e = continues-join (unlabelled_item x) (unlabelled a) in let i = continues_left_of x in let j = continues_left a in
       omega (arith, e, i, j)
 
   continues_left_of : (x : Tree) → continues (unlabelled_item x) ≡ continues_of x

@@ -1,5 +1,5 @@
 -- Facts of all elements of lists, and parts of lists one after the other.
-use Rattle.std.proofs.Common.{◌≡◌, ℕ, zero, suc, ◌≤◌, List, [], ◌∷◌, ◌++◌, length, map, take, drop, refl, ap, arith}
+use Rattle.std.proofs.Common.{ℕ, zero, suc, List, [], ◌∷◌, ◌++◌, map, take, drop}
 use Rattle.c_tree.specs.declared.tree.Slot.{Slot}
 use Rattle.c_resolved_defs.specs.Within.{Each}
 
@@ -14,16 +14,6 @@ each_both P Q (x ∷ xs) h g = ((h.0, g.0), each_both P Q xs h.1 g.1)
 pub each_append : {A : Type 0} (P : A → Type 0) (xs ys : List A) → Each P xs → Each P ys → Each P (xs ++ ys)
 each_append P [] ys h g = g
 each_append P (x ∷ xs) ys h g = (h.0, each_append P xs ys h.1 g)
-
-pub drop_append : {A : Type 0} (n : ℕ) (xs ys : List A) → n ≤ length xs → drop n (xs ++ ys) ≡ drop n xs ++ ys
-drop_append zero xs ys h = refl
-drop_append (suc n) [] ys h = absurd (omega (arith, h))
-drop_append (suc n) (x ∷ xs) ys h = drop_append n xs ys (omega (arith, h))
-
-pub take_append : {A : Type 0} (n : ℕ) (xs ys : List A) → n ≤ length xs → take n (xs ++ ys) ≡ take n xs
-take_append zero xs ys h = refl
-take_append (suc n) [] ys h = absurd (omega (arith, h))
-take_append (suc n) (x ∷ xs) ys h = ap (λ l. x ∷ l) (take_append n xs ys (omega (arith, h)))
 
 pub each_taken : {A : Type 0} (P : A → Type 0) (n : ℕ) (xs : List A) → Each P xs → Each P (take n xs)
 each_taken P zero xs h = tt

@@ -1,5 +1,6 @@
 -- The plain form has the declarations of the program, and its functions have the variables of the source.
 use Rattle.std.proofs.Common.{◌≡◌, ◌≤◌, List, ◌++◌, length, map, take, is_some, refl, sym, ap, subst, ◌∙◌, arith}
+use Rattle.std.proofs.lemmas.List.{take-append-le}
 use Rattle.c_tree.specs.declared.tree.Slot.{Slot}
 use Rattle.c_tree.specs.declared.tree.Function.{Function}
 use Rattle.c_tree.specs.declared.tree.Top.{Top}
@@ -7,7 +8,6 @@ use Rattle.plain_laws.specs.Plain.{names_left, guard_slot}
 use Rattle.c_resolved_defs.specs.Within.{Each}
 use Rattle.c_resolved_defs.specs.Limits.{FlatCounts}
 use Rattle.c_resolved_defs.specs.Resolved.{IsResolvedTop}
-use Rattle.whole_laws.proofs.PlainLists.{take_append}
 use Rattle.whole_laws.proofs.NamesKept.{KeepsSlots, keeps_self, keeps_more, extended}
 use Rattle.whole_laws.proofs.PlainTops.{IsMovedForm, IsUnmovedForm, pt_moved, pt_unmoved, pt_declared, pt_other, PlainTops, pt_none, pt_more}
 use Rattle.whole_laws.proofs.SameFile.{SameDeclaration, SameFile, sf_none, sf_function, sf_other}
@@ -34,7 +34,7 @@ module _ (f h : Function) (m : IsMovedForm f h) (params : f.params ≤ length f.
   moved_parameters : take h.params h.slots ≡ take f.params f.slots
   moved_parameters =
       (λ i. take (moved_params i) (moved_slots i))
-      ∙ take_append f.params m.flat_form.slots more flat_enough
+      ∙ take-append-le f.params m.flat_form.slots more flat_enough
       ∙ m.is_flat.parameters
 
   pub moved_declared : SameDeclaration f h

@@ -1,6 +1,5 @@
 -- What scopes have: the parameters of a function, its declared variables, and what stands at file scope.
 use Rattle.std.proofs.Common.{◌≡◌, ◌≢◌, ℕ, zero, suc, ◌+◌, ◌-◌, ◌<◌, ◌≤◌, Bool, true, false, cond, List, [], ◌∷◌, ◌++◌, length, map, take, drop, Option, Some, None, ◌⊎◌, inl, inr, refl, sym, ap, subst, ◌∙◌, bytes_eq, arith, append_assoc, length-append}
-use Rattle.std.proofs.lemmas.Slice.Eq.{bytes_eq-Decides}
 use Rattle.c_tree.specs.declared.tree.Slot.{Slot}
 use Rattle.c_tree.specs.declared.tree.Home.TheVariants as H
 use Rattle.c_tree.specs.Trees.{Forest, Nil, Then, join}
@@ -9,17 +8,8 @@ use Rattle.plain_laws.specs.Slotted.{AreDeclarations, none, one_more, variable, 
 use Rattle.c_resolved_defs.specs.Within.{Each, AllDiffer}
 use Rattle.c_resolved_defs.specs.Form.{gathered, declared_slot, numbers_from}
 use Rattle.c_resolved_defs.specs.Scopes.{Meaning, AVariable, Scope, found, behind, behind_all, AreBound, bind_parameter, with_parameters, IsNewParameter, AreNewParameters}
+use Rattle.c_resolved_laws.proofs.Scoped.{other_name, same_name}
 use Rattle.whole_laws.proofs.NamesKept.{same_first, same_rest}
-
-pub same_name : (m : List ℕ) → bytes_eq m m ≡ true
-same_name m = (bytes_eq-Decides m m).1 refl
-
-pub other_name : (m n : List ℕ) → m ≢ n → bytes_eq m n ≡ false
-other_name m n h = refuted (bytes_eq m n) (λ e. h ((bytes_eq-Decides m n).0 e))
-  where
-    refuted : (b : Bool) → (b ≡ true → ⊥) → b ≡ false
-    refuted true f = absurd (f refl)
-    refuted false f = refl
 
 -- ---- meanings
 

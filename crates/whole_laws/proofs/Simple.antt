@@ -22,7 +22,7 @@ none_there : (i : ℕ) (r : Option Repeat) → if_some i Z2 (repeat_label r) ≡
 none_there i None e = refl
 none_there i (Some r) e = cc
 
-none_under : (i : ℕ) (b : Branch) (cs : List Choice) → under i b cs ≡ [] → cs ≡ []
+pub none_under : (i : ℕ) (b : Branch) (cs : List Choice) → under i b cs ≡ [] → cs ≡ []
 none_under i b [] e = refl
 none_under i b (c ∷ cs) e = cc
 

@@ -95,7 +95,7 @@ mutual
 
 -- ---- the form of sections
 
-ends_same : (a : Forest) → ends_with_break a ≡ last_break a
+pub ends_same : (a : Forest) → ends_with_break a ≡ last_break a
 ends_same Nil = refl
 ends_same (Then Break Nil) = refl
 ends_same (Then Break (Then y a)) = ends_same (Then y a)

@@ -153,7 +153,7 @@ pub depth_if : (t : TestTree) (a b : Forest) → depth_of (If t a b) ≡ max (de
 depth_if t a Nil = omega arith
 depth_if t a (Then x b) = refl
 
-depth_join : (a b : Forest) → depth (join a b) ≡ max (depth a) (depth b)
+pub depth_join : (a b : Forest) → depth (join a b) ≡ max (depth a) (depth b)
 depth_join Nil b = omega arith
 depth_join (Then x a) b = let e = depth_join a b in omega (arith, e)
 

@@ -11,6 +11,7 @@ use Rattle.c_tree.specs.Cases.{selector_source}
 use Rattle.c_tree.specs.Labels.{TestLabels, SelectorLabels}
 use Rattle.c_tree.specs.Numerals.{constant}
 use Rattle.c_tree.specs.TestTrees.{TestTree, Source, On, Off, AndOff, OrOn, SelectorTree, Selects, Pick}
+use Rattle.c_tree.proofs.KeptLemmas.{at_most_one}
 use Rattle.flat_laws.specs.Pieces.{is_number}
 use Rattle.guard_simplify.specs.declared.choice.Repeat.{Repeat}
 use Rattle.guard_simplify.specs.Choice.{has, is_off_of, inside, repeat, repeat_pick}
@@ -20,12 +21,8 @@ use Rattle.c_resolved_defs.specs.Within.{TestExpression}
 
 -- ---- expressions
 
-cond_most : (b : Bool) → cond b 1 0 ≤ 1
-cond_most true = omega arith
-cond_most false = omega arith
-
 pub bracket_most : (level need : ℕ) → bracket_count level need ≤ 1
-bracket_most level need = cond_most (nat_lt level need)
+bracket_most level need = at_most_one (nat_lt level need)
 
 cond_within : (P : ExpressionTree → Type 0) (b : Bool) (x y : ExpressionTree) → P x → P y → P (cond b x y)
 cond_within P true x y h k = h

@@ -36,7 +36,8 @@ returns c =
           c.change_item.ensures.kept;
       way = if_ok_both c.change_item.result _ _ _
           (λ it a k g r f h d l z p. item_goes_in sure f h g l z n at w xs x y c.requires.place e c.args.counts.now
-          (said_more it sure (λ g. IsAlike c.args.counts.now g (tree_at c.get_mut.result.now) (tree_at y)) (λ g. IsAlike c.args.counts.now g (tree_at x) (tree_at y))
+          (said_more it sure (λ g. IsAlike c.args.counts.now g (tree_at c.get_mut.result.now) (tree_at y))
+          (λ g. IsAlike c.args.counts.now g (tree_at x) (tree_at y))
           (λ g. subst (λ z. IsAlike c.args.counts.now g (tree_at z) (tree_at y)) u) a g r) d c.requires.within p.0
           (k g r f h d l z (subst (λ z. IsWayIn c.args.sure.now f n v (tree_at z)) (sym u) (i f n at v xs xs x c.requires.place e refl p.1))))
           c.change_item.ensures.alike c.change_item.ensures.way;

@@ -44,7 +44,8 @@ changes-preserved c =
     let w = subst (λ b. WentOn b c.changes.gone c.changes.counts h c.change_once.new.gone c.change_once.new.counts k) c.if-branch.true
     (c.in_ok-change_once.ensures.went f i.1.0) in
     let s = c.in_ok-change_once.ensures.start c.if-branch.true f t i.1.0 in
-    let d : c.declares_first-first.result ≡ true → DeclaresFirst (trees_of c.change_once.new.list) = λ e. c.in_ok-change_once.ensures.first f t i.1.0 (i.1.1 e) in
+    let d : c.declares_first-first.result ≡ true →
+    DeclaresFirst (trees_of c.change_once.new.list) = λ e. c.in_ok-change_once.ensures.first f t i.1.0 (i.1.1 e) in
     let g = goes c.changes.count (suc c.changes.count) (with_body f c.args.list.now) c.changes.gone c.change_once.new.gone c.changes.counts
     c.change_once.new.counts h k refl w i.0 in (
       goes_by c.changes.count c.in_ok-more.more c.in_ok-count.count (with_body f c.args.list.now) c.changes.gone c.change_once.new.gone

@@ -55,7 +55,8 @@ returns c =
     let o : v ≡ [] → ⊥ = λ e. sure.1 (empty_back c.args.way.now e) in
     let first = c.if-not-first.false in
     let i = length-set xs k y in
-    let from : c.saturating_sub-from.result ≡ k - (length xs - length zs) = omega (arith, c.saturating_sub-from.ensures, c.saturating_sub.ensures, c.len-before.ensures.value, c.len-after.ensures.value, i) in
+    let from : c.saturating_sub-from.result ≡ k - (length xs - length zs) = omega
+    (arith, c.saturating_sub-from.ensures, c.saturating_sub.ensures, c.len-before.ensures.value, c.len-after.ensures.value, i) in
     record {
       went = λ f i d. subst (λ m. WentOnBy m c.args.gone.now c.args.counts.now (with_body f xs) c.undeclare_all.new.gone s (with_body f zs))
           (sym c.len-count.ensures.value)

@@ -139,14 +139,16 @@ pub item_is_quiet-is_quiet-requires-in-For : goal.item_is_quiet-is_quiet-require
 item_is_quiet-is_quiet-requires-in-For t c =
     let n = of_for c.args.item.now c.in-For.start c.in-For.field-1 c.in-For.field-2 c.in-For.a c.in-For.is in (
       omega (arith, n, c.decreases),
-      (subst (AreWithin (count_in c.args.counts.now)) (ap tree_at c.in-For.is ∙ at-For c.in-For.start c.in-For.field-1 c.in-For.field-2 c.in-For.a) c.requires).0,
+      (subst (AreWithin (count_in c.args.counts.now)) (ap tree_at c.in-For.is ∙
+          at-For c.in-For.start c.in-For.field-1 c.in-For.field-2 c.in-For.a) c.requires).0,
     )
 
 pub item_is_quiet-is_quiet-requires-in-For-2 : goal.item_is_quiet-is_quiet-requires-in-For-2
 item_is_quiet-is_quiet-requires-in-For-2 t c =
     let n = of_for c.args.item.now c.in-For.start c.in-For.field-1 c.in-For.field-2 c.in-For.a c.in-For.is in (
       omega (arith, n, c.decreases),
-      (subst (AreWithin (count_in c.args.counts.now)) (ap tree_at c.in-For.is ∙ at-For c.in-For.start c.in-For.field-1 c.in-For.field-2 c.in-For.a) c.requires).1,
+      (subst (AreWithin (count_in c.args.counts.now)) (ap tree_at c.in-For.is ∙
+          at-For c.in-For.start c.in-For.field-1 c.in-For.field-2 c.in-For.a) c.requires).1,
     )
 
 pub item_is_quiet-sections_are_quiet-requires : goal.item_is_quiet-sections_are_quiet-requires

@@ -148,14 +148,16 @@ pub change_on_in-change_on_either-slots-requires : goal.change_on_in-change_on_e
 change_on_in-change_on_either-slots-requires t c =
     let n = of_if c.args.item.now c.in-If.test c.in-If.a c.in-If.b (sym c.replace.ensures.value ∙ c.in-If.is) in (
       omega (arith, n, c.decreases),
-      subst (AreWithin (count_in c.args.counts.now)) (ap tree_at (sym c.replace.ensures.value ∙ c.in-If.is) ∙ at-If c.in-If.test c.in-If.a c.in-If.b) c.requires,
+      subst (AreWithin (count_in c.args.counts.now)) (ap tree_at (sym c.replace.ensures.value ∙ c.in-If.is) ∙
+          at-If c.in-If.test c.in-If.a c.in-If.b) c.requires,
     )
 
 pub change_on_in-change_on-slots-requires : goal.change_on_in-change_on-slots-requires
 change_on_in-change_on-slots-requires t c =
     let n = of_while c.args.item.now c.in-While.test c.in-While.a (sym c.replace.ensures.value ∙ c.in-While.is) in (
       omega (arith, n, c.decreases),
-      subst (AreWithin (count_in c.args.counts.now)) (ap tree_at (sym c.replace.ensures.value ∙ c.in-While.is) ∙ at-While c.in-While.test c.in-While.a) c.requires,
+      subst (AreWithin (count_in c.args.counts.now)) (ap tree_at (sym c.replace.ensures.value ∙ c.in-While.is) ∙
+          at-While c.in-While.test c.in-While.a) c.requires,
     )
 
 pub change_on_in-change_on-slots-requires-in-Do : goal.change_on_in-change_on-slots-requires-in-Do
@@ -169,14 +171,16 @@ pub change_on_in-change_on_either-slots-requires-in-For : goal.change_on_in-chan
 change_on_in-change_on_either-slots-requires-in-For t c =
     let n = of_for c.args.item.now c.in-For.first c.in-For.test c.in-For.third c.in-For.a (sym c.replace.ensures.value ∙ c.in-For.is) in (
       omega (arith, n, c.decreases),
-      subst (AreWithin (count_in c.args.counts.now)) (ap tree_at (sym c.replace.ensures.value ∙ c.in-For.is) ∙ at-For c.in-For.first c.in-For.test c.in-For.third c.in-For.a) c.requires,
+      subst (AreWithin (count_in c.args.counts.now)) (ap tree_at (sym c.replace.ensures.value ∙ c.in-For.is) ∙
+          at-For c.in-For.first c.in-For.test c.in-For.third c.in-For.a) c.requires,
     )
 
 pub change_on_in-change_on_sections-slots-requires : goal.change_on_in-change_on_sections-slots-requires
 change_on_in-change_on_sections-slots-requires t c =
     let n = of_switch c.args.item.now c.in-Switch.selector c.in-Switch.sections (sym c.replace.ensures.value ∙ c.in-Switch.is) in (
       omega (arith, n, c.decreases),
-      subst (AreWithin (count_in c.args.counts.now)) (ap tree_at (sym c.replace.ensures.value ∙ c.in-Switch.is) ∙ at-Switch c.in-Switch.selector c.in-Switch.sections) c.requires,
+      subst (AreWithin (count_in c.args.counts.now)) (ap tree_at (sym c.replace.ensures.value ∙ c.in-Switch.is) ∙
+          at-Switch c.in-Switch.selector c.in-Switch.sections) c.requires,
     )
 
 pub change_on_in-change_on-slots-requires-in-Block : goal.change_on_in-change_on-slots-requires-in-Block
@@ -189,37 +193,46 @@ change_on_in-change_on-slots-requires-in-Block t c =
 pub change_on_in-returns-in-If : goal.change_on_in-returns-in-If
 change_on_in-returns-in-If t c =
     if_ok_more c.change_on_either-slots.result _ _
-    (λ gs k. if_row c.args.level c.args.counts.now c.change_on_either-slots.new.counts gs (reverse c.args.way.now) (reverse c.change_on_either-slots.new.way) c.args.item.now
-    c.in-If.test c.in-If.a c.in-If.b c.change_on_either-slots.new.first c.change_on_either-slots.new.second (sym c.replace.ensures.value ∙ c.in-If.is) k) c.change_on_either-slots.ensures
+    (λ gs k. if_row c.args.level c.args.counts.now c.change_on_either-slots.new.counts gs (reverse c.args.way.now)
+    (reverse c.change_on_either-slots.new.way) c.args.item.now
+    c.in-If.test c.in-If.a c.in-If.b c.change_on_either-slots.new.first c.change_on_either-slots.new.second (sym c.replace.ensures.value ∙
+    c.in-If.is) k) c.change_on_either-slots.ensures
 
 pub change_on_in-returns-in-While : goal.change_on_in-returns-in-While
 change_on_in-returns-in-While t c =
     if_ok_more c.change_on-slots.result _ _
-    (λ gs k. while_row c.args.level c.args.counts.now c.change_on-slots.new.counts gs (reverse c.args.way.now) (reverse c.change_on-slots.new.way) c.args.item.now
+    (λ gs k. while_row c.args.level c.args.counts.now c.change_on-slots.new.counts gs (reverse c.args.way.now)
+    (reverse c.change_on-slots.new.way) c.args.item.now
     c.in-While.test c.in-While.a c.change_on-slots.new.list (sym c.replace.ensures.value ∙ c.in-While.is) k) c.change_on-slots.ensures
 
 pub change_on_in-returns-in-Do : goal.change_on_in-returns-in-Do
 change_on_in-returns-in-Do t c =
     if_ok_more c.change_on-slots-in-Do.result _ _
-    (λ gs k. do_row c.args.level c.args.counts.now c.change_on-slots-in-Do.new.counts gs (reverse c.args.way.now) (reverse c.change_on-slots-in-Do.new.way) c.args.item.now
+    (λ gs k. do_row c.args.level c.args.counts.now c.change_on-slots-in-Do.new.counts gs (reverse c.args.way.now)
+    (reverse c.change_on-slots-in-Do.new.way) c.args.item.now
     c.in-Do.test c.in-Do.a c.change_on-slots-in-Do.new.list (sym c.replace.ensures.value ∙ c.in-Do.is) k) c.change_on-slots-in-Do.ensures
 
 pub change_on_in-returns-in-For : goal.change_on_in-returns-in-For
 change_on_in-returns-in-For t c =
     if_ok_more c.change_on_either-slots-in-For.result _ _
-    (λ gs k. for_row c.args.level c.args.counts.now c.change_on_either-slots-in-For.new.counts gs (reverse c.args.way.now) (reverse c.change_on_either-slots-in-For.new.way) c.args.item.now
-    c.in-For.first c.in-For.test c.in-For.third c.in-For.a c.change_on_either-slots-in-For.new.first c.change_on_either-slots-in-For.new.second (sym c.replace.ensures.value ∙ c.in-For.is) k) c.change_on_either-slots-in-For.ensures
+    (λ gs k. for_row c.args.level c.args.counts.now c.change_on_either-slots-in-For.new.counts gs (reverse c.args.way.now)
+    (reverse c.change_on_either-slots-in-For.new.way) c.args.item.now
+    c.in-For.first c.in-For.test c.in-For.third c.in-For.a c.change_on_either-slots-in-For.new.first c.change_on_either-slots-in-For.new.second
+    (sym c.replace.ensures.value ∙ c.in-For.is) k) c.change_on_either-slots-in-For.ensures
 
 pub change_on_in-returns-in-Switch : goal.change_on_in-returns-in-Switch
 change_on_in-returns-in-Switch t c =
     if_ok_more c.change_on_sections-slots.result _ _
-    (λ gs k. switch_row c.args.level c.args.counts.now c.change_on_sections-slots.new.counts gs (reverse c.args.way.now) (reverse c.change_on_sections-slots.new.way) c.args.item.now
-    c.in-Switch.selector c.in-Switch.sections c.change_on_sections-slots.new.sections (sym c.replace.ensures.value ∙ c.in-Switch.is) k) c.change_on_sections-slots.ensures
+    (λ gs k. switch_row c.args.level c.args.counts.now c.change_on_sections-slots.new.counts gs (reverse c.args.way.now)
+    (reverse c.change_on_sections-slots.new.way) c.args.item.now
+    c.in-Switch.selector c.in-Switch.sections c.change_on_sections-slots.new.sections (sym c.replace.ensures.value ∙
+    c.in-Switch.is) k) c.change_on_sections-slots.ensures
 
 pub change_on_in-returns-in-Block : goal.change_on_in-returns-in-Block
 change_on_in-returns-in-Block t c =
     if_ok_more c.change_on-slots-in-Block.result _ _
-    (λ gs k. block_row c.args.level c.args.counts.now c.change_on-slots-in-Block.new.counts gs (reverse c.args.way.now) (reverse c.change_on-slots-in-Block.new.way) c.args.item.now
+    (λ gs k. block_row c.args.level c.args.counts.now c.change_on-slots-in-Block.new.counts gs (reverse c.args.way.now)
+    (reverse c.change_on-slots-in-Block.new.way) c.args.item.now
     c.in-Block.a c.change_on-slots-in-Block.new.list (sym c.replace.ensures.value ∙ c.in-Block.is) k) c.change_on-slots-in-Block.ensures
 
 pub change_on_in-returns-in_default : goal.change_on_in-returns-in_default

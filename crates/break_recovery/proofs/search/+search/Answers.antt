@@ -73,7 +73,8 @@ change_list-returns-then-is_some t c =
           (at_told f n m i xs c.loop-i.list s (trees_of ys) e q
           (c.in_ok-change.ensures.made f h (premise_at c.loop-i.sure f n m i xs c.loop-i.list (reverse c.loop-i.way) e q v.1))) v.0;
       kept = an_answer s o;
-      alike = said_more s c.change_at.new.sure (λ g. AreAlike c.args.counts.now g (trees_of c.loop-i.list) (trees_of ys)) (λ g. AreAlike c.args.counts.now g (trees_of xs) (trees_of ys))
+      alike = said_more s c.change_at.new.sure (λ g. AreAlike c.args.counts.now g (trees_of c.loop-i.list) (trees_of ys))
+          (λ g. AreAlike c.args.counts.now g (trees_of xs) (trees_of ys))
           (λ g. subst (λ zs. AreAlike c.args.counts.now g (trees_of zs) (trees_of ys)) q) c.in_ok-change.ensures.alike;
       way = λ g r f h d l z p.
           let v = c.loop-i.invariant.1 f d
@@ -196,7 +197,8 @@ change_within-returns t c =
           c.change_item.ensures.made;
       kept = if_ok_more c.change_item.result _ _ (λ it k i. ap (slice_set xs at) (k i) ∙ set_same xs at x c.at_mut.ensures.value) c.change_item.ensures.kept;
       alike = if_ok_more c.change_item.result _ _
-          (λ it k. said_more it sure (λ g. IsAlike c.args.counts.now g (tree_at x) (tree_at y)) (λ g. AreAlike c.args.counts.now g (trees_of xs) (trees_of (slice_set xs at y)))
+          (λ it k. said_more it sure (λ g. IsAlike c.args.counts.now g (tree_at x) (tree_at y))
+          (λ g. AreAlike c.args.counts.now g (trees_of xs) (trees_of (slice_set xs at y)))
           (λ g. alike_set c.args.counts.now g xs at x y c.requires.place e) k)
           c.change_item.ensures.alike;
       way = if_ok_both c.change_item.result _ _ _
@@ -233,7 +235,8 @@ change_either-returns-then-next_step-gt0 t c =
           second_alone f n a b r it u.0 (m f h u.1)) c.change_second.ensures.made;
       kept = if_ok_more c.change_second.result _ _ (λ it m e. (refl, m e)) c.change_second.ensures.kept;
       alike = if_ok_more c.change_second.result _ _
-          (λ it m. said_more it c.change_second.new.sure (λ g. AreAlike c.args.counts.now g b r) (λ g. AreAlikeOf c.args.counts.now g a b a r) (λ g q. inr (refl, q)) m)
+          (λ it m. said_more it c.change_second.new.sure (λ g. AreAlike c.args.counts.now g b r) (λ g. AreAlikeOf c.args.counts.now g a b a r)
+          (λ g q. inr (refl, q)) m)
           c.change_second.ensures.alike;
       way = if_ok_more c.change_second.result _ _
           (λ it m g e f h d l y p.
@@ -257,7 +260,8 @@ change_either-returns-then-is_some t c =
     record {
       made = λ f h p. first_changed f n a b r s (c.in_ok-change.ensures.made f h (step_in_first c.args.sure.now f n k v w a b z c.next_step.ensures p)) o;
       kept = an_answer s o;
-      alike = said_more s u (λ g. AreAlike c.args.counts.now g a r) (λ g. AreAlikeOf c.args.counts.now g a b r b) (λ g q. inl (q, refl)) c.in_ok-change.ensures.alike;
+      alike = said_more s u (λ g. AreAlike c.args.counts.now g a r) (λ g. AreAlikeOf c.args.counts.now g a b r b)
+          (λ g q. inl (q, refl)) c.in_ok-change.ensures.alike;
       way = λ g e f h d l y p. first_out u h n c.push.new.self c.change_list.new.way r b c.in_ok-push.ensures.ok
           (c.in_ok-change.ensures.way g e f h d l y (step_in_first c.args.sure.now f n k v w a b z c.next_step.ensures p));
     }
@@ -285,7 +289,8 @@ change_either-returns t c =
           c.change_second-2.ensures.made;
       kept = if_ok_more c.change_second-2.result _ _ (λ it m e. (q, m e)) c.change_second-2.ensures.kept;
       alike = if_ok_more c.change_second-2.result _ _
-          (λ it m. said_more it c.change_second-2.new.sure (λ g. AreAlike c.args.counts.now g b r) (λ g. AreAlikeOf c.args.counts.now g a b (trees_of c.change_list.new.list) r)
+          (λ it m. said_more it c.change_second-2.new.sure (λ g. AreAlike c.args.counts.now g b r)
+          (λ g. AreAlikeOf c.args.counts.now g a b (trees_of c.change_list.new.list) r)
           (λ g p. inr (ap trees_of q, p)) m) c.change_second-2.ensures.alike;
       way = if_ok_more c.change_second-2.result _ _
           (λ it m g e f h d l y p. subst (λ xs. IsWayOf c.change_second-2.new.sure h n u (trees_of xs) r) (sym q)
@@ -418,14 +423,16 @@ pub change_item-change_either-change-requires : goal.change_item-change_either-c
 change_item-change_either-change-requires t c = let n = of_if c.args.item.now c.in-If.test c.in-If.a c.in-If.b
     (sym c.replace.ensures.value ∙ c.in-If.is) in (
       omega (arith, n, c.decreases),
-      subst (AreWithin (count_in c.args.counts.now)) (ap tree_at (sym c.replace.ensures.value ∙ c.in-If.is) ∙ at-If c.in-If.test c.in-If.a c.in-If.b) c.requires,
+      subst (AreWithin (count_in c.args.counts.now)) (ap tree_at (sym c.replace.ensures.value ∙ c.in-If.is) ∙
+          at-If c.in-If.test c.in-If.a c.in-If.b) c.requires,
     )
 
 pub change_item-change_list-change-requires : goal.change_item-change_list-change-requires
 change_item-change_list-change-requires t c = let n = of_while c.args.item.now c.in-While.test c.in-While.a
     (sym c.replace.ensures.value ∙ c.in-While.is) in (
       omega (arith, n, c.decreases),
-      subst (AreWithin (count_in c.args.counts.now)) (ap tree_at (sym c.replace.ensures.value ∙ c.in-While.is) ∙ at-While c.in-While.test c.in-While.a) c.requires,
+      subst (AreWithin (count_in c.args.counts.now)) (ap tree_at (sym c.replace.ensures.value ∙ c.in-While.is) ∙
+          at-While c.in-While.test c.in-While.a) c.requires,
     )
 
 pub change_item-change_list-change-requires-in-Do : goal.change_item-change_list-change-requires-in-Do
@@ -438,14 +445,16 @@ pub change_item-change_either-change-requires-in-For : goal.change_item-change_e
 change_item-change_either-change-requires-in-For t c = let n = of_for c.args.item.now c.in-For.first c.in-For.test c.in-For.third c.in-For.a
     (sym c.replace.ensures.value ∙ c.in-For.is) in (
       omega (arith, n, c.decreases),
-      subst (AreWithin (count_in c.args.counts.now)) (ap tree_at (sym c.replace.ensures.value ∙ c.in-For.is) ∙ at-For c.in-For.first c.in-For.test c.in-For.third c.in-For.a) c.requires,
+      subst (AreWithin (count_in c.args.counts.now)) (ap tree_at (sym c.replace.ensures.value ∙ c.in-For.is) ∙
+          at-For c.in-For.first c.in-For.test c.in-For.third c.in-For.a) c.requires,
     )
 
 pub change_item-change_sections-change-requires : goal.change_item-change_sections-change-requires
 change_item-change_sections-change-requires t c = let n = of_switch c.args.item.now c.in-Switch.selector c.in-Switch.sections
     (sym c.replace.ensures.value ∙ c.in-Switch.is) in (
       omega (arith, n, c.decreases),
-      subst (AreWithin (count_in c.args.counts.now)) (ap tree_at (sym c.replace.ensures.value ∙ c.in-Switch.is) ∙ at-Switch c.in-Switch.selector c.in-Switch.sections) c.requires,
+      subst (AreWithin (count_in c.args.counts.now)) (ap tree_at (sym c.replace.ensures.value ∙ c.in-Switch.is) ∙
+          at-Switch c.in-Switch.selector c.in-Switch.sections) c.requires,
     )
 
 pub change_item-change_list-change-requires-in-Block : goal.change_item-change_list-change-requires-in-Block
@@ -496,7 +505,8 @@ change_item-returns-in-While t c =
           c.change_list-change.ensures.made;
       kept = if_ok_more c.change_list-change.result _ _ (λ it k d. ap (While c.in-While.test) (k d) ∙ sym e) c.change_list-change.ensures.kept;
       alike = if_ok_more c.change_list-change.result _ _
-          (λ it k. said_more it c.change_list-change.new.sure (λ g. AreAlike c.args.counts.now g (trees_of c.in-While.a) (trees_of c.change_list-change.new.list))
+          (λ it k. said_more it c.change_list-change.new.sure
+          (λ g. AreAlike c.args.counts.now g (trees_of c.in-While.a) (trees_of c.change_list-change.new.list))
           (λ g. IsAlike c.args.counts.now g (tree_at x) (tree_at (While c.in-While.test c.change_list-change.new.list)))
           (λ g. while_is_alike c.args.counts.now g x c.in-While.test c.in-While.a c.change_list-change.new.list e) k)
           c.change_list-change.ensures.alike;
@@ -582,7 +592,8 @@ change_item-returns-in-Switch t c =
           c.change_sections-change.ensures.kept;
       alike = if_ok_more c.change_sections-change.result _ _
           (λ it k. said_more it c.change_sections-change.new.sure (λ g. AreSectionsAlike c.args.counts.now g (sections_of c.in-Switch.sections) (sections_of r))
-          (λ g. IsAlike c.args.counts.now g (tree_at x) (tree_at (Switch c.in-Switch.selector r))) (λ g. switch_is_alike c.args.counts.now g x c.in-Switch.selector c.in-Switch.sections r e) k)
+          (λ g. IsAlike c.args.counts.now g (tree_at x) (tree_at (Switch c.in-Switch.selector r)))
+          (λ g. switch_is_alike c.args.counts.now g x c.in-Switch.selector c.in-Switch.sections r e) k)
           c.change_sections-change.ensures.alike;
       way = if_ok_more c.change_sections-change.result _ _
           (λ it k g u f h d l z p. switch_out c.change_sections-change.new.sure h n w c.in-Switch.selector r

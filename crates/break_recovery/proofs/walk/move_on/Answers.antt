@@ -21,7 +21,8 @@ returns c =
       place = refl;
       behind = (
         omega arith,
-        subst (SameBehind (w.next + 1) xs) (sym c.set.ensures) (set_both (w.next + 1) w.next (w.at + 1) xs b z (omega arith) (omega (arith, c.requires.within))),
+        subst (SameBehind (w.next + 1) xs) (sym c.set.ensures)
+            (set_both (w.next + 1) w.next (w.at + 1) xs b z (omega arith) (omega (arith, c.requires.within))),
       );
       same = ap (closed (w.at + 1) (w.next + 1)) c.set.ensures ∙ closed_moved w.at w.next xs z b c.requires.within.0 e;
     }

@@ -1,5 +1,6 @@
 use Rattle.std.proofs.Common.{◌∙◌, ◌+◌, ◌++◌, ◌∷◌, [], None, false, append_assoc, ap, sym, drop, arith}
 use Rattle.std.proofs.lemmas.Result.{on_ok_weaker, IfOk-weaker}
+use Rattle.c_tree.specs.SectionLabels.{labels_passed}
 use Rattle.c_bodies.specs.Steps.{sections_behind, section_item_faults, section_faults}
 use Rattle.c_bodies.specs.Views.{around_of, context_of, walk_of, left}
 use Rattle.c_bodies.proofs.Constructs.{if_items, while_items, for_items, switch_items}
@@ -14,7 +15,7 @@ use Rattle.c_statements.specs.Cases.{item_entries, plain_entries, body_entries, 
 use Rattle.c_statements.specs.Context.{env_at, enter, in_loop, in_switch, notes_at}
 use Rattle.c_statements.specs.Labels.{labels_items}
 use Rattle.c_statements.specs.Nodes.{items_of}
-use Rattle.c_statements.specs.Sections.{front, passed_on}
+use Rattle.c_statements.specs.Sections.{front}
 use Rattle.c_statements.specs.Statements.{behind_item, behind_items, behind_body, item_items, plain_items, list_items, body_items, switch_sections, sections_from, outside_items}
 use Rattle.c_statements.specs.Violations.{item_faults, body_faults, list_faults, outside_faults, switch_body_faults}
 use Rattle.c_bodies.proofs.walk.+walk.Goals as goal
@@ -429,18 +430,18 @@ add_switch-returns-in-Ok-clause-faults t c =
 
 pub switch_of-returns-clause-walk : goal.switch_of-returns-clause-walk
 switch_of-returns-clause-walk t c =
-    whatever c.passed_on.result (c.put_cases.ensures.walk ∙ c.in_ok-report_switch.ensures.walk ∙ c.in_ok-ss.ensures.walk ∙
+    whatever c.labels_passed.result (c.put_cases.ensures.walk ∙ c.in_ok-report_switch.ensures.walk ∙ c.in_ok-ss.ensures.walk ∙
     ap (behind_body (context_of c.args.ctx.now) (body_of (words_of c.args.ctx.now.words) c.args.b.now)) c.take_cases-outer.ensures.walk)
 
 pub switch_of-returns-clause-value : goal.switch_of-returns-clause-value
 switch_of-returns-clause-value t c =
-    IfOk-weaker c.passed_on.result _ _ (λ ss h. h ∙ ap (passed_on [] false)
+    IfOk-weaker c.labels_passed.result _ _ (λ ss h. h ∙ ap labels_passed
     (c.in_ok-ss.ensures.value ∙ ap (switch_sections (context_of c.args.ctx.now) (body_of (words_of c.args.ctx.now.words) c.args.b.now))
-    c.take_cases-outer.ensures.walk)) c.passed_on.ensures
+    c.take_cases-outer.ensures.walk)) c.labels_passed.ensures
 
 pub switch_of-returns-clause-faults : goal.switch_of-returns-clause-faults
 switch_of-returns-clause-faults t c =
-    whatever c.passed_on.result (c.put_cases.ensures.faults ∙ c.in_ok-report_switch.ensures.faults ∙
+    whatever c.labels_passed.result (c.put_cases.ensures.faults ∙ c.in_ok-report_switch.ensures.faults ∙
     (λ i. switch_faults c.args.kind ((c.in_ok-ss.ensures.cases ∙
     (λ j. body_entries (context_of c.args.ctx.now) (body_of (words_of c.args.ctx.now.words) c.args.b.now) (c.take_cases-outer.ensures.walk j)
     (c.take_cases-outer.ensures.cases j))) i)

@@ -22,14 +22,14 @@ decreases-target l = 4 * weight l.x.now
 abbrev pub decreases-prefix : goal.decreases-prefix
 decreases-prefix l = 4 * weight l.a.now + 2
 
-abbrev pub decreases-joined : goal.decreases-joined
-decreases-joined l = 4 * weight l.a.now + 4 * (weight l.b.now - weight l.a.now) + 2
+abbrev pub decreases-typed_binary : goal.decreases-typed_binary
+decreases-typed_binary l = 4 * weight l.a.now + 4 * (weight l.b.now - weight l.a.now) + 2
 
 abbrev pub decreases-assigned : goal.decreases-assigned
 decreases-assigned l = 4 * weight l.t.now + 4 * (weight l.a.now - weight l.t.now) + 2
 
-abbrev pub decreases-chosen : goal.decreases-chosen
-decreases-chosen l = 4 * weight l.a.now + 4 * (weight l.b.now - weight l.a.now) + 4 * (weight l.c.now -
+abbrev pub decreases-typed_choice : goal.decreases-typed_choice
+decreases-typed_choice l = 4 * weight l.a.now + 4 * (weight l.b.now - weight l.a.now) + 4 * (weight l.c.now -
     (weight l.a.now + (weight l.b.now - weight l.a.now))) + 2
 
 abbrev pub decreases-behind_left : goal.decreases-behind_left
@@ -44,8 +44,8 @@ decreases-sequence l = 4 * weight l.a.now + 4 * (weights l.parts.now - weight l.
 abbrev pub decreases-give : goal.decreases-give
 decreases-give l = 4 * weight l.x.now + 1
 
-abbrev pub decreases-given : goal.decreases-given
-decreases-given l = 4 * weights l.parts.now + 2
+abbrev pub decreases-arguments_given : goal.decreases-arguments_given
+decreases-arguments_given l = 4 * weights l.parts.now + 2
 
 abbrev pub invariant-commas-loop-x : goal.invariant-commas-loop-x
 invariant-commas-loop-x l = record {
@@ -54,8 +54,8 @@ invariant-commas-loop-x l = record {
       l.initial.faults;
 }
 
-abbrev pub invariant-given-loop-x : goal.invariant-given-loop-x
-invariant-given-loop-x l = record {
+abbrev pub invariant-arguments_given-loop-x : goal.invariant-arguments_given-loop-x
+invariant-arguments_given-loop-x l = record {
   value : l.out ++ given (env_of l.known) (terms l.known (drop l.x-index l.parts)) ≡ given (env_of l.known) (terms l.known l.parts);
   faults : given_faults (env_of l.known) (terms l.known (drop l.x-index l.parts)) l.faults ≡ given_faults (env_of l.known) (terms l.known l.parts)
       l.initial.faults;

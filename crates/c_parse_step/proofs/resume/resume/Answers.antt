@@ -22,7 +22,7 @@ pub returns : goal.returns
 returns c = (
   c.loop-want.invariant.goes
       ∙ resumes_ended c.loop-want.form c.loop-want.stack c.args.class c.args.at c.in_default.ensures.0
-      ∙ ap (λ v. spec.give c.loop-want.stack (Whole v) c.args.class c.args.at) (sym c.ended.ensures)
-      ∙ ap (λ z. spec.give z (Whole c.ended.result) c.args.class c.args.at) c.loop-want.invariant.same,
+      ∙ ap (λ v. spec.give c.loop-want.stack (Whole v) c.args.class c.args.at) (sym c.finished_node.ensures)
+      ∙ ap (λ z. spec.give z (Whole c.finished_node.result) c.args.class c.args.at) c.loop-want.invariant.same,
   c.loop-want.invariant.same,
 )

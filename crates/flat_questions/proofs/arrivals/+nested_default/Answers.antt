@@ -1,10 +1,10 @@
 use Rattle.std.proofs.Common.{◌||◌, refl, sym, ap, ◌∙◌}
 use Rattle.c_tree.specs.Trees.{Tree, Forest, trees_of}
 use Rattle.flat_laws.specs.Parts.{arrivals, arrivals_in, has_default}
+use Rattle.flat_laws.proofs.LooserItems.{default_append}
 use Rattle.c_tree.specs.Views.{tree_at}
 use Rattle.c_tree.proofs.Views.{at-If}
 use Rattle.c_tree.proofs.Searches.{found, passed, missed}
-use Rattle.flat_questions.proofs.Steps.{default_append}
 use Rattle.flat_questions.proofs.arrivals.+nested_default.Goals as goal
 
 pub items_have_default-returns-then-is_default_in : goal.items_have_default-returns-then-is_default_in

@@ -1,7 +1,7 @@
-use Rattle.std.proofs.Common.{◌++◌, map, sym, ap, ◌∙◌, append_assoc, drop, ◌+◌}
+use Rattle.std.proofs.Common.{◌++◌, map, sym, ap, ◌∙◌, append_assoc, drop, ◌+◌, append-nil}
 use Rattle.c_tree.specs.Cases.{case_number, case_numbers}
 use Rattle.c_tree.specs.Trees.{expression_trees, sections_of}
-use Rattle.inward_moves.proofs.CaseLemmas.{numbers-more, numbers-all, append_nil}
+use Rattle.inward_moves.proofs.CaseLemmas.{numbers-more, numbers-all}
 use Rattle.inward_moves.proofs.numbers.case_numbers.Goals as goal
 
 pub loop-section-preserved : goal.loop-section-preserved
@@ -19,6 +19,6 @@ loop-section-preserved c =
 
 pub returns : goal.returns
 returns c =
-    sym (append_nil c.loop-section.numbers.items)
+    sym (append-nil c.loop-section.numbers.items)
     ∙ ap (λ a. c.loop-section.numbers.items ++ a) (sym (numbers-all c.args.kind c.args.sections.now c.loop-section.section-index c.loop-section-test.false))
     ∙ c.loop-section.invariant

@@ -1,7 +1,7 @@
 use Rattle.std.proofs.Common.{subst, arith, All}
 use Rattle.std.proofs.lemmas.List.Elements.{All-more}
+use Rattle.print_limits.proofs.Measures.{taken}
 use Rattle.restructure_laws.specs.Replayed.{IsTopLeapless}
-use Rattle.move_replay.proofs.MovesMade.{taken}
 use Rattle.move_replay.proofs.all_moves.leap_left.Goals as goal
 
 pub loop-i-preserved : goal.loop-i-preserved

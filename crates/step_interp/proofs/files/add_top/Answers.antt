@@ -4,8 +4,9 @@ use Rattle.std.specs.Cmp.Lexicographic.{slice_cmp}
 use Rattle.std.specs.Ordering.{nat_cmp}
 use Rattle.std.specs.Str.{bytes_eq}
 use Rattle.std.proofs.lemmas.Map.Text.{btree_map_updates_str}
+use Rattle.std.proofs.lemmas.List.{map_push}
 use Rattle.step_interp.specs.Files.{has_name, HasFile, HasPlaces}
-use Rattle.step_interp.proofs.FileLemmas.{added, skipped, map_push, place_added}
+use Rattle.step_interp.proofs.FileLemmas.{added, skipped, place_added}
 use Rattle.step_interp.proofs.files.add_top.Goals as goal
 
 pub returns-then-contains_key-clause-file : goal.returns-then-contains_key-clause-file

@@ -103,10 +103,10 @@ returns-clause-ok c =
     let t3 : bytes_eq m (codes "printf") ≡ false = same (codes "printf") ∙ sym c.if-eq-3.ensures in
     let t4 : bytes_eq m (codes "exit") ≡ false = same (codes "exit") ∙ sym c.if-eq-4.ensures in
     let t5 : bytes_eq m (codes "abort") ≡ false = same (codes "abort") ∙ sym c.if-eq-5.ensures in
-    IfOk-weaker c.declared.result (λ next. (n : List ℕ) (f : FunctionTree) (us : List Value) → c.args.gives ≡ is_some f.result →
-    SettlesQuietly ⊥ (call_declared n f us) old next c.declared.new.machine)
+    IfOk-weaker c.without_answer.result (λ next. (n : List ℕ) (f : FunctionTree) (us : List Value) → c.args.gives ≡ is_some f.result →
+    SettlesQuietly ⊥ (call_declared n f us) old next c.without_answer.new.machine)
     (λ next. (f : FunctionTree) → c.args.gives ≡ is_some f.result → SettlesQuietly (m ≡ codes "getchar") (call_without_body m f vs) old next
-    c.declared.new.machine)
-    (λ next k f e w h. quietly_weaker ⊥ (m ≡ codes "getchar") (settled old (call_without_body m f vs w)) w next c.declared.new.machine (λ b. absurd b)
-    (subst (λ o. QuietlyReaches ⊥ (settled old o) w next c.declared.new.machine) (sym (is_none m f vs w t1 t2 t3 t4 t5)) (k m f vs e w h)))
-    c.declared.ensures.ok
+    c.without_answer.new.machine)
+    (λ next k f e w h. quietly_weaker ⊥ (m ≡ codes "getchar") (settled old (call_without_body m f vs w)) w next c.without_answer.new.machine (λ b. absurd b)
+    (subst (λ o. QuietlyReaches ⊥ (settled old o) w next c.without_answer.new.machine) (sym (is_none m f vs w t1 t2 t3 t4 t5)) (k m f vs e w h)))
+    c.without_answer.ensures.ok

@@ -1,7 +1,6 @@
-use Rattle.std.proofs.Common.{◌≡◌, ◌+◌, ◌≤◌, arith}
+use Rattle.std.proofs.Common.{◌≡◌, ◌+◌, ◌≤◌, arith, le-ltb}
 use Rattle.jump_meaning.specs.Code.{cells_of, global_cells}
 use Rattle.jump_meaning.specs.World.{most_cells}
-use Rattle.step_interp.proofs.EnterLemmas.{not_over}
 use Rattle.step_interp.proofs.StartLemmas.{begins}
 use Rattle.step_interp.proofs.starts.start.Goals as goal
 
@@ -20,6 +19,6 @@ returns c =
       ok = λ a. let r = c.in-Some.ensures p a in (
         b.program,
         λ input. begins p t c.args.name.now f ls c.args.arguments.now cells
-            c.in_ok-machine.machine input r.0 r.1.named sum (not_over most_cells cells few) a r.1.labels b,
+            c.in_ok-machine.machine input r.0 r.1.named sum (le-ltb most_cells cells few) a r.1.labels b,
       );
     }

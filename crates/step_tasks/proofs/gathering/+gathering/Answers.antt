@@ -1,6 +1,6 @@
 use Rattle.std.proofs.Common.{◌∷◌, ◌+◌, ◌-◌, length, take, drop, Some, None, cond, eqb, ap, sym, ◌∙◌, arith}
 use Rattle.std.proofs.lemmas.Result.{on_ok_weaker}
-use Rattle.std.proofs.lemmas.List.{drop_all}
+use Rattle.std.proofs.lemmas.List.{drop_all, take_rest}
 use Rattle.c_tree.specs.Trees.{tree_of, trees_of, section_tree, sections_of}
 use Rattle.c_tree.proofs.TreeLaws.{tree-If, tree-While, tree-Do, tree-For, tree-Switch, tree-Block, tree-Mark, tree-Land, section-parts}
 use Rattle.jump_meaning.specs.Search.{ToLabel, is_goal, or_else, seek, seek_in, seek_sections}
@@ -8,7 +8,7 @@ use Rattle.jump_meaning.specs.Tasks.{EndsSection, items, end_of, tail_tasks}
 use Rattle.step_tasks.specs.declared.work.Work.TheVariants.{Items, Tail}
 use Rattle.step_tasks.specs.Tasks.{loop_of}
 use Rattle.step_tasks.proofs.LabelLemmas.{nothing_added, added_as, both_added, added_above, all_left, one_less, none_left}
-use Rattle.step_tasks.proofs.SearchLemmas.{no_lists, no_mark, from_place, among, past_last, past_sections, whole}
+use Rattle.step_tasks.proofs.SearchLemmas.{no_lists, no_mark, from_place, among, past_last, past_sections}
 use Rattle.step_tasks.proofs.gathering.+gathering.Goals as goal
 
 pub gather_before-returns : goal.gather_before-returns
@@ -172,9 +172,9 @@ gather-loop-at-preserved t c =
     (seek_in (ToLabel m) (tree_of x) (items (trees_of (drop (at + 1) xs)) k)))
     c.loop-at.labels c.gather_item.new.labels
     (λ k m. ap (λ ys. cond (is_goal (ToLabel m) (tree_of x)) (Some (items (trees_of ys) k))
-    (seek_in (ToLabel m) (tree_of x) (items (trees_of (take (length xs - (at + 1)) (drop (at + 1) xs))) k))) (whole xs at)
+    (seek_in (ToLabel m) (tree_of x) (items (trees_of (take (length xs - (at + 1)) (drop (at + 1) xs))) k))) (take_rest xs at)
     ∙ ap (λ ys. cond (is_goal (ToLabel m) (tree_of x)) (Some (items (trees_of (drop at xs)) k))
-    (seek_in (ToLabel m) (tree_of x) (items (trees_of ys) k))) (whole xs (at + 1)))
+    (seek_in (ToLabel m) (tree_of x) (items (trees_of ys) k))) (take_rest xs (at + 1)))
     c.in_ok-gather_item.ensures)
     (λ k m. from_place (ToLabel m) xs at x k c.loop-at-test.true c.index-list-at.is)
 
@@ -202,7 +202,7 @@ gather_sections-loop-at-preserved t c =
     (end_of s.ends (tail_tasks (sections_of (take (length cs - (at + 1)) (drop (at + 1) cs))) k)))
     (λ k m. seek (ToLabel m) s.list (end_of s.ends (tail_tasks (sections_of (drop (at + 1) cs)) k)))
     c.loop-at.labels c.gather_section.new.labels
-    (λ k m. ap (λ ys. seek (ToLabel m) s.list (end_of s.ends (tail_tasks (sections_of ys) k))) (whole cs (at + 1)))
+    (λ k m. ap (λ ys. seek (ToLabel m) s.list (end_of s.ends (tail_tasks (sections_of ys) k))) (take_rest cs (at + 1)))
     (added_above c.args.below c.in_ok-level.level (Tail _) (λ k m. seek (ToLabel m) s.list (end_of s.ends k)) c.loop-at.labels c.put.new.labels
     c.gather_section.new.labels c.in_ok-level.ensures c.in_ok-gather_section.ensures))
     (λ k m. among (ToLabel m) cs at x k c.loop-at-test.true c.index-sections-at.is)

@@ -76,7 +76,8 @@ returns-in-Block c = record {
   ok = on_ok_weaker c.add_items-in-Block.result
       (λ p. goes_as Runs (tree_of c.args.item.now) _ c.args.tasks.now c.add_items-in-Block.new.tasks
       (ap tree_of c.in-Block.is ∙ tree-Block c.in-Block.a)
-      (λ b g. ap Goes (sym (p ∙ ap (λ xs. items (trees_of xs) (tasks_of c.args.tasks.now)) c.as_slice-in-Block.ensures.value)))) c.add_items-in-Block.ensures.ok;
+      (λ b g. ap Goes (sym (p ∙ ap (λ xs. items (trees_of xs)
+      (tasks_of c.args.tasks.now)) c.as_slice-in-Block.ensures.value)))) c.add_items-in-Block.ensures.ok;
 }
 
 pub returns-in-Break : goal.returns-in-Break

@@ -1,6 +1,6 @@
 use Rattle.std.proofs.Common.{◌∷◌, ◌+◌, drop, Some, refl, ap, sym, ◌∙◌, subst, arith}
 use Rattle.std.proofs.lemmas.Result.{IfOk-weaker}
-use Rattle.std.proofs.lemmas.List.{drop_all}
+use Rattle.std.proofs.lemmas.List.{drop_all, take_rest}
 use Rattle.c_tree.specs.TestTrees.{selector_tree}
 use Rattle.c_tree.specs.Trees.{tree_of, trees_of, sections_of}
 use Rattle.c_tree.proofs.TreeLaws.{tree-If, tree-While, tree-Do, tree-For, tree-Switch, tree-Block}
@@ -8,7 +8,7 @@ use Rattle.jump_meaning.specs.Search.{or_else, seek, seek_in}
 use Rattle.jump_meaning.specs.Tasks.{items}
 use Rattle.step_tasks.specs.Controls.{goal_of, Sought}
 use Rattle.step_tasks.specs.Tasks.{loop_of, tasks_of}
-use Rattle.step_tasks.proofs.SearchLemmas.{no_lists, is_here, is_inside, is_later, past_last, sought_as, no_switch, sought_true, sought_false, whole}
+use Rattle.step_tasks.proofs.SearchLemmas.{no_lists, is_here, is_inside, is_later, past_last, sought_as, no_switch, sought_true, sought_false}
 use Rattle.step_tasks.proofs.search.+search.Goals as goal
 
 pub seek-returns-then-is_goal : goal.seek-returns-then-is_goal
@@ -17,7 +17,7 @@ seek-returns-then-is_goal t c = record {
       ∙ is_here (goal_of c.args.goal.now) c.args.list.now c.loop-at.at c.index-list-at.result (tasks_of c.args.tasks.now) c.loop-at-test.true
       c.index-list-at.is (sym c.is_goal.ensures ∙ c.if-is_goal.true)
       ∙ ap Some (sym (ap tasks_of c.in_ok-push.ensures.ok ∙ ap (λ xs. items (trees_of xs) (tasks_of c.loop-at.tasks))
-      (whole c.args.list.now c.loop-at.at) ∙ ap (λ ts. items (trees_of (drop c.loop-at.at c.args.list.now)) (tasks_of ts)) c.loop-at.invariant.tasks));
+      (take_rest c.args.list.now c.loop-at.at) ∙ ap (λ ts. items (trees_of (drop c.loop-at.at c.args.list.now)) (tasks_of ts)) c.loop-at.invariant.tasks));
 }
 
 pub seek-returns-then-branch : goal.seek-returns-then-branch
@@ -30,7 +30,7 @@ seek-returns-then-branch t c =
           (ap (λ ts. seek_in (goal_of c.args.goal.now) (tree_of c.index-list-at.result)
           (items (trees_of (drop (c.loop-at.at + 1) c.args.list.now)) (tasks_of ts))) (sym c.loop-at.invariant.tasks)
           ∙ ap (λ xs. seek_in (goal_of c.args.goal.now) (tree_of c.index-list-at.result) (items (trees_of xs) (tasks_of c.loop-at.tasks)))
-          (sym (whole c.args.list.now (c.loop-at.at + 1))) ∙ h);
+          (sym (take_rest c.args.list.now (c.loop-at.at + 1))) ∙ h);
     }
 
 pub seek-loop-at-preserved : goal.seek-loop-at-preserved
@@ -43,7 +43,7 @@ seek-loop-at-preserved t c =
           (ap (λ ts. seek_in (goal_of c.args.goal.now) (tree_of c.index-list-at.result)
           (items (trees_of (drop (c.loop-at.at + 1) c.args.list.now)) (tasks_of ts))) (sym c.loop-at.invariant.tasks)
           ∙ ap (λ xs. seek_in (goal_of c.args.goal.now) (tree_of c.index-list-at.result) (items (trees_of xs) (tasks_of c.loop-at.tasks)))
-          (sym (whole c.args.list.now (c.loop-at.at + 1))) ∙ h.0))
+          (sym (take_rest c.args.list.now (c.loop-at.at + 1))) ∙ h.0))
           ∙ c.loop-at.invariant.found;
     }
 

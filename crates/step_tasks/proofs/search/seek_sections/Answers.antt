@@ -1,11 +1,11 @@
 use Rattle.std.proofs.Common.{◌+◌, drop, Some, ap, sym, ◌∙◌, arith}
-use Rattle.std.proofs.lemmas.List.{drop_all}
+use Rattle.std.proofs.lemmas.List.{drop_all, take_rest}
 use Rattle.c_tree.specs.Trees.{section_tree, sections_of}
 use Rattle.jump_meaning.specs.Search.{seek}
 use Rattle.jump_meaning.specs.Tasks.{end_of, tail_tasks}
 use Rattle.step_tasks.specs.Controls.{goal_of}
 use Rattle.step_tasks.specs.Tasks.{tasks_of}
-use Rattle.step_tasks.proofs.SearchLemmas.{section_here, section_inside, section_later, past_sections, sought_true, sought_false, whole}
+use Rattle.step_tasks.proofs.SearchLemmas.{section_here, section_inside, section_later, past_sections, sought_true, sought_false}
 use Rattle.step_tasks.proofs.TopLemmas.{popped_back}
 use Rattle.step_tasks.proofs.search.seek_sections.Goals as goal
 
@@ -15,7 +15,7 @@ returns-then-is_section_goal c = record {
       ∙ section_here (goal_of c.args.goal.now) c.args.sections.now c.loop-at.at c.index-sections-at.result (tasks_of c.args.tasks.now)
       c.loop-at-test.true c.index-sections-at.is (sym c.is_section_goal.ensures ∙ c.if-is_section_goal.true)
       ∙ ap Some (sym (ap tasks_of c.in_ok-push.ensures.ok ∙ ap (λ xs. tail_tasks (sections_of xs) (tasks_of c.loop-at.tasks))
-      (whole c.args.sections.now c.loop-at.at) ∙ ap (λ ts. tail_tasks (sections_of (drop c.loop-at.at c.args.sections.now)) (tasks_of ts))
+      (take_rest c.args.sections.now c.loop-at.at) ∙ ap (λ ts. tail_tasks (sections_of (drop c.loop-at.at c.args.sections.now)) (tasks_of ts))
       c.loop-at.invariant.tasks));
 }
 
@@ -31,7 +31,7 @@ returns-then-branch c =
           (end_of s.ends (tail_tasks (sections_of (drop (c.loop-at.at + 1) c.args.sections.now)) (tasks_of ts)))) (sym c.loop-at.invariant.tasks)
           ∙ ap (λ xs. let s = section_tree c.index-sections-at.result in
           seek (goal_of c.args.goal.now) s.list (end_of s.ends (tail_tasks (sections_of xs) (tasks_of c.loop-at.tasks))))
-          (sym (whole c.args.sections.now (c.loop-at.at + 1)))
+          (sym (take_rest c.args.sections.now (c.loop-at.at + 1)))
           ∙ ap (λ ts. let s = section_tree c.index-sections-at.result in seek (goal_of c.args.goal.now) s.list (end_of s.ends (tasks_of ts)))
           (sym c.in_ok-push-2.ensures.ok) ∙ h);
     }
@@ -49,7 +49,7 @@ loop-at-preserved c =
           (end_of s.ends (tail_tasks (sections_of (drop (c.loop-at.at + 1) c.args.sections.now)) (tasks_of ts)))) (sym c.loop-at.invariant.tasks)
           ∙ ap (λ xs. let s = section_tree c.index-sections-at.result in
           seek (goal_of c.args.goal.now) s.list (end_of s.ends (tail_tasks (sections_of xs) (tasks_of c.loop-at.tasks))))
-          (sym (whole c.args.sections.now (c.loop-at.at + 1)))
+          (sym (take_rest c.args.sections.now (c.loop-at.at + 1)))
           ∙ ap (λ ts. let s = section_tree c.index-sections-at.result in seek (goal_of c.args.goal.now) s.list (end_of s.ends (tasks_of ts)))
           (sym c.in_ok-push-2.ensures.ok) ∙ h.0))
           ∙ c.loop-at.invariant.found;

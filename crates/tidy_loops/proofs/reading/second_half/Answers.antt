@@ -1,9 +1,8 @@
 use Rattle.std.proofs.Common.{sym, ap, ◌∙◌}
 use Rattle.c_tree.specs.TestTrees.{Source}
 use Rattle.tidy_loops.specs.Views.{test_at}
-use Rattle.tidy_loops.proofs.FormLaws.{expression_same}
+use Rattle.tidy_loops.proofs.FormLaws.{expression_same, at_source}
 use Rattle.tidy_loops.specs.Slots.{second_half}
-use Rattle.tidy_loops.proofs.Read.{at_source}
 use Rattle.tidy_loops.proofs.reading.second_half.Goals as goal
 
 pub returns-in-Source : goal.returns-in-Source

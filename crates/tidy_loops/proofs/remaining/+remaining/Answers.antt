@@ -140,7 +140,8 @@ behind_item-returns-then-selector_names t c =
     let e = ap (item_exits c.args.tail g) f ∙ in_loop c.args.tail (checks_within g a) in
     let n = ap (item_count g) f in
     let m = checks_within_most g a in
-    let s = some_named (selector_count g u) c.selector_names.result (selector_lacks g u) c.selector_names.ensures (none_selector g u) c.if-selector_names.true in
+    let s = some_named (selector_count g u) c.selector_names.result (selector_lacks g u) c.selector_names.ensures
+    (none_selector g u) c.if-selector_names.true in
     omega (arith, e, n, m, s)
 
 pub behind_item-returns-else-selector_names : goal.behind_item-returns-else-selector_names

@@ -7,12 +7,13 @@ use Rattle.c_tree.specs.Trees.{trees_of, sections_of}
 use Rattle.c_tree.specs.Views.{tree_at}
 use Rattle.tidy_laws.specs.Changes.{inner_sections}
 use Rattle.tidy_slots.specs.Counts.{item_count, sections_count}
+use Rattle.tidy_slots.proofs.LoopLaws.{refilled_same}
 use Rattle.tidy_loops.specs.Exits.{jump_of, checks_within}
 use Rattle.tidy_loops.specs.Remaining.{exits_within, item_exits}
 use Rattle.tidy_loops.specs.Rewritten.{list_rewritten, each_rewritten, item_rewritten}
 use Rattle.tidy_loops.proofs.Giving.{rewritten_given}
 use Rattle.tidy_loops.proofs.Unnamed.{list_unnamed, within_most}
-use Rattle.tidy_loops.proofs.InPlace.{item_change, section_change, none_made, one_left, one_made, all_made, all_left, item_made, item_left, alone, section_made, section_left, refilled_same, list_made}
+use Rattle.tidy_loops.proofs.InPlace.{item_change, section_change, none_made, one_left, one_made, all_made, all_left, item_made, item_left, alone, section_made, section_left, list_made}
 use Rattle.tidy_loops.proofs.tails.+rewrite.Goals as goal
 
 pub rewrite_items-items-init : goal.rewrite_items-items-init

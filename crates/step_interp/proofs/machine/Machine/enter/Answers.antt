@@ -1,4 +1,4 @@
-use Rattle.std.proofs.Common.{◌≡◌, ◌≤◌, ◌+◌, ◌∷◌, suc, nat_lt, cond, All, Ok, Err, refl, ap, sym, ◌∙◌, subst, arith}
+use Rattle.std.proofs.Common.{◌≡◌, ◌≤◌, ◌+◌, ◌∷◌, suc, nat_lt, cond, All, Ok, Err, refl, ap, sym, ◌∙◌, subst, arith, le-ltb}
 use Rattle.c_types.specs.declared.trap.Trap.{Trap}
 use Rattle.jump_meaning.specs.Code.{function_tree, cells_of}
 use Rattle.jump_meaning.specs.Step.{begin_call}
@@ -10,7 +10,7 @@ use Rattle.step_tasks.specs.Controls.{body_of}
 use Rattle.step_tasks.specs.Tasks.{tasks_of}
 use Rattle.step_tasks.specs.Labels.{AreLabelsOf}
 use Rattle.step_interp.specs.Machines.{IsFunctionOf, IsCallOf, frames_of}
-use Rattle.step_interp.proofs.EnterLemmas.{state_at, all_more, not_over}
+use Rattle.step_interp.proofs.EnterLemmas.{state_at, all_more}
 use Rattle.step_interp.proofs.machine.Machine.enter.Goals as goal
 
 pub returns-clause-ok : goal.returns-clause-ok
@@ -34,9 +34,9 @@ returns-clause-ok c k a w h =
       world = enter_call f vs w;
       same = ap (λ b. begin_call c.args.function.now.name (body_of c.args.function.now)
           (cond b (Err Trap.Calls) (cond (nat_lt most_cells (w.cells + cells_of f.slots)) (Err Trap.Cells) (Ok (enter_call f vs w)))) fs w)
-          (not_over most_calls (suc w.calls) few)
+          (le-ltb most_calls (suc w.calls) few)
           ∙ ap (λ b. begin_call c.args.function.now.name (body_of c.args.function.now) (cond b (Err Trap.Cells) (Ok (enter_call f vs w))) fs w)
-          (not_over most_cells (w.cells + cells_of f.slots) fits)
+          (le-ltb most_cells (w.cells + cells_of f.slots) fits)
           ∙ state_at n (enter_call f vs w) c.args.function.now.name (body_of c.args.function.now) fs
           (ap (λ x. x.function.now.name) made ∙ ap (λ g. g.name) c.in_ok-call.ensures.function) (ap (λ x. x.guards) made ∙ c.in_ok-call.ensures.guards)
           (ap (λ x. tasks_of x.tasks) made ∙ c.in_ok-call.ensures.tasks) (ap (λ x. x.values) made ∙ c.in_ok-call.ensures.values) frames;

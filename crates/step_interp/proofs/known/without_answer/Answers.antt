@@ -2,7 +2,7 @@ use Rattle.std.proofs.Common.{◌∙◌, sym, ap, refl}
 use Rattle.step_memory.specs.Stores.{names_of}
 use Rattle.step_memory.specs.Values.{values_of}
 use Rattle.step_interp.proofs.SettledLemmas.{declared_gives, declared_traps}
-use Rattle.step_interp.proofs.known.declared.Goals as goal
+use Rattle.step_interp.proofs.known.without_answer.Goals as goal
 
 pub returns-clause-ok : goal.returns-clause-ok
 returns-clause-ok c m f vs e w h =
