@@ -1,25 +1,239 @@
--- Where the first Leap of a body stands: no Leap stands before it in its list.
-use Rattle.std.proofs.Common.{◌≡◌, ℕ, zero, suc, ◌+◌, ◌≤◌, List, [], ◌∷◌, ◌++◌, Option, Some, None, length, map, take, option_map, slice_get, inl, inr, refl, sym, ap, subst, ◌∙◌, arith, add-zero}
-use Rattle.std.specs.Prelude.{◌⊎◌}
+-- What the first path of a search leads to, and what it says of a body that there is none.
+use Rattle.std.proofs.Common.{◌≡◌, ℕ, zero, suc, ◌+◌, ◌≤◌, List, [], ◌∷◌, ◌++◌, Bool, true, false, Option, Some, None, option_and_then, option_map, cond, length, map, take, slice_get, refl, sym, ap, subst, ◌∙◌, add-zero, arith}
+use Rattle.std.specs.Prelude.{MatchOption}
+use Rattle.std.proofs.lemmas.List.{take-take}
 use Rattle.c_tree.specs.declared.tree.Branch.{Branch}
 use Rattle.c_tree.specs.declared.tree.Branch.TheVariants as B
 use Rattle.c_tree.specs.declared.tree.Item.{Item, Item-F, out-Item, roll-Item, fold-roll-Item, out-roll-Item, ind-Item, map-Item}
-use Rattle.c_tree.specs.declared.tree.Item.TheOpen.{Section-F, If, While, Do, For, Switch, Block, Leap}
+use Rattle.c_tree.specs.declared.tree.Item.TheOpen.{Section-F, If, While, Do, For, Switch, Block, Leap, Arm, Land}
 use Rattle.c_tree.specs.declared.tree.Section.{Section, map-Section, fold-roll-Section, out-roll-Section, roll-Section}
+use Rattle.c_tree.specs.declared.tree.Selector.{Selector}
 use Rattle.c_tree.specs.declared.tree.Path.{Path}
-use Rattle.c_tree.specs.Paths.{list_of, child_F, child, list_at}
+use Rattle.c_tree.specs.Everywhere.{total, total_of, total_in, Everywhere, EverywhereOf, EverywhereIn}
+use Rattle.c_tree.specs.Paths.{list_of, child_F, list_at, item_at}
+use Rattle.c_tree.specs.Trees as T
+use Rattle.c_tree.specs.Trees.{Tree, SectionTree, tree_of, trees_of, section_tree, sections_of}
+use Rattle.c_tree.specs.WellMade.{IsPlainFor}
+use Rattle.c_tree.proofs.ChangeLemmas.{layer_tree, tree-roll}
 use Rattle.c_tree.proofs.PathLemmas.{list_step}
+use Rattle.c_tree.proofs.RuleChanges.{stands}
+use Rattle.c_tree.proofs.TreeLaws.{section-parts}
 use Rattle.label_offsets.specs.Standing.{outermost}
+use Rattle.label_offsets.specs.declared.first.Sought.{Sought}
 use Rattle.label_offsets.specs.declared.first.Sought.TheVariants as S
-use Rattle.label_offsets.specs.Leaps.{under, sections_from, paths_step, section_step, leaps_of, leaps_from, section_leaps, first}
-use Rattle.label_offsets.proofs.Firsts.{first_some, first_none}
-use Rattle.label_offsets.proofs.LeapCounts.{leaps_in, leaps_in_list, leaps_counted}
+use Rattle.label_offsets.specs.Leaps.{seeks_leaps, seeks_arms, seeks_lands, is_sought_F, is_sought, here_if, under, sections_from, paths_step, section_step, paths_of, section_paths, paths_from, leaps_from, first}
+use Rattle.label_offsets.proofs.Firsts.{paths-cut}
 
--- a path in a list of the item i
-abbrev stepped_in : ℕ → Branch → Path → Path
-stepped_in i b q = record { steps = record { item = i; branch = b } ∷ q.steps; item = q.item }
+-- 1 for a tree that is sought
+abbrev pub weight : Sought → Tree → ℕ
+weight s (T.Leap l) = cond (seeks_leaps s) 1 0
+weight s (T.Arm l e) = cond (seeks_arms s l) 1 0
+weight s (T.Land l) = cond (seeks_lands s l) 1 0
+weight s _ = 0
 
--- a Leap stands at the path, and none before it in its list
+-- a sought item stands at the path
+pub record IsFound (s : Sought) (xs : List Item) (at : Path) : Type 0 where
+  pub item : Item
+  pub there : item_at xs at.steps at.item ≡ Some item
+  pub sought : is_sought s item ≡ true
+
+pub none_first : (ps : List Path) → first ps ≡ None → length ps ≡ 0
+none_first [] e = refl
+none_first (p ∷ ps) e = cc
+
+module _ (s : Sought) where
+  -- the path leads to the item of the number i, or into it
+  abbrev pub IsFoundIn : Item → ℕ → Path → Type 0
+  IsFoundIn x i at = ((xs : List Item) → slice_get xs i ≡ Some x → IsFound s xs at) × (outermost at ≡ i)
+
+  -- into an item of a list whose items have the numbers from n on, and no item before that is sought or holds one
+  record FoundFrom (xs : List Item) (n : ℕ) (at : Path) : Type 0 where
+    place : ℕ
+    number : ℕ
+    item : Item
+    number_is : number ≡ n + place
+    item_is : slice_get xs place ≡ Some item
+    before : paths_from s n (take place xs) ≡ []
+    inside : IsFoundIn item number at
+
+  -- a tree, a list and sections without a sought item, where each `for` has an empty first part
+  abbrev pub HasNone : Tree → Type 0
+  HasNone t = EverywhereOf IsPlainFor t → total_of (weight s) t ≡ 0
+
+  abbrev pub HaveNone : List Item → Type 0
+  HaveNone xs = Everywhere IsPlainFor (trees_of xs) → total (weight s) (trees_of xs) ≡ 0
+
+  abbrev SectionsHaveNone : List Section → Type 0
+  SectionsHaveNone cs = EverywhereIn IsPlainFor (sections_of cs) → total_in (weight s) (sections_of cs) ≡ 0
+
+  -- two lists of paths, and a list under a branch
+
+  joined : {N M K : Type 0} {F G H : Path → Type 0} (ps qs : List Path) → (N → M → K) → ((p : Path) → F p → H p) → (ps ≡ [] → (p : Path) → G p → H p)
+      → MatchOption (first ps) N F → MatchOption (first qs) M G → MatchOption (first (ps ++ qs)) K H
+  joined (p ∷ ps) qs none here later f g = here p f
+  joined [] [] none here later f g = none f g
+  joined [] (q ∷ qs) none here later f g = later refl q g
+
+  weaken : {N M : Type 0} {F G : Path → Type 0} (o : Option Path) → (N → M) → ((p : Path) → F p → G p) → MatchOption o N F → MatchOption o M G
+  weaken None none some f = none f
+  weaken (Some p) none some f = some p f
+
+  abbrev IsListFound : List Item → Option Path → Type 0
+  IsListFound xs o = MatchOption o (HaveNone xs) (IsFound s xs)
+
+  abbrev P : Item → Type 0
+  P x = (i : ℕ) → MatchOption (first (paths_of s x i)) (HasNone (tree_of x)) (IsFoundIn x i)
+
+  abbrev Q : Section → Type 0
+  Q c = IsListFound (list_of c) (first (section_paths s c))
+
+  abbrev I : Type 0
+  I = (x : Item) × P x
+
+  abbrev C : Type 0
+  C = (c : Section) × Q c
+
+  abbrev item_of : I → Item
+  item_of e = e.0
+
+  abbrev section_of : C → Section
+  section_of e = e.0
+
+  found_among : (a : List I) (n : ℕ) →
+      MatchOption (first (paths_from s n (map item_of a))) (HaveNone (map item_of a)) (FoundFrom (map item_of a) n)
+  unfolding trees_of
+  found_among [] n = λ h. refl
+  found_among (e ∷ a) n =
+      joined (paths_of s e.0 n) (paths_from s (n + 1) (map item_of a)) (λ f g h. let p = f h.0 in let q = g h.1 in omega (arith, p, q))
+      (λ p f. record { place = zero; number = n; item = e.0; number_is = sym (add-zero n); item_is = refl; before = refl; inside = f })
+      (λ z p f. record {
+        place = suc f.place;
+        number = f.number;
+        item = f.item;
+        number_is = omega (arith, f.number_is);
+        item_is = f.item_is;
+        before = ap (λ ps. ps ++ paths_from s (n + 1) (take f.place (map item_of a))) z ∙ f.before;
+        inside = f.inside;
+      }) (e.1 n) (found_among a (n + 1))
+
+  whole : (xs : List Item) (at : Path) → FoundFrom xs 0 at → IsFound s xs at
+  whole xs at f = let k : f.number ≡ f.place = omega (arith, f.number_is) in f.inside.0 xs (ap (slice_get xs) k ∙ f.item_is)
+
+  found_list : (a : List I) → IsListFound (map item_of a) (first (paths_from s 0 (map item_of a)))
+  found_list a = weaken (first (paths_from s 0 (map item_of a))) (λ f. f) (whole (map item_of a)) (found_among a 0)
+
+  -- what stands in the list of a branch
+  found_under : {K : Type 0} (z : Item-F Item Section) (i : ℕ) (b : Branch) (a : List Item) (ps : List Path) → child_F b z ≡ Some a → (HaveNone a → K)
+      → IsListFound a (first ps) → MatchOption (first (under i b ps)) K (IsFoundIn (roll-Item z) i)
+  found_under z i b a [] e none f = none f
+  found_under z i b a (p ∷ ps) e none f = (
+    λ xs h. record {
+      item = f.item;
+      there = ap (option_and_then (λ a. slice_get a p.item)) (list_step xs (record { item = i; branch = b }) p.steps (roll-Item z) a h
+          (ap (child_F b) (out-roll-Item z) ∙ e)) ∙ f.there;
+      sought = f.sought;
+    },
+    refl,
+  )
+
+  found_branch : {K : Type 0} (z : Item-F Item Section) (i : ℕ) (b : Branch) (a : List I) → child_F b z ≡ Some (map item_of a) → (HaveNone (map item_of a) → K)
+      → MatchOption (first (under i b (paths_from s 0 (map item_of a)))) K (IsFoundIn (roll-Item z) i)
+  found_branch z i b a e none = found_under z i b (map item_of a) (paths_from s 0 (map item_of a)) e none (found_list a)
+
+  -- in the sections from k on
+  found_sections : (t : Selector) (all : List Section) (i : ℕ) (cs : List C) (k : ℕ)
+      → ((j : ℕ) → slice_get all (k + j) ≡ slice_get (map section_of cs) j)
+      → MatchOption (first (sections_from i k (map (section_paths s) (map section_of cs)))) (SectionsHaveNone (map section_of cs))
+      (IsFoundIn (roll-Item (Switch t all)) i)
+  unfolding sections_of
+  found_sections t all i [] k same = λ h. refl
+  found_sections t all i (e ∷ cs) k same =
+      let this = ap (slice_get all) (sym (add-zero k)) ∙ same 0 in
+      let list : (section_tree e.0).list ≡ trees_of (list_of e.0) = ap (λ (z : SectionTree). z.list) (section-parts e.0) in
+      joined (under i (B.Section k) (section_paths s e.0)) (sections_from i (k + 1) (map (section_paths s) (map section_of cs)))
+      (λ f g h. let p = f (subst (Everywhere IsPlainFor) list h.0) in let q = g h.1 in let l = ap (total (weight s)) list in omega (arith, p, q, l))
+      (λ p f. f) (λ z p f. f)
+      (found_under (Switch t all) i (B.Section k) (list_of e.0) (section_paths s e.0) (ap (option_map list_of) this) (λ f. f) e.1)
+      (found_sections t all i cs (k + 1) (λ j. let next : k + 1 + j ≡ k + suc j = omega arith in ap (slice_get all) next ∙ same (suc j)))
+
+  -- an item without lists
+
+  weightless : (z : Item-F Item Section) → is_sought_F s z ≡ false → total_of (weight s) (layer_tree z) ≡ weight s (layer_tree z) →
+      total_of (weight s) (layer_tree z) ≡ 0
+  weightless (Leap l) e w = ap (λ b. cond b 1 0) e
+  weightless (Arm l t) e w = ap (λ b. cond b 1 0) e
+  weightless (Land l) e w = ap (λ b. cond b 1 0) e
+  weightless _ e w = w
+
+  found_here : (z : Item-F Item Section) (i : ℕ) (b : Bool) → is_sought_F s z ≡ b → total_of (weight s) (layer_tree z) ≡ weight s (layer_tree z)
+      → MatchOption (first (here_if b i)) (HasNone (layer_tree z)) (IsFoundIn (roll-Item z) i)
+  found_here z i true e w = (λ xs h. record { item = roll-Item z; there = h; sought = ap (is_sought_F s) (out-roll-Item z) ∙ e }, refl)
+  found_here z i false e w = λ h. weightless z e w
+
+  -- one layer
+
+  abbrev IsLayerFound : Item-F Item Section → ℕ → Option Path → Tree → Type 0
+  IsLayerFound z i o t = MatchOption o (HasNone t) (IsFoundIn (roll-Item z) i)
+
+  abbrev layer_paths : Item-F Item Section → ℕ → List Path
+  layer_paths z i = paths_step s (map-Item Item Section (ℕ → List Path) (List Path) (paths_of s) (section_paths s) z) i
+
+  layer : (y : Item-F I C) (i : ℕ) → let z = map-Item I C Item Section item_of section_of y in IsLayerFound z i (first (layer_paths z i)) (layer_tree z)
+  unfolding trees_of sections_of
+  layer (If t a b) i =
+      let z = If t (map item_of a) (map item_of b) in
+      joined (under i B.Then (paths_from s 0 (map item_of a))) (under i B.Else (paths_from s 0 (map item_of b)))
+      (λ f g h. let p = f h.1 in let q = g h.2 in omega (arith, p, q)) (λ p f. f) (λ e p f. f)
+      (found_branch z i B.Then a refl (λ f. f)) (found_branch z i B.Else b refl (λ f. f))
+  layer (While t a) i = found_branch (While t (map item_of a)) i B.Body a refl (λ f h. let p = f h.1 in omega (arith, p))
+  layer (Do a t) i = found_branch (Do (map item_of a) t) i B.Body a refl (λ f h. let p = f h.1 in omega (arith, p))
+  layer (For f t u a) i = found_branch (For (map item_of f) t u (map item_of a)) i B.Body a refl
+      (λ g h. let p = g h.2 in let q = ap (total (weight s)) h.0.0 in omega (arith, p, q))
+  layer (Block a) i = found_branch (Block (map item_of a)) i B.Body a refl (λ f h. let p = f h.1 in omega (arith, p))
+  layer (Switch t cs) i =
+      weaken (first (sections_from i 0 (map (section_paths s) (map section_of cs)))) (λ f h. let p = f h.1 in omega (arith, p)) (λ p f. f)
+      (found_sections t (map section_of cs) i cs 0 (λ j. let same : 0 + j ≡ j = omega arith in ap (slice_get (map section_of cs)) same))
+  layer y i = let z = map-Item I C Item Section item_of section_of y in found_here z i (is_sought_F s z) refl refl
+
+  rolled : (z : Item-F Item Section) (i : ℕ) → IsLayerFound z i (first (layer_paths z i)) (layer_tree z)
+      → IsLayerFound z i (first (paths_of s (roll-Item z) i)) (tree_of (roll-Item z))
+  rolled z i f =
+      subst (λ o. IsLayerFound z i o (tree_of (roll-Item z)))
+      (sym (ap (λ (f : ℕ → List Path). first (f i)) (fold-roll-Item (ℕ → List Path) (List Path) (paths_step s) section_step z)))
+      (subst (λ t. IsLayerFound z i (first (layer_paths z i)) t) (sym (tree-roll z)) f)
+
+  section_rolled : (z : Section-F Item Section) → IsListFound z.list (first (paths_from s 0 z.list)) → Q (roll-Section z)
+  section_rolled z f =
+      subst (λ l. IsListFound l (first (section_paths s (roll-Section z)))) (sym (ap (λ (o : Section-F Item Section). o.list) (out-roll-Section z)))
+      (subst (IsListFound z.list) (sym (ap first (fold-roll-Section (ℕ → List Path) (List Path) (paths_step s) section_step z))) f)
+
+  -- an item, and the first path in it
+  pub item_found : (x : Item) → P x
+  item_found = ind-Item P Q
+      (λ x y e. subst (λ (z : Item-F Item Section). P (roll-Item z)) e (λ i. rolled (map-Item I C Item Section item_of section_of y) i (layer y i)))
+      (λ x y e. subst (λ (z : Section-F Item Section). Q (roll-Section z)) e
+      (section_rolled (map-Section I C Item Section item_of section_of y) (found_list y.list)))
+
+  abbrev each : Item → I
+  each x = (x, item_found x)
+
+  each_is : (xs : List Item) → map item_of (map each xs) ≡ xs
+  each_is [] = refl
+  each_is (x ∷ xs) = ap (λ l. x ∷ l) (each_is xs)
+
+  found_first : (xs : List Item) → MatchOption (first (paths_from s 0 xs)) (HaveNone xs) (FoundFrom xs 0)
+  found_first xs = subst (λ l. MatchOption (first (paths_from s 0 l)) (HaveNone l) (FoundFrom l 0)) (each_is xs) (found_among (map each xs) 0)
+
+-- Leaps
+
+leap_sought : (y : Item-F Item Section) → is_sought_F S.Leap y ≡ true → (l : ℕ) × (y ≡ Leap l)
+leap_sought (Leap l) e = (l, refl)
+leap_sought _ e = cc
+
+first_leap : (xs : List Item) (at : Path) → first (leaps_from 0 xs) ≡ Some at → FoundFrom S.Leap xs 0 at
+first_leap xs at h = subst (λ o. MatchOption o (HaveNone S.Leap xs) (FoundFrom S.Leap xs 0)) h (found_first S.Leap xs)
+
+-- a Leap stands at the path
 pub record Found (xs : List Item) (at : Path) : Type 0 where
   pub list : List Item
   pub item : Item
@@ -27,217 +241,23 @@ pub record Found (xs : List Item) (at : Path) : Type 0 where
   pub list_is : list_at xs at.steps ≡ Some list
   pub item_is : slice_get list at.item ≡ Some item
   pub label_is : out-Item item ≡ Leap label
-  pub before : leaps_in_list (take at.item list) ≡ 0
-
--- the path leads to the item of the number i, or into it
-data FoundIn (x : Item) (i : ℕ) (at : Path) : Type 0 where
-  here : (l : ℕ) → out-Item x ≡ Leap l → at ≡ record { steps = []; item = i } → FoundIn x i at
-  within : (b : Branch) (a : List Item) (q : Path) → child b x ≡ Some a → Found a q → at ≡ stepped_in i b q → FoundIn x i at
-
--- into an item of a list whose items have the numbers from n on
-record FoundFrom (xs : List Item) (n : ℕ) (at : Path) : Type 0 where
-  place : ℕ
-  item : Item
-  item_is : slice_get xs place ≡ Some item
-  before : leaps_in_list (take place xs) ≡ 0
-  inside : FoundIn item (n + place) at
-
--- the first of two lists, and of a list under a branch
-
-either : (ps qs : List Path) (p : Path) → first (ps ++ qs) ≡ Some p → (first ps ≡ Some p) ⊎ (first qs ≡ Some p)
-either [] qs p e = inr e
-either (q ∷ ps) qs p e = inl e
-
-under_first : (i : ℕ) (b : Branch) (ps : List Path) (p : Path) → first (under i b ps) ≡ Some p → (q : Path) × (first ps ≡ Some q) × (p ≡ stepped_in i b q)
-under_first i b [] p e = cc
-under_first i b (q ∷ ps) p e = let same : stepped_in i b q ≡ p = cc in (q, refl, sym same)
-
-pub none_first : (ps : List Path) → first ps ≡ None → length ps ≡ 0
-none_first [] e = refl
-none_first (p ∷ ps) e = cc
-
--- the induction
-
-abbrev P : Item → Type 0
-P x = (i : ℕ) (at : Path) → first (leaps_of x i) ≡ Some at → FoundIn x i at
-
-abbrev Q : Section → Type 0
-Q c = (at : Path) → first (section_leaps c) ≡ Some at → Found (list_of c) at
-
-abbrev I : Type 0
-I = (x : Item) × P x
-
-abbrev C : Type 0
-C = (c : Section) × Q c
-
-abbrev item_of : I → Item
-item_of e = e.0
-
-abbrev section_of : C → Section
-section_of e = e.0
-
-found_here : (x : Item) (n : ℕ) (xs : List Item) (at : Path) → FoundIn x n at → FoundFrom (x ∷ xs) n at
-found_here x n xs at f = record { place = zero; item = x; item_is = refl; before = refl; inside = subst (λ k. FoundIn x k at) (sym (add-zero n)) f }
-
-found_later : (x : Item) (n : ℕ) (xs : List Item) (at : Path) → leaps_in x ≡ 0 → FoundFrom xs (n + 1) at → FoundFrom (x ∷ xs) n at
-found_later x n xs at none f =
-    let moved : n + 1 + f.place ≡ n + suc f.place = omega arith in
-    record {
-      place = suc f.place;
-      item = f.item;
-      item_is = f.item_is;
-      before = omega (arith, none, f.before);
-      inside = subst (λ k. FoundIn f.item k at) moved f.inside;
-    }
-
-found_in_list : (e : I) (a : List I) (n : ℕ) (at : Path) (o : Option Path) → first (leaps_of e.0 n) ≡ o → first (leaps_from n (e.0 ∷ map item_of a)) ≡ Some at
-    → (first (leaps_from (n + 1) (map item_of a)) ≡ Some at → FoundFrom (map item_of a) (n + 1) at) → FoundFrom (e.0 ∷ map item_of a) n at
-found_in_list e a n at (Some p) f h later =
-    let same = sym (first_some (leaps_of e.0 n) (leaps_from (n + 1) (map item_of a)) p f) ∙ h in
-    found_here e.0 n (map item_of a) at (e.1 n at (f ∙ same))
-found_in_list e a n at None f h later =
-    let none : leaps_in e.0 ≡ 0 = sym (leaps_counted e.0 n) ∙ none_first (leaps_of e.0 n) f in
-    found_later e.0 n (map item_of a) at none (later (sym (first_none (leaps_of e.0 n) (leaps_from (n + 1) (map item_of a)) f) ∙ h))
-
-found_among : (a : List I) (n : ℕ) (at : Path) → first (leaps_from n (map item_of a)) ≡ Some at → FoundFrom (map item_of a) n at
-found_among [] n at h = cc
-found_among (e ∷ a) n at h = found_in_list e a n at (first (leaps_of e.0 n)) refl h (found_among a (n + 1) at)
-
-found_whole : (xs : List Item) (at : Path) (k : ℕ) (x : Item) → slice_get xs k ≡ Some x → leaps_in_list (take k xs) ≡ 0 → FoundIn x k at → Found xs at
-found_whole xs at k x e before (here l is_leap p) =
-    subst (λ q. Found xs q) (sym p) (record { list = xs; item = x; label = l; list_is = refl; item_is = e; label_is = is_leap; before = before })
-found_whole xs at k x e before (within b a q is_child f p) =
-    subst (λ q. Found xs q) (sym p) (record {
-      list = f.list;
-      item = f.item;
-      label = f.label;
-      list_is = list_step xs (record { item = k; branch = b }) q.steps x a e is_child ∙ f.list_is;
-      item_is = f.item_is;
-      label_is = f.label_is;
-      before = f.before;
-    })
-
-found_list : (a : List I) (at : Path) → first (leaps_from 0 (map item_of a)) ≡ Some at → Found (map item_of a) at
-found_list a at h =
-    let f = found_among a 0 at h in
-    let k : 0 + f.place ≡ f.place = omega arith in
-    found_whole (map item_of a) at f.place f.item f.item_is f.before (subst (λ k. FoundIn f.item k at) k f.inside)
-
--- what stands in the list of a branch
-held : (z : Item-F Item Section) (i : ℕ) (b : Branch) (a : List I) (at : Path) → child_F b z ≡ Some (map item_of a)
-    → first (under i b (leaps_from 0 (map item_of a))) ≡ Some at → FoundIn (roll-Item z) i at
-held z i b a at e h =
-    let q = under_first i b (leaps_from 0 (map item_of a)) at h in
-    within b (map item_of a) q.0 (ap (child_F b) (out-roll-Item z) ∙ e) (found_list a q.0 q.1) q.2
-
-record SectionFound (cs : List Section) (i k : ℕ) (at : Path) : Type 0 where
-  number : ℕ
-  section : Section
-  path : Path
-  section_is : slice_get cs number ≡ Some section
-  inside : Found (list_of section) path
-  path_is : at ≡ stepped_in i (B.Section (k + number)) path
-
-found_section : (cs : List C) (i k : ℕ) (at : Path) → first (sections_from i k (map section_leaps (map section_of cs))) ≡ Some at →
-    SectionFound (map section_of cs) i k at
-found_section [] i k at h = cc
-found_section (e ∷ cs) i k at h = elim (either (under i (B.Section k) (section_leaps e.0))
-    (sections_from i (k + 1) (map section_leaps (map section_of cs))) at h) [
-      | inl f ↦
-          let q = under_first i (B.Section k) (section_leaps e.0) at f in
-          record {
-            number = zero;
-            section = e.0;
-            path = q.0;
-            section_is = refl;
-            inside = e.1 q.0 q.1;
-            path_is = q.2 ∙ ap (λ n. stepped_in i (B.Section n) q.0) (sym (add-zero k));
-          }
-      | inr f ↦
-          let s = found_section cs i (k + 1) at f in
-          let moved : k + 1 + s.number ≡ k + suc s.number = omega arith in
-          record {
-            number = suc s.number;
-            section = s.section;
-            path = s.path;
-            section_is = s.section_is;
-            inside = s.inside;
-            path_is = s.path_is ∙ ap (λ n. stepped_in i (B.Section n) s.path) moved;
-          }
-    ]
-
-layer : (y : Item-F I C) (i : ℕ) (at : Path)
-    → first (paths_step S.Leap (map-Item Item Section (ℕ → List Path) (List Path) leaps_of section_leaps
-    (map-Item I C Item Section item_of section_of y)) i) ≡ Some at
-    → FoundIn (roll-Item (map-Item I C Item Section item_of section_of y)) i at
-layer (Leap l) i at h = let same : record { steps = []; item = i } ≡ at = cc in here l (out-roll-Item (Leap l)) (sym same)
-layer (If t a b) i at h = elim (either (under i B.Then (leaps_from 0 (map item_of a))) (under i B.Else (leaps_from 0 (map item_of b))) at h) [
-  | inl f ↦ held (If t (map item_of a) (map item_of b)) i B.Then a at refl f
-  | inr f ↦ held (If t (map item_of a) (map item_of b)) i B.Else b at refl f
-]
-layer (While t a) i at h = held (While t (map item_of a)) i B.Body a at refl h
-layer (Do a t) i at h = held (Do (map item_of a) t) i B.Body a at refl h
-layer (For f t u a) i at h = held (For (map item_of f) t u (map item_of a)) i B.Body a at refl h
-layer (Block a) i at h = held (Block (map item_of a)) i B.Body a at refl h
-layer (Switch s cs) i at h =
-    let f = found_section cs i 0 at h in
-    let first_number : 0 + f.number ≡ f.number = omega arith in
-    let z = Switch s (map section_of cs) in
-    within (B.Section f.number) (list_of f.section) f.path (ap (child_F (B.Section f.number)) (out-roll-Item z) ∙ ap (option_map list_of) f.section_is) f.inside
-    (f.path_is ∙ ap (λ n. stepped_in i (B.Section n) f.path) first_number)
-layer _ i at h = cc
-
-list_rolled : (s : Section-F Item Section) → list_of (roll-Section s) ≡ s.list
-list_rolled s = ap (λ (o : Section-F Item Section). o.list) (out-roll-Section s)
-
-item_found : (x : Item) → P x
-item_found = ind-Item P Q
-    (λ x y e. subst (λ (z : Item-F Item Section). P (roll-Item z)) e (λ i at h. layer y i at
-    (sym (ap (λ (f : ℕ → List Path). first (f i)) (fold-roll-Item (ℕ → List Path) (List Path) (paths_step S.Leap) section_step _)) ∙ h)))
-    (λ x y e. subst (λ (z : Section-F Item Section). Q (roll-Section z)) e (λ at h.
-    subst (λ (l : List Item). Found l at) (sym (list_rolled (map-Section I C Item Section item_of section_of y)))
-    (found_list y.list at (sym (ap first (fold-roll-Section (ℕ → List Path) (List Path) (paths_step S.Leap) section_step _)) ∙ h))))
-
-abbrev each : Item → I
-each x = (x, item_found x)
-
-each_is : (xs : List Item) → map item_of (map each xs) ≡ xs
-each_is [] = refl
-each_is (x ∷ xs) = ap (λ l. x ∷ l) (each_is xs)
 
 -- the first Leap in text order
 pub first_found : (xs : List Item) (at : Path) → first (leaps_from 0 xs) ≡ Some at → Found xs at
-first_found xs at h = subst (λ l. Found l at) (each_is xs) (found_list (map each xs) at (ap (λ l. first (leaps_from 0 l)) (each_is xs) ∙ h))
+first_found xs at h =
+    let f = whole S.Leap xs at (first_leap xs at h) in
+    let t = stands xs at.steps at.item f.item f.there in
+    let l = leap_sought (out-Item f.item) f.sought in
+    record { list = t.list; item = f.item; label = l.0; list_is = t.list_is; item_is = t.item_is; label_is = l.1 }
 
--- the items before it in the outermost list
+no_front : (ps qs : List Path) → ps ++ qs ≡ [] → ps ≡ []
+no_front [] qs e = refl
+no_front (p ∷ ps) qs e = cc
 
-inside_is : (x : Item) (i : ℕ) (at : Path) → FoundIn x i at → outermost at ≡ i
-inside_is x i at (here l is_leap p) = ap outermost p
-inside_is x i at (within b a q is_child f p) = ap outermost p
-
-none_before : (xs : List Item) (at : Path) → first (leaps_from 0 xs) ≡ Some at → leaps_in_list (take (outermost at) xs) ≡ 0
-none_before xs at h =
-    let f = found_among (map each xs) 0 at (ap (λ l. first (leaps_from 0 l)) (each_is xs) ∙ h) in
-    let k : 0 + f.place ≡ f.place = omega arith in
-    let z = subst (λ l. leaps_in_list (take f.place l) ≡ 0) (each_is xs) f.before in
-    subst (λ n. leaps_in_list (take n xs) ≡ 0) (sym (inside_is f.item (0 + f.place) at f.inside ∙ k)) z
-
-no_path : (ps : List Path) → length ps ≡ 0 → ps ≡ []
-no_path [] e = refl
-no_path (p ∷ ps) e = cc
-
--- a list without Leaps has no paths of them
-no_leaps : (n : ℕ) (xs : List Item) → leaps_in_list xs ≡ 0 → leaps_from n xs ≡ []
-no_leaps n [] e = refl
-no_leaps n (x ∷ xs) e =
-    ap (λ ps. ps ++ leaps_from (n + 1) xs) (no_path (leaps_of x n) (omega (arith, leaps_counted x n, e)))
-    ∙ no_leaps (n + 1) xs (omega (arith, e))
-
-fewer_in_front : (n m : ℕ) (xs : List Item) → n ≤ m → leaps_in_list (take n xs) ≤ leaps_in_list (take m xs)
-fewer_in_front zero m xs h = omega arith
-fewer_in_front (suc n) zero xs h = absurd (omega arith)
-fewer_in_front (suc n) (suc m) [] h = omega arith
-fewer_in_front (suc n) (suc m) (x ∷ xs) h = omega (arith, fewer_in_front n m xs (omega arith))
-
+-- no Leap stands before it in the outermost list
 pub none_in_front : (xs : List Item) (at : Path) (n : ℕ) → first (leaps_from 0 xs) ≡ Some at → n ≤ outermost at → leaps_from 0 (take n xs) ≡ []
-none_in_front xs at n e h = no_leaps 0 (take n xs) (omega (arith, none_before xs at e, fewer_in_front n (outermost at) xs h))
+none_in_front xs at n e h =
+    let f = first_leap xs at e in
+    let k : n ≤ f.place = omega (arith, h, f.inside.1, f.number_is) in
+    ap (leaps_from 0) (sym (take-take n f.place xs k)) ∙ no_front (leaps_from 0 (take n (take f.place xs))) _
+    (sym (paths-cut S.Leap n 0 (take f.place xs)) ∙ f.before)

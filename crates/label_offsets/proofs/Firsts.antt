@@ -44,7 +44,7 @@ paths-other s x i n w d f b c =
       at _ e = refl
 
 -- the paths in the first items of a list, and in those behind them
-paths-cut : (s : Sought) (k n : ℕ) (xs : List Item) → paths_from s n xs ≡ paths_from s n (take k xs) ++ paths_from s (n + k) (drop k xs)
+pub paths-cut : (s : Sought) (k n : ℕ) (xs : List Item) → paths_from s n xs ≡ paths_from s n (take k xs) ++ paths_from s (n + k) (drop k xs)
 paths-cut s zero n xs = let same : n ≡ n + zero = omega arith in ap (λ m. paths_from s m xs) same
 paths-cut s (suc k) n [] = refl
 paths-cut s (suc k) n (x ∷ xs) =

@@ -1,39 +1,23 @@
 -- The Land that a search finds, and what it says where it finds none.
-use Rattle.std.proofs.Common.{◌≡◌, ℕ, zero, suc, ◌+◌, ◌-◌, ◌<◌, ◌≤◌, List, [], ◌∷◌, Option, Some, None, true, false, length, take, drop, get_or, sym, ap, subst, ◌∙◌, arith}
-use Rattle.std.specs.Prelude.{IfNone}
+use Rattle.std.proofs.Common.{◌≡◌, ℕ, zero, suc, ◌+◌, ◌-◌, ◌<◌, ◌≤◌, List, [], ◌∷◌, Option, Some, None, length, take, drop, get_or, refl, sym, ap, subst, ◌∙◌, arith}
+use Rattle.std.specs.Prelude.{IfSome, IfNone}
 use Rattle.std.proofs.lemmas.List.{at_drop_more}
-use Rattle.std.proofs.lemmas.Option.{slice_get-get_or}
-use Rattle.c_tree.specs.declared.tree.Item.{Item, Item-F, Land, out-Item}
+use Rattle.std.proofs.lemmas.Option.{MatchOption-at_some, MatchOption-at_none, slice_get_read}
+use Rattle.c_tree.specs.declared.tree.Item.{Item, Item-F, out-Item}
 use Rattle.c_tree.specs.declared.tree.Item.TheOpen as O
 use Rattle.c_tree.specs.declared.tree.Section.{Section}
-use Rattle.c_tree.specs.declared.tree.Branch.{Branch}
-use Rattle.c_tree.specs.declared.tree.Branch.TheVariants as B
 use Rattle.c_tree.specs.declared.tree.Path.{Path}
-use Rattle.c_tree.specs.declared.tree.Step.{Step}
-use Rattle.c_tree.specs.Paths.{list_of, child_F, item_at}
-use Rattle.c_tree.specs.Trees.{Tree, SectionTree, tree_of, trees_of, sections_of}
-use Rattle.c_tree.specs.Everywhere.{Everywhere, EverywhereOf, EverywhereIn}
-use Rattle.c_tree.specs.Labels.{lands}
+use Rattle.c_tree.specs.Trees.{Tree, tree_of, trees_of}
+use Rattle.c_tree.specs.Everywhere.{Everywhere, EverywhereOf}
+use Rattle.c_tree.specs.Labels.{lands, lands_of}
 use Rattle.c_tree.specs.WellMade.{IsPlainFor}
-use Rattle.c_tree.proofs.TreeLaws.{trees-none, trees-more, sections-more, section-parts}
-use Rattle.c_tree.proofs.ChangeLemmas.{layer_tree, tree-out}
-use Rattle.label_offsets.specs.Marks.{is_land, held}
-use Rattle.label_offsets.specs.Standing.{IsUnder, HasPlainFors_F, HasPlainFors, HasNoLandAt}
-use Rattle.label_offsets.proofs.HeldLaws.{land-is, lands-more, lands-all, lands-cut, is_land-none}
-
--- the Land is an item of the list itself
-pub place_here : (l : ℕ) (xs : List Item) (i : ℕ) (x : Item) (ss : List Step) → i < length xs → x ≡ get_or xs i x → is_land l x ≡ true → ss ≡ []
-    → item_at xs ss i ≡ Some (Land l)
-place_here l xs i x ss h e t f =
-    subst (λ (z : List Step). item_at xs z i ≡ Some (Land l)) (sym f) (slice_get-get_or xs i x h ∙ ap Some (sym e ∙ land-is l x t))
-
--- it stands in an item
-
-record Way (l k : ℕ) (y : Item-F Item Section) (p : Path) : Type 0 where
-  branch : Branch
-  list : List Item
-  there : child_F branch y ≡ Some list
-  under : IsUnder l k branch list p
+use Rattle.c_tree.proofs.TreeLaws.{trees-none, trees-more}
+use Rattle.label_offsets.specs.declared.first.Sought.TheVariants as S
+use Rattle.label_offsets.specs.Leaps.{is_sought_F, paths_of, first}
+use Rattle.label_offsets.specs.Marks.{is_land_F}
+use Rattle.label_offsets.specs.Standing.{IsPlaceOf, HasNoLandAt}
+use Rattle.label_offsets.proofs.FirstFound.{IsFoundIn, HasNone, item_found}
+use Rattle.label_offsets.proofs.HeldLaws.{land-is, lands-parts, lands-more, lands-all, lands-cut}
 
 -- what holds everywhere holds of each item
 
@@ -48,40 +32,28 @@ everywhere_drop P xs zero q = q
 everywhere_drop P [] (suc i) q = q
 everywhere_drop P (x ∷ xs) (suc i) q = everywhere_drop P xs i (subst (Everywhere P) (trees-more x xs) q).1
 
-pub everywhere_more_in : (P : Tree → Type 0) (cs : List Section) (k : ℕ) (c : Section) → k < length cs → c ≡ get_or cs k c
-    → EverywhereIn P (sections_of (drop k cs)) → Everywhere P (trees_of (list_of c)) × EverywhereIn P (sections_of (drop (k + 1) cs))
-everywhere_more_in P cs k c h e q =
-    let rest = EverywhereIn P (sections_of (drop (k + 1) cs)) in
-    let first = get_or cs k c in
-    subst (λ z. Everywhere P (trees_of (list_of z)) × rest) (sym e)
-    (subst (λ (z : SectionTree). Everywhere P z.list × rest) (section-parts first)
-    (subst (EverywhereIn P) (at_drop_more sections_of cs k c h ∙ sections-more first (drop (k + 1) cs)) q))
+-- what the first path in an item says of its list
 
-plain_layer : (y : Item-F Item Section) → EverywhereOf IsPlainFor (layer_tree y) → HasPlainFors_F y
-unfolding trees_of sections_of
-plain_layer (O.If t a b) h = (h.1, h.2)
-plain_layer (O.While t a) h = h.1
-plain_layer (O.Do a t) h = h.1
-plain_layer (O.For f t u a) h = (h.0.0, h.2)
-plain_layer (O.Switch s cs) h = h.1
-plain_layer (O.Block a) h = h.1
-plain_layer _ h = tt
+land_sought : (l : ℕ) (y : Item-F Item Section) → is_sought_F (S.Land l) y ≡ is_land_F l y
+land_sought l (O.Land m) = refl
+land_sought l _ = refl
 
-pub plain_inside : (x : Item) → EverywhereOf IsPlainFor (tree_of x) → HasPlainFors x
-plain_inside x h = plain_layer (out-Item x) (subst (EverywhereOf IsPlainFor) (tree-out x) h)
+pub place_found : (l : ℕ) (xs : List Item) (k : ℕ) (x : Item) (r : Option Path) → k < length xs → x ≡ get_or xs k x → r ≡ first (paths_of (S.Land l) x k)
+    → IfSome r (λ p. IsPlaceOf l xs p)
+place_found l xs k x None h e r = tt
+place_found l xs k x (Some p) h e r =
+    let f = MatchOption-at_some (HasNone (S.Land l) (tree_of x)) (IsFoundIn (S.Land l) x k) p (sym r) (item_found (S.Land l) x k) in
+    let g = f.0 xs (slice_get_read xs (length xs) k x refl h e) in
+    g.there ∙ ap Some (land-is l g.item (sym (land_sought l (out-Item g.item)) ∙ g.sought))
 
--- an item that isn't the Land and doesn't hold it
-
-pub no_land_at : (l : ℕ) (xs : List Item) (k : ℕ) (x : Item) → k < length xs → x ≡ get_or xs k x → is_land l x ≡ false →
-    (HasPlainFors x → held l x ≡ 0) → HasNoLandAt l xs k
-no_land_at l xs k x h e none nothing = λ p.
+pub no_place : (l : ℕ) (xs : List Item) (k : ℕ) (x : Item) (r : Option Path) → k < length xs → x ≡ get_or xs k x → r ≡ first (paths_of (S.Land l) x k)
+    → IfNone r (HasNoLandAt l xs k)
+no_place l xs k x (Some p) h e r = tt
+no_place l xs k x None h e r = λ p.
+    let none = MatchOption-at_none (HasNone (S.Land l) (tree_of x)) (IsFoundIn (S.Land l) x k) (sym r) (item_found (S.Land l) x k) in
     let m = everywhere_more IsPlainFor xs k x h e (everywhere_drop IsPlainFor xs k p) in
-    omega (arith, lands-more l xs k x h e, is_land-none l x none, nothing (plain_inside x m.0))
-
-pub none_inside_at : (l : ℕ) (xs : List Item) (k : ℕ) (x : Item) (r : Option Path) → k < length xs → x ≡ get_or xs k x → is_land l x ≡ false →
-    IfNone r (HasPlainFors x → held l x ≡ 0) → IfNone r (HasNoLandAt l xs k)
-none_inside_at l xs k x None h e none nothing = no_land_at l xs k x h e none nothing
-none_inside_at l xs k x (Some p) h e none nothing = tt
+    let z : lands_of l (tree_of x) ≡ 0 = none m.0 in
+    omega (arith, lands-more l xs k x h e, lands-parts l x, z)
 
 -- the items up to its place have as many Lands as without it
 pub none_before : (l : ℕ) (xs : List Item) (end : ℕ) (r : Option Path) → 0 < end → IfNone r (HasNoLandAt l xs (end - 1))

@@ -1,7 +1,7 @@
 //! The first item of a kind in a body, in text order.
 
 ghost use Rattle.std.specs.Prelude.{◌≡◌, [], IfOk, length, ◌≤◌, ◌+◌, take};
-ghost use Rattle.label_offsets.specs.Leaps.{seeks_leaps as the_seeks_leaps, seeks_guard as the_seeks_guard, is_sought as the_is_sought, here_if, paths_of, paths_from, sections_paths, leaps_from, places_from, first, under};
+ghost use Rattle.label_offsets.specs.Leaps.{seeks_leaps as the_seeks_leaps, seeks_arms as the_seeks_arms, seeks_lands as the_seeks_lands, is_sought as the_is_sought, here_if, paths_of, paths_from, sections_paths, leaps_from, places_from, first, under};
 
 use crate::places::path_under;
 use c_tree::{Branch, Item, Path, Section};
@@ -15,6 +15,8 @@ pub enum Sought {
     Leap,
     /// The Arms and Lands of the label.
     Guard(u32),
+    /// The Lands of the label.
+    Land(u32),
 }
 
 /// The path of the first Leap of a body in text order (docs/REWRITING): an item before what it
@@ -48,16 +50,26 @@ fn seeks_leaps(sought: Sought) -> bool
 {
     match sought {
         Sought::Leap => true,
-        Sought::Guard(_) => false,
+        _ => false,
     }
 }
 
-fn seeks_guard(sought: Sought, label: u32) -> bool
-    ensures { result ≡ the_seeks_guard sought label }
+fn seeks_arms(sought: Sought, label: u32) -> bool
+    ensures { result ≡ the_seeks_arms sought label }
+{
+    match sought {
+        Sought::Guard(guard) => guard == label,
+        _ => false,
+    }
+}
+
+fn seeks_lands(sought: Sought, label: u32) -> bool
+    ensures { result ≡ the_seeks_lands sought label }
 {
     match sought {
         Sought::Leap => false,
         Sought::Guard(guard) => guard == label,
+        Sought::Land(land) => label == land,
     }
 }
 
@@ -66,8 +78,8 @@ fn is_sought(sought: Sought, item: &Item) -> bool
 {
     match item {
         Item::Leap(_) => seeks_leaps(sought),
-        Item::Arm(label, _) => seeks_guard(sought, *label),
-        Item::Land(label) => seeks_guard(sought, *label),
+        Item::Arm(label, _) => seeks_arms(sought, *label),
+        Item::Land(label) => seeks_lands(sought, *label),
         _ => false,
     }
 }
@@ -120,8 +132,9 @@ fn first_under(
     }
 }
 
+/// The path of the first sought item that is the item `at` of a list, or stands in it.
 #[cycle(find)]
-fn first_of(alloc: Global, sought: Sought, item: &Item, at: u32) -> Result<Option<Path>, Memory>
+pub fn first_of(alloc: Global, sought: Sought, item: &Item, at: u32) -> Result<Option<Path>, Memory>
     ensures { IfOk result (λ r. r ≡ first (paths_of sought item.now at)) }
 {
     match item {
