@@ -8,15 +8,14 @@ use Rattle.tidy_slots.specs.Counts.{one_if, test_count, list_count}
 use Rattle.tidy_loops.specs.Views.{is_it}
 use Rattle.tidy_loops.specs.Exits.{exits_in}
 use Rattle.tidy_loops.specs.Slots.{stop_slot, first_reset, last_reset, but_last, allowed, breaks, continues, break_slot, continue_slot}
-use Rattle.tidy_loops.specs.Remaining.{IsApart, loop_list}
+use Rattle.tidy_loops.specs.Remaining.{IsApart}
 use Rattle.tidy_loops.proofs.Outside.{stop_one, last_one}
 use Rattle.break_recovery.specs.Next.{or_else}
 use Rattle.break_recovery.specs.Loops.{slot_of, continue_there, change_there}
 use Rattle.break_recovery.specs.declared.here.Change.{Change}
 use Rattle.break_recovery.specs.declared.here.Change.TheVariants as V
-use Rattle.break_recovery.specs.Exits.{loop_body, exits_of, NamesAtMost, HoldsAtMost}
-use Rattle.break_recovery.specs.declared.steady.Turned.TheVariants as T
-use Rattle.break_recovery.specs.Steady.{item_turned}
+use Rattle.break_recovery.specs.Exits.{exits_of, NamesAtMost, HoldsAtMost}
+use Rattle.break_recovery.specs.Steady.{no_slot, item_turned}
 use Rattle.break_recovery.proofs.Lacking.{loop_turned_uncounted, loop_turned_reset}
 use Rattle.break_recovery.proofs.Within.{is_less}
 
@@ -46,8 +45,8 @@ module _ (c : ℕ → ℕ) (n : ℕ) (xs : Forest) (g : ℕ) where
       few_break (c g) (test_count g t) (list_count g a) (exits_in g a) (is_it g (first_reset xs)) q w (stop_one g t s.0) p.0
 
   break_holds : (x : Tree) → IsApart c x xs → break_slot c n x xs ≡ Some g → HoldsAtMost (V.Break g) (c g - 3) x
-  break_holds (While t a) w e = (a, refl, break_few t a e (w g refl))
-  break_holds (Do a t) w e = (a, refl, break_few t a e (is_less (c g) _ _ (omega arith) (w g refl)))
+  break_holds (While t a) w e = (refl, break_few t a e (w g refl))
+  break_holds (Do a t) w e = (refl, break_few t a e (is_less (c g) _ _ (omega arith) (w g refl)))
   break_holds _ w e = cc
 
   continue_few : (a : Forest) (i : ℕ) → allowed (continues c n (but_last a)) (last_reset a) ≡ Some g → (c g ≡ 0) ⊎ (i < c g) → list_count g a ≤ i →
@@ -58,9 +57,9 @@ module _ (c : ℕ → ℕ) (n : ℕ) (xs : Forest) (g : ℕ) where
       (few_continue (c g) i (list_count g a) (list_count g (but_last a)) (exits_in g (but_last a)) q w h (last_one g a s.0), s.0)
 
   continue_holds : (x : Tree) → IsApart c x xs → continue_slot c n x ≡ Some g → HoldsAtMost (V.Continue g) (c g - 2) x
-  continue_holds (While t a) w e = (a, refl, continue_few a _ e (w g refl) (omega arith))
-  continue_holds (Do a t) w e = (a, refl, continue_few a _ e (w g refl) (omega arith))
-  continue_holds (For f t u a) w e = (a, refl, continue_few a _ e (w g refl) (omega arith))
+  continue_holds (While t a) w e = (refl, continue_few a _ e (w g refl) (omega arith))
+  continue_holds (Do a t) w e = (refl, continue_few a _ e (w g refl) (omega arith))
+  continue_holds (For f t u a) w e = (refl, continue_few a _ e (w g refl) (omega arith))
   continue_holds _ w e = cc
 
 pub change_holds : (c : ℕ → ℕ) (n : ℕ) (x : Tree) (xs : Forest) (r : Change) → IsApart c x xs → change_there c n x xs ≡ Some r →
@@ -75,13 +74,7 @@ change_holds c n x xs r w e = by_break (break_slot c n x xs) refl e
     by_break None h k = by_continue (continue_slot c n x) refl k
     by_break (Some g) h k = let q : V.Break g ≡ r = cc in subst (λ z. HoldsAtMost z (exits_of c z) x) q (break_holds c n xs g x w h)
 
-pub body_list : (x : Tree) (a : Forest) → loop_body x ≡ Some a → loop_list x ≡ a
-body_list (While t a) b e = cc
-body_list (Do a t) b e = cc
-body_list (For f t u a) b e = cc
-body_list _ b e = cc
-
 -- a change without exits turns no other slot
-pub none_turned : (r : Change) (n : ℕ) (x : Tree) → n ≡ 0 → HoldsAtMost r n x → item_turned (slot_of r) x ≡ T.Nothing
-none_turned (V.Break g) n x z (a, e, h) = loop_turned_uncounted g x a e (omega (arith, z, h))
-none_turned (V.Continue g) n x z (a, e, (h, l)) = loop_turned_reset g x a e l (omega (arith, z, h))
+pub none_turned : (r : Change) (n : ℕ) (x : Tree) → n ≡ 0 → HoldsAtMost r n x → item_turned (slot_of r) x ≡ no_slot
+none_turned (V.Break g) n x z (e, h) = loop_turned_uncounted g x e (omega (arith, z, h))
+none_turned (V.Continue g) n x z (e, (h, l)) = loop_turned_reset g x e l (omega (arith, z, h))

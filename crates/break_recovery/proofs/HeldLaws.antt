@@ -1,5 +1,7 @@
 -- Slots that the items behind a place of a list name otherwise than in exits.
-use Rattle.std.proofs.Common.{ℕ, zero, suc, ◌<◌, ◌≤◌, ◌⊎◌, inl, inr, arith, false, List, [], ◌∷◌, length, drop, get_or, slice_get, slice_set, Some, ◌≡◌, refl, sym, ap, subst, ◌∙◌}
+use Rattle.std.proofs.Common.{ℕ, zero, suc, ◌<◌, ◌≤◌, ◌⊎◌, inl, inr, arith, Bool, true, false, eqb, eqb-true, ◌||◌, List, [], ◌∷◌, length, drop, get_or, slice_get, slice_set, Some, ◌≡◌, refl, sym, ap, subst, ◌∙◌}
+use Rattle.std.specs.List.{list_any}
+use Rattle.std.proofs.lemmas.Bool.{or_from}
 use Rattle.std.proofs.lemmas.List.{length-set}
 use Rattle.c_tree.specs.declared.tree.Item.{Item}
 use Rattle.c_tree.specs.Trees.{Tree, Then, trees_of}
@@ -9,7 +11,6 @@ use Rattle.tidy_slots.specs.Counts.{list_count, item_count}
 use Rattle.tidy_loops.specs.Slots.{count_in, but_first, but_last}
 use Rattle.break_recovery.specs.Steady.{item_turned, is_turned, HasItems, NamesOtherwise, NeedsOtherwise}
 use Rattle.break_recovery.specs.declared.steady.Turned.{Turned}
-use Rattle.break_recovery.specs.declared.steady.Turned.TheVariants as T
 use Rattle.break_recovery.specs.declared.held.Held.{Held}
 use Rattle.break_recovery.specs.declared.here.Change.{Change}
 use Rattle.break_recovery.specs.Loops.{slot_of}
@@ -58,6 +59,24 @@ held_left counts r x t xs k e a h o = by (a h)
     by (inr (inr (i, l, s))) = inr (inr (held_dropped h xs k i l s))
 
 -- ---- what is held
+
+-- a slot is one of those for which this holds, or none of them
+one_held : (P : ℕ → Type 0) (gs : List ℕ) (g : ℕ) → ((i : ℕ) → i < length gs → P (get_or gs i 0)) → (list_any (λ x. eqb x g) gs ≡ false) ⊎ P g
+one_held P [] g a = inl refl
+one_held P (x ∷ gs) g a = by (eqb x g) refl (one_held P gs g (λ i l. a (suc i) (omega (arith, l))))
+  where
+    by : (b : Bool) → eqb x g ≡ b → (list_any (λ x. eqb x g) gs ≡ false) ⊎ P g → ((b || list_any (λ x. eqb x g) gs) ≡ false) ⊎ P g
+    by true e r = inr (subst P (eqb-true x g e) (a 0 (omega arith)))
+    by false e r = r
+
+pub all_held : (counts : List ℕ) (t : Turned) (xs : List Item) (k : ℕ) → t.any ≡ false →
+    ((i : ℕ) → i < length t.slots → (count_in counts (get_or t.slots i 0) ≡ 0) ⊎ IsHeldBehind (get_or t.slots i 0) xs k) → AllHeld counts t xs k
+all_held counts t xs k n a g = by (one_held (λ g. (count_in counts g ≡ 0) ⊎ IsHeldBehind g xs k) t.slots g a)
+  where
+    by : (list_any (λ x. eqb x g) t.slots ≡ false) ⊎ ((count_in counts g ≡ 0) ⊎ IsHeldBehind g xs k) →
+        (is_turned g t ≡ false) ⊎ ((count_in counts g ≡ 0) ⊎ IsHeldBehind g xs k)
+    by (inl e) = inl (or_from t.any (list_any (λ x. eqb x g) t.slots) n e)
+    by (inr h) = inr h
 
 pub known_held : (hs : List Held) (xs : List Item) (k i : ℕ) (h : Held) (g : ℕ) → i < length hs → (get_or hs i h).slot ≡ g → k < (get_or hs i h).place →
     AreHeld hs xs k → IsHeldBehind g xs k

@@ -12,14 +12,11 @@ use Rattle.tidy_slots.proofs.CountLemmas.{none_list, none_item}
 use Rattle.tidy_loops.specs.Views.{place_slot, off_slot, is_it, is_int_kind}
 use Rattle.tidy_loops.proofs.Unnamed.{inner_unnamed, tailed_unnamed}
 use Rattle.tidy_loops.specs.Slots.{reset_slot, last_reset, but_last}
-use Rattle.break_recovery.specs.Exits.{loop_body}
+use Rattle.tidy_loops.specs.Remaining.{loop_list}
+use Rattle.break_recovery.specs.Exits.{is_loop}
 use Rattle.break_recovery.specs.declared.steady.Turned.{Turned}
-use Rattle.break_recovery.specs.declared.steady.Turned.TheVariants as T
-use Rattle.break_recovery.specs.Steady.{both, one_of, set_turned, has_else, turned, item_turned, sections_turned}
-use Rattle.break_recovery.proofs.Steadily.{both_nothing}
-
-same_some : (a b : Forest) → Some a ≡ Some b → a ≡ b
-same_some a b e = cc
+use Rattle.break_recovery.specs.Steady.{no_slot, any_slot, both, one_of, set_turned, has_else, turned, item_turned, sections_turned}
+use Rattle.break_recovery.proofs.Steadily.{both_none}
 
 module _ (g : ℕ) where
   -- ---- a change of the slot keeps it
@@ -37,30 +34,30 @@ module _ (g : ℕ) where
   lacks_place (Var (H.Global m)) e = refl
   lacks_place _ e = refl
 
-  lacks_sets : (e : ExpressionTree) → lacks g e ≡ true → set_turned g e ≡ T.Nothing
+  lacks_sets : (e : ExpressionTree) → lacks g e ≡ true → set_turned g e ≡ no_slot
   lacks_sets (Typed k (Assign p v)) e =
-      ap (λ z. cond z (one_of (off_slot v)) T.Nothing) (lacks_place p (and_parts (place_lacks g p) (lacks g v) e).0)
+      ap (λ z. cond z (one_of (off_slot v)) no_slot) (lacks_place p (and_parts (place_lacks g p) (lacks g v) e).0)
   lacks_sets _ e = refl
 
-  if_nothing : (a b : Bool) (c : Turned) → b ≡ true → c ≡ T.Nothing → cond (a && not b) T.Many c ≡ T.Nothing
-  if_nothing true true c p q = q
-  if_nothing true false c p q = cc
-  if_nothing false b c p q = q
+  else_none : (a b : Bool) (c : Turned) → b ≡ true → c ≡ no_slot → cond (a && not b) any_slot c ≡ no_slot
+  else_none true true c p q = q
+  else_none true false c p q = cc
+  else_none false b c p q = q
 
   mutual
-    pub turned_lacking : (a : Forest) → list_lacks g a ≡ true → turned g a ≡ T.Nothing
+    pub turned_lacking : (a : Forest) → list_lacks g a ≡ true → turned g a ≡ no_slot
     turned_lacking Nil e = refl
     turned_lacking (Then x xs) e =
         let i = and_parts (item_lacks g x) (list_lacks g xs) e in
-        both_nothing (item_turned g x) (turned g xs) (item_turned_lacking x i.0) (turned_lacking xs i.1)
+        both_none (item_turned g x) (turned g xs) (item_turned_lacking x i.0) (turned_lacking xs i.1)
 
-    pub item_turned_lacking : (x : Tree) → item_lacks g x ≡ true → item_turned g x ≡ T.Nothing
+    pub item_turned_lacking : (x : Tree) → item_lacks g x ≡ true → item_turned g x ≡ no_slot
     item_turned_lacking (Evaluate v) e = lacks_sets v e
     item_turned_lacking (If t a b) e =
         let i = and_parts (test_lacks g t) (list_lacks g a && list_lacks g b) e in
         let k = and_parts (list_lacks g a) (list_lacks g b) i.1 in
-        if_nothing (has_else t b) (list_lacks g b) (both (turned g a) (turned g b)) k.1
-        (both_nothing (turned g a) (turned g b) (turned_lacking a k.0) (turned_lacking b k.1))
+        both_none (turned g a) (cond (has_else t b && not (list_lacks g b)) any_slot (turned g b)) (turned_lacking a k.0)
+        (else_none (has_else t b) (list_lacks g b) (turned g b) k.1 (turned_lacking b k.1))
     item_turned_lacking (While t a) e = turned_lacking a (and_parts (test_lacks g t) (list_lacks g a) e).1
     item_turned_lacking (Do a t) e = turned_lacking a (and_parts (list_lacks g a) (test_lacks g t) e).0
     item_turned_lacking (For f t u a) e =
@@ -71,31 +68,31 @@ module _ (g : ℕ) where
     item_turned_lacking (Block a) e = turned_lacking a e
     item_turned_lacking x e = refl
 
-    pub sections_turned_lacking : (c : Sections) → sections_lack g c ≡ true → sections_turned g c ≡ T.Nothing
+    pub sections_turned_lacking : (c : Sections) → sections_lack g c ≡ true → sections_turned g c ≡ no_slot
     sections_turned_lacking NoSection e = refl
     sections_turned_lacking (Section cases default a ends c) e =
         let i = and_parts (list_lacks g a) (sections_lack g c) e in
-        both_nothing (turned g a) (sections_turned g c) (turned_lacking a i.0) (sections_turned_lacking c i.1)
+        both_none (turned g a) (sections_turned g c) (turned_lacking a i.0) (sections_turned_lacking c i.1)
 
   -- ---- the same where it is counted 0 times
 
-  pub turned_uncounted : (a : Forest) → list_count g a ≡ 0 → turned g a ≡ T.Nothing
+  pub turned_uncounted : (a : Forest) → list_count g a ≡ 0 → turned g a ≡ no_slot
   turned_uncounted a e = turned_lacking a (none_list g a ∙ ap (λ n. eqb n 0) e)
 
-  pub item_turned_uncounted : (x : Tree) → item_count g x ≡ 0 → item_turned g x ≡ T.Nothing
+  pub item_turned_uncounted : (x : Tree) → item_count g x ≡ 0 → item_turned g x ≡ no_slot
   item_turned_uncounted x e = item_turned_lacking x (none_item g x ∙ ap (λ n. eqb n 0) e)
 
   -- ---- loops
 
   -- a loop turns what its body does, whatever its test does
-  pub loop_turned : (x : Tree) (a : Forest) → loop_body x ≡ Some a → turned g a ≡ T.Nothing → item_turned g x ≡ T.Nothing
-  loop_turned (While t b) a i e = ap (turned g) (same_some b a i) ∙ e
-  loop_turned (Do b t) a i e = ap (turned g) (same_some b a i) ∙ e
-  loop_turned (For f t u b) a i e = ap (turned g) (same_some b a i) ∙ e
-  loop_turned _ a i e = cc
+  loop_turned : (x : Tree) → is_loop x ≡ true → turned g (loop_list x) ≡ item_turned g x
+  loop_turned (While t a) i = refl
+  loop_turned (Do a t) i = refl
+  loop_turned (For f t u a) i = refl
+  loop_turned _ i = cc
 
-  pub loop_turned_uncounted : (x : Tree) (a : Forest) → loop_body x ≡ Some a → list_count g a ≡ 0 → item_turned g x ≡ T.Nothing
-  loop_turned_uncounted x a i e = loop_turned x a i (turned_uncounted a e)
+  pub loop_turned_uncounted : (x : Tree) → is_loop x ≡ true → list_count g (loop_list x) ≡ 0 → item_turned g x ≡ no_slot
+  loop_turned_uncounted x i e = sym (loop_turned x i) ∙ turned_uncounted (loop_list x) e
 
   taken : (b : Bool) (s : Option ℕ) → cond b s None ≡ Some g → b ≡ true
   taken true s e = refl
@@ -105,26 +102,26 @@ module _ (g : ℕ) where
   number_no_off (Typed (Some Int) (Number z)) e = refl
   number_no_off _ e = cc
 
-  assigned_none : (b : Bool) (s : Option ℕ) → s ≡ None → cond b (one_of s) T.Nothing ≡ T.Nothing
+  assigned_none : (b : Bool) (s : Option ℕ) → s ≡ None → cond b (one_of s) no_slot ≡ no_slot
   assigned_none true s e = ap one_of e
   assigned_none false s e = refl
 
-  reset_turned : (x : Tree) → reset_slot x ≡ Some g → item_turned g x ≡ T.Nothing
+  reset_turned : (x : Tree) → reset_slot x ≡ Some g → item_turned g x ≡ no_slot
   reset_turned (Evaluate (Typed k (Assign p v))) e =
       let i = and_parts (is_int_kind k) (is_number 0 v) (taken (is_int_kind k && is_number 0 v) (place_slot p) e) in
       assigned_none (is_it g (place_slot p)) (off_slot v) (number_no_off v i.1)
   reset_turned _ e = cc
 
   -- a list that names the slot in its last `g = 0;` alone turns no other
-  pub turned_reset : (a : Forest) → last_reset a ≡ Some g → list_count g (but_last a) ≡ 0 → turned g a ≡ T.Nothing
+  pub turned_reset : (a : Forest) → last_reset a ≡ Some g → list_count g (but_last a) ≡ 0 → turned g a ≡ no_slot
   turned_reset Nil i e = refl
-  turned_reset (Then x Nil) i e = both_nothing (item_turned g x) T.Nothing (reset_turned x i) refl
+  turned_reset (Then x Nil) i e = both_none (item_turned g x) no_slot (reset_turned x i) refl
   turned_reset (Then x (Then y ys)) i e =
       let p : item_count g x ≡ 0 = omega (arith, e) in
       let q : list_count g (but_last (Then y ys)) ≡ 0 = omega (arith, e) in
-      both_nothing (item_turned g x) (turned g (Then y ys)) (item_turned_uncounted x p) (turned_reset (Then y ys) i q)
+      both_none (item_turned g x) (turned g (Then y ys)) (item_turned_uncounted x p) (turned_reset (Then y ys) i q)
 
   -- and the loop with this body
-  pub loop_turned_reset : (x : Tree) (a : Forest) → loop_body x ≡ Some a → last_reset a ≡ Some g → list_count g (but_last a) ≡ 0 →
-      item_turned g x ≡ T.Nothing
-  loop_turned_reset x a i k e = loop_turned x a i (turned_reset a k e)
+  pub loop_turned_reset : (x : Tree) → is_loop x ≡ true → last_reset (loop_list x) ≡ Some g → list_count g (but_last (loop_list x)) ≡ 0 →
+      item_turned g x ≡ no_slot
+  loop_turned_reset x i k e = sym (loop_turned x i) ∙ turned_reset (loop_list x) k e

@@ -19,7 +19,6 @@ use Rattle.tidy_loops.specs.Slots.{Tells, count_in, counts_of, break_slot, conti
 use Rattle.break_recovery.specs.Next.{or_else, next_here}
 use Rattle.break_recovery.specs.Places.{Fewer}
 use Rattle.break_recovery.specs.Steady.{NeedsOtherwise, SectionsKept, AreAlike, AreAlikeOf, AreSectionsAlike, IsAlike, IsSaid}
-use Rattle.break_recovery.specs.declared.steady.Turned.TheVariants as T
 use Rattle.break_recovery.specs.Within.{AreApart}
 use Rattle.break_recovery.specs.Ways.{IsWayIn, IsWayAt}
 use Rattle.break_recovery.proofs.Alike.{or_more, otherwise_behind, IsLeftAlone, alike_behind, alike_first, broken_alike, continued_alike, if_alike, while_alike, do_alike, for_alike, switch_alike, block_alike, first_kept, later_kept}

@@ -1,6 +1,6 @@
 -- A change of a loop leaves the checks of each other slot that it doesn't turn.
 use Rattle.std.proofs.Common.{ℕ, ◌+◌, ◌⊎◌, inl, inr, Bool, true, false, not, cond, ◌&&◌, eqb, eqb-true, is_some, Option, Some, None, ◌≡◌, refl, sym, ap, ◌∙◌, arith}
-use Rattle.std.proofs.lemmas.Bool.{and_cases, not-false}
+use Rattle.std.proofs.lemmas.Bool.{and_cases, or_parts, not-false}
 use Rattle.c_tree.specs.declared.tree.Home.TheVariants as H
 use Rattle.c_tree.specs.ExpressionTrees.{ExpressionTree, Typed, Var, Assign}
 use Rattle.c_tree.specs.TestTrees.{TestTree, Source}
@@ -15,9 +15,8 @@ use Rattle.tidy_loops.proofs.FormLaws.{off_it}
 use Rattle.tidy_loops.specs.Exits.{checks_in, checks_of, checks_within}
 use Rattle.tidy_loops.specs.Slots.{last_reset, but_last}
 use Rattle.break_recovery.specs.declared.steady.Turned.{Turned}
-use Rattle.break_recovery.specs.declared.steady.Turned.TheVariants as T
-use Rattle.break_recovery.specs.Steady.{both, one_of, is_turned, has_else, turned, item_turned, sections_turned}
-use Rattle.break_recovery.proofs.Steadily.{TurnsLess, both_parts, less_both, less_turned}
+use Rattle.break_recovery.specs.Steady.{no_slot, any_slot, one_of, is_turned, has_else, turned, item_turned, sections_turned}
+use Rattle.break_recovery.proofs.Steadily.{both_parts, both_false}
 use Rattle.break_recovery.proofs.Lacking.{inner_lacking, tailed_lacking}
 
 -- ---- what is no `!h` is no check of h
@@ -31,7 +30,7 @@ not_off h e i = off_it h e ∙ no_off h (off_slot e) i
 
 unturned_slot : (h : ℕ) (s : Option ℕ) → is_turned h (one_of s) ≡ false → is_it h s ≡ false
 unturned_slot h None e = refl
-unturned_slot h (Some x) e = e
+unturned_slot h (Some x) e = (or_parts (eqb x h) false e).0
 
 module _ (h : ℕ) where
   checks_join : (a b : Forest) → checks_in h (join a b) ≡ checks_in h a + checks_in h b
@@ -76,16 +75,17 @@ module _ (g h : ℕ) (other : eqb g h ≡ false) where
       let m = ap one_if (kept_check h t b w k n) in
       omega (arith, m, p, q)
 
-  kept_many : (c : Bool) (b : Turned) → is_turned h (cond c T.Many b) ≡ false → (c ≡ false) × (is_turned h b ≡ false)
-  kept_many true b e = cc
-  kept_many false b e = (refl, e)
+  kept_any : (c : Bool) (b : Turned) → is_turned h (cond c any_slot b) ≡ false → (c ≡ false) × (is_turned h b ≡ false)
+  kept_any true b e = cc
+  kept_any false b e = (refl, e)
 
   -- in an `if` that tests `!x`, and turns not every slot, an else-list lacks the slot, so it stays
   if_turned : (t : TestTree) (a b w : Forest) → (list_lacks g b ≡ true → w ≡ b) → is_turned h (item_turned g (If t a b)) ≡ false →
       ((has_else t b ≡ false) ⊎ (w ≡ b)) × ((is_turned h (turned g a) ≡ false) × (is_turned h (turned g b) ≡ false))
   if_turned t a b w k e =
-      let p = kept_many (has_else t b && not (list_lacks g b)) (both (turned g a) (turned g b)) e in
-      (kept (and_cases (has_else t b) (not (list_lacks g b)) p.0), both_parts h (turned g a) (turned g b) p.1)
+      let s = both_parts h (turned g a) (cond (has_else t b && not (list_lacks g b)) any_slot (turned g b)) e in
+      let p = kept_any (has_else t b && not (list_lacks g b)) (turned g b) s.1 in
+      (kept (and_cases (has_else t b) (not (list_lacks g b)) p.0), (s.0, p.1))
     where
       kept : ((has_else t b ≡ false) ⊎ (not (list_lacks g b) ≡ false)) → (has_else t b ≡ false) ⊎ (w ≡ b)
       kept (inl i) = inl i
@@ -128,7 +128,7 @@ module _ (g h : ℕ) (other : eqb g h ≡ false) where
   leaving_checks l v true k i = k
   leaving_checks l v false k i = let m = ap one_if i in omega (arith, m, k)
 
-  set_at : (l : Tree) → checks_of h l ≡ 0 → (e v : ExpressionTree) (a b : Bool) → is_turned h (cond a (one_of (off_slot v)) T.Nothing) ≡ false →
+  set_at : (l : Tree) → checks_of h l ≡ 0 → (e v : ExpressionTree) (a b : Bool) → is_turned h (cond a (one_of (off_slot v)) no_slot) ≡ false →
       checks_in h (one (set_or l e (cond (a && b) (Some v) None))) ≡ 0
   set_at l k e v true true i =
       let p = leaving_checks l v (is_number 1 v) k (off_it h v ∙ unturned_slot h (off_slot v) i) in
@@ -168,13 +168,12 @@ module _ (g h : ℕ) (other : eqb g h ≡ false) where
 
 -- ---- without the last item
 
-front_less : (g : ℕ) (a : Forest) → TurnsLess (turned g (but_last a)) (turned g a)
-front_less g Nil = inl refl
-front_less g (Then x Nil) = inl refl
-front_less g (Then x (Then y ys)) = less_both (item_turned g x) (turned g (but_last (Then y ys))) (turned g (Then y ys)) (front_less g (Then y ys))
-
 pub turned_front : (g h : ℕ) (a : Forest) → is_turned h (turned g a) ≡ false → is_turned h (turned g (but_last a)) ≡ false
-turned_front g h a e = less_turned h (turned g (but_last a)) (turned g a) (front_less g a) e
+turned_front g h Nil e = refl
+turned_front g h (Then x Nil) e = refl
+turned_front g h (Then x (Then y ys)) e =
+    let p = both_parts h (item_turned g x) (turned g (Then y ys)) e in
+    both_false h (item_turned g x) (turned g (but_last (Then y ys))) p.0 (turned_front g h (Then y ys) p.1)
 
 reset_checks : (h g : ℕ) (x : Tree) → last_reset (Then x Nil) ≡ Some g → checks_of h x ≡ 0
 reset_checks h g (Evaluate e) i = refl

@@ -13,6 +13,7 @@ holds_none (Switch s c) = false
 holds_none (Block a) = false
 holds_none x = true
 
+-- no `int g = 0;` stands in the list itself
 abbrev pub DeclaresNone : Forest → Type 0
 DeclaresNone a = (g : ℕ) → declares g a ≡ false
 

@@ -1,6 +1,7 @@
 -- Changes that leave all other slots that count as they are, or name them otherwise than in exits: then nothing round the loop
 -- allows a change that it didn't allow before.
-use Rattle.std.specs.Prelude.{ℕ, List, ◌≡◌, ◌<◌, ◌≤◌, ◌⊎◌, Bool, true, false, not, cond, ◌&&◌, eqb, is_some, Option, Some, None}
+use Rattle.std.specs.Prelude.{ℕ, List, [], ◌∷◌, ◌++◌, ◌≡◌, ◌<◌, ◌≤◌, ◌⊎◌, Bool, true, false, not, cond, ◌&&◌, ◌||◌, eqb, is_some, Option, Some, None}
+use Rattle.std.specs.List.{list_any}
 use Rattle.c_tree.specs.ExpressionTrees.{ExpressionTree, PlaceTree, Typed, Assign}
 use Rattle.c_tree.specs.TestTrees.{TestTree, Source}
 use Rattle.c_tree.specs.Trees.{Tree, Forest, Nil, Then, Sections, NoSection, Section, Evaluate, If, While, Do, For, Switch, Block}
@@ -16,35 +17,34 @@ use Rattle.tidy_loops.specs.Remaining.{IsApart}
 use Rattle.break_recovery.specs.Next.{next_here}
 use Rattle.break_recovery.specs.Places.{Fewer}
 use Rattle.break_recovery.specs.declared.steady.Turned.{Turned}
-use Rattle.break_recovery.specs.declared.steady.Turned.TheVariants as T
 
 -- ---- which checks of other slots a change makes or takes
 
--- of one slot alone, or of more
-abbrev pub both : Turned → Turned → Turned
-both T.Nothing b = b
-both (T.One x) T.Nothing = T.One x
-both (T.One x) (T.One y) = cond (eqb x y) (T.One x) T.Many
-both (T.One x) T.Many = T.Many
-both T.Many b = T.Many
+abbrev pub no_slot : Turned
+no_slot = record { slots = []; any = false }
+
+abbrev pub any_slot : Turned
+any_slot = record { slots = []; any = true }
 
 abbrev pub one_of : Option ℕ → Turned
-one_of None = T.Nothing
-one_of (Some x) = T.One x
+one_of None = no_slot
+one_of (Some x) = record { slots = x ∷ []; any = false }
+
+-- those of two parts
+abbrev pub both : Turned → Turned → Turned
+both a b = record { slots = a.slots ++ b.slots; any = a.any || b.any }
 
 -- whether they may be checks of this slot
 abbrev pub is_turned : ℕ → Turned → Bool
-is_turned h T.Nothing = false
-is_turned h (T.One x) = eqb x h
-is_turned h T.Many = true
+is_turned h t = t.any || list_any (λ x. eqb x h) t.slots
 
 -- a set of the slot at this place to `!x` becomes the check `if (!x) { jump }`
 abbrev pub assigned : ℕ → PlaceTree → ExpressionTree → Turned
-assigned g p e = cond (is_it g (place_slot p)) (one_of (off_slot e)) T.Nothing
+assigned g p e = cond (is_it g (place_slot p)) (one_of (off_slot e)) no_slot
 
 abbrev pub set_turned : ℕ → ExpressionTree → Turned
 set_turned g (Typed k (Assign p e)) = assigned g p e
-set_turned g _ = T.Nothing
+set_turned g _ = no_slot
 
 -- an `if (!x)` with an else-list: without its else-list it is a check of x
 abbrev pub has_else : TestTree → Forest → Bool
@@ -54,21 +54,21 @@ has_else _ _ = false
 abbrev mutual
   -- by the sets of a list at any depth; an `if (!x)` whose else-list names the slot may lose that, and any check in it
   pub turned : ℕ → Forest → Turned
-  turned g Nil = T.Nothing
+  turned g Nil = no_slot
   turned g (Then x xs) = both (item_turned g x) (turned g xs)
 
   pub item_turned : ℕ → Tree → Turned
   item_turned g (Evaluate e) = set_turned g e
-  item_turned g (If t a b) = cond (has_else t b && not (list_lacks g b)) T.Many (both (turned g a) (turned g b))
+  item_turned g (If t a b) = both (turned g a) (cond (has_else t b && not (list_lacks g b)) any_slot (turned g b))
   item_turned g (While t a) = turned g a
   item_turned g (Do a t) = turned g a
   item_turned g (For f t u a) = turned g a
   item_turned g (Switch s c) = sections_turned g c
   item_turned g (Block a) = turned g a
-  item_turned g x = T.Nothing
+  item_turned g x = no_slot
 
   pub sections_turned : ℕ → Sections → Turned
-  sections_turned g NoSection = T.Nothing
+  sections_turned g NoSection = no_slot
   sections_turned g (Section cases default a ends c) = both (turned g a) (sections_turned g c)
 
 -- ---- what stays

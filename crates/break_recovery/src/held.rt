@@ -80,21 +80,20 @@ fn place_behind(slot: u32, most: u64, items: &[Item], place: usize) -> Option<us
     None
 }
 
-/// Reads a list for a slot, if there are not few items.
+/// Reads a list for a slot that counts so often, if there are not few items.
 fn look(
-    counts: &List<u64>,
     holds: &mut Holds,
     slot: u32,
+    most: u64,
     list: &List<Item>,
     place: usize,
 ) -> Result<bool, Memory>
-    requires most { (count_in counts.now slot ≡ 0) ⊎ (list_count slot (trees_of (drop place list.now)) < count_in counts.now slot) }
+    requires most { list_count slot (trees_of (drop place list.now)) ≤ most }
     requires known { AreHeld holds.old.known list.now place }
     ensures known { OnOk result (AreHeld holds.new.known list.now place) }
     ensures held { IfOk result (λ it. it ≡ true → IsHeldBehind slot list.now place) }
 {
-    let most = count_of(counts, slot);
-    if most == 0 || (holds.looks == 0 || are_few(list, place)) {
+    if holds.looks == 0 || are_few(list, place) {
         return Ok(false);
     }
     holds.looks -= 1;
@@ -120,13 +119,11 @@ fn is_held(
     ensures known { OnOk result (AreHeld holds.new.known list.now place) }
     ensures held { IfOk result (λ it. it ≡ true → (count_in counts.now slot ≡ 0) ⊎ IsHeldBehind slot list.now place) }
 {
-    if count_of(counts, slot) == 0 {
+    let most = count_of(counts, slot);
+    if most == 0 || is_known(&holds.known, slot, place) {
         return Ok(true);
     }
-    if is_known(&holds.known, slot, place) {
-        return Ok(true);
-    }
-    look(counts, holds, slot, list, place)
+    look(holds, slot, most, list, place)
 }
 
 /// Whether all slots that are turned are held behind a place, as far as this is known. A slot that doesn't count needs
@@ -134,20 +131,26 @@ fn is_held(
 pub fn are_held(
     counts: &List<u64>,
     holds: &mut Holds,
-    turned: Turned,
+    turned: &Turned,
     list: &List<Item>,
     place: usize,
 ) -> Result<bool, Memory>
     requires most { (g : ℕ) → (count_in counts.now g ≡ 0) ⊎ (list_count g (trees_of (drop place list.now)) < count_in counts.now g) }
     requires known { AreHeld holds.old.known list.now place }
     ensures known { OnOk result (AreHeld holds.new.known list.now place) }
-    ensures held { IfOk result (λ it. it ≡ true → AllHeld counts.now turned list.now place) }
+    ensures held { IfOk result (λ it. it ≡ true → AllHeld counts.now turned.now list.now place) }
 {
-    match turned {
-        Turned::Nothing => Ok(true),
-        Turned::One(slot) => is_held(counts, holds, slot, list, place),
-        Turned::Many => Ok(false),
+    if turned.any {
+        return Ok(false);
     }
+    let slots = turned.slots.as_slice();
+    for i in 0..slots.len() {
+        let held = is_held(counts, holds, slots[i], list, place)?;
+        if !held {
+            return Ok(false);
+        }
+    }
+    Ok(true)
 }
 
 /// Whether all slots that are turned are held behind a place of a list of which nothing is known yet.
@@ -155,12 +158,12 @@ pub fn are_held_there(
     alloc: Global,
     counts: &List<u64>,
     holds: &mut Holds,
-    turned: Turned,
+    turned: &Turned,
     list: &List<Item>,
     place: usize,
 ) -> Result<bool, Memory>
     requires { (g : ℕ) → (count_in counts.now g ≡ 0) ⊎ (list_count g (trees_of (drop place list.now)) < count_in counts.now g) }
-    ensures { IfOk result (λ it. it ≡ true → AllHeld counts.now turned list.now place) }
+    ensures { IfOk result (λ it. it ≡ true → AllHeld counts.now turned.now list.now place) }
 {
     forget_holds(alloc, holds);
     are_held(counts, holds, turned, list, place)

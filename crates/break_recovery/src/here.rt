@@ -15,7 +15,7 @@ ghost use Rattle.c_tree.specs.declared.tree.Item.{Item};
 ghost use Rattle.tidy_loops.specs.Remaining.{IsApart};
 
 use crate::held::{Holds, are_held_there};
-use crate::steady::{Turned, item_turned};
+use crate::steady::{Turned, item_turned, no_slot};
 use c_tree::Item;
 use c_types::{List, Memory};
 use std::alloc::Global;
@@ -89,14 +89,16 @@ pub fn exits_of(counts: &List<u64>, change: Change) -> u64
 }
 
 /// The other slots of which the change of a loop with so many exits makes or takes checks.
-pub fn turned_by(change: Change, exits: u64, item: &Item) -> Turned
+pub fn turned_by(alloc: Global, change: Change, exits: u64, item: &Item) -> Result<Turned, Memory>
     requires { HoldsAtMost change exits (tree_at item.now) }
-    ensures { result ≡ the_item_turned (the_slot_of change) (tree_at item.now) }
+    ensures { IfOk result (λ it. it ≡ the_item_turned (the_slot_of change) (tree_at item.now)) }
 {
     if exits == 0 {
-        return Turned::Nothing;
+        return Ok(no_slot(alloc));
     }
-    item_turned(slot_of(change), item)
+    let mut turned = no_slot(alloc);
+    item_turned(slot_of(change), item, &mut turned)?;
+    Ok(turned)
 }
 
 /// Makes the change at the loop, which holds so many exits. After `Memory` the loop is given up.
@@ -172,8 +174,8 @@ pub fn change_here(
     match find(counts, level, list, at)? {
         Some(change) => {
             let exits = exits_of(counts, change);
-            let turned = turned_by(change, exits, &list.as_slice()[at]);
-            let held = are_held_there(alloc, counts, holds, turned, list, at + 1)?;
+            let turned = turned_by(alloc, change, exits, &list.as_slice()[at])?;
+            let held = are_held_there(alloc, counts, holds, &turned, list, at + 1)?;
             make(alloc, change, exits, list, at)?;
             *sure = held;
             Ok(Some(slot_of(change)))

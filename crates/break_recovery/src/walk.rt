@@ -164,8 +164,8 @@ fn change_held(
     let slot = slot_of(change);
     let at = walk.at;
     let exits = exits_of(counts, change);
-    let turned = turned_by(change, exits, &list.as_slice()[at]);
-    let held = are_held(counts, holds, turned, list, walk.next)?;
+    let turned = turned_by(alloc, change, exits, &list.as_slice()[at])?;
+    let held = are_held(counts, holds, &turned, list, walk.next)?;
     if !held {
         return Ok(false);
     }

@@ -33,7 +33,7 @@ returns-in_ok-make-in-Some c =
       alike = said_here g c.in_ok-held-in-Some.held (λ g. AreAlike c.args.counts.now g (trees_of xs) (trees_of ys))
           (λ i. subst (λ g. AreAlike c.args.counts.now g (trees_of xs) (trees_of ys)) (sym c.slot_of.ensures)
           (here_alike c.args.counts.now (count_in c.args.counts.now) c.args.level xs ys at x r c.requires.place e (sym c.in_ok-change.ensures ∙ c.in-Some.is)
-          (held_left c.args.counts.now r (tree_at x) c.turned_by-turned.result xs (at + 1) c.turned_by-turned.ensures (c.in_ok-held-in-Some.ensures i))
+          (held_left c.args.counts.now r (tree_at x) c.in_ok-turned-in-Some.turned xs (at + 1) c.in_ok-turned-in-Some.ensures (c.in_ok-held-in-Some.ensures i))
           c.in_ok-make-in-Some.ensures));
     }
 
@@ -44,8 +44,8 @@ returns-in-None-clause-made c =
     λ f h. here_none f c.args.level (trees_of (drop at xs)) (join (trees_of (take at xs))) (count_in c.args.counts.now) (fun_ext h)
     _ c.in_ok-change.ensures (trees_of xs) c.in-None.is
 
-pub turned_by-turned-requires : goal.turned_by-turned-requires
-turned_by-turned-requires c =
+pub turned_by-requires : goal.turned_by-requires
+turned_by-requires c =
     let xs = c.args.list.now in
     let x = c.index-as_slice-at.result in
     let e : x ≡ get_or xs c.args.at x = c.index-as_slice-at.is ∙ ap (λ z. get_or z c.args.at x) c.as_slice.ensures.value in

@@ -35,13 +35,13 @@ returns c =
       row = λ n k. changed n w.at w.next c.args.counts.now xs (closed v.at v.next c.make.new.list) x v.at c.requires.place.0 c.requires.place.1
           (slice_there xs w.at x h (c.index-as_slice-at.is ∙ ap (λ z. get_or z w.at x) c.as_slice.ensures.value)) c.forget.new.counts
           c.args.slots.now c.push.new.self c.slot_of-slot.result c.args.change k c.slot_of-slot.ensures
-          (held_left c.args.counts.now c.args.change (tree_at x) c.turned_by-turned.result xs w.next c.turned_by-turned.ensures
+          (held_left c.args.counts.now c.args.change (tree_at x) c.in_ok-turned.turned xs w.next c.in_ok-turned.ensures
           (c.in_ok-held.ensures.held c.if-not-held.false))
           c.in_ok-make.ensures.place c.in_ok-make.ensures.made c.forget.ensures c.in_ok-push.ensures.ok;
     }
 
-pub turned_by-turned-requires : goal.turned_by-turned-requires
-turned_by-turned-requires c =
+pub turned_by-requires : goal.turned_by-requires
+turned_by-requires c =
     let xs = c.args.list.now in
     let w = c.args.walk.now in
     let x = c.index-as_slice-at.result in
