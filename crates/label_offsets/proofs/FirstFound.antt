@@ -1,5 +1,5 @@
 -- What the first path of a search leads to, and what it says of a body that there is none.
-use Rattle.std.proofs.Common.{◌≡◌, ℕ, zero, suc, ◌+◌, ◌≤◌, List, [], ◌∷◌, ◌++◌, Bool, true, false, Option, Some, None, option_and_then, option_map, cond, length, map, take, slice_get, refl, sym, ap, subst, ◌∙◌, add-zero, arith}
+use Rattle.std.proofs.Common.{◌≡◌, ℕ, zero, suc, ◌+◌, ◌≤◌, List, [], ◌∷◌, ◌++◌, Bool, true, false, Option, Some, None, option_and_then, option_map, cond, map, take, slice_get, refl, sym, ap, subst, ◌∙◌, add-zero, arith}
 use Rattle.std.specs.Prelude.{MatchOption}
 use Rattle.std.proofs.lemmas.List.{take-take}
 use Rattle.c_tree.specs.declared.tree.Branch.{Branch}
@@ -36,10 +36,6 @@ pub record IsFound (s : Sought) (xs : List Item) (at : Path) : Type 0 where
   pub item : Item
   pub there : item_at xs at.steps at.item ≡ Some item
   pub sought : is_sought s item ≡ true
-
-pub none_first : (ps : List Path) → first ps ≡ None → length ps ≡ 0
-none_first [] e = refl
-none_first (p ∷ ps) e = cc
 
 module _ (s : Sought) where
   -- the path leads to the item of the number i, or into it
@@ -223,6 +219,10 @@ module _ (s : Sought) where
 
   found_first : (xs : List Item) → MatchOption (first (paths_from s 0 xs)) (HaveNone xs) (FoundFrom xs 0)
   found_first xs = subst (λ l. MatchOption (first (paths_from s 0 l)) (HaveNone l) (FoundFrom l 0)) (each_is xs) (found_among (map each xs) 0)
+
+-- where there is no path, no item is sought
+pub none_there : (s : Sought) (xs : List Item) → first (paths_from s 0 xs) ≡ None → HaveNone s xs
+none_there s xs h = subst (λ o. MatchOption o (HaveNone s xs) (FoundFrom s xs 0)) h (found_first s xs)
 
 -- Leaps
 

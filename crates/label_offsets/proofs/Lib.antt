@@ -1,6 +1,5 @@
 pub mod Firsts
 pub mod CountLemmas
-pub mod LeapCounts
 pub mod FirstFound
 pub mod HeldLaws
 pub mod MarkLaws

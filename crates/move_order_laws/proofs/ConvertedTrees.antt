@@ -13,8 +13,7 @@ use Rattle.c_tree.specs.declared.tree.Test as T
 use Rattle.c_tree.specs.declared.tree.Test.TheOpen as OpenTest
 use Rattle.c_tree.specs.declared.tree.Test.TheVariants.{rolls-Source, rolls-On, rolls-Off, rolls-AndOff, rolls-OrOn}
 use Rattle.c_tree.specs.ExpressionTrees.{expression_tree}
-use Rattle.c_tree.specs.TestTrees.{TestTree, test_tree, selector_tree}
-use Rattle.c_tree.specs.TestTrees as PlainTest
+use Rattle.c_tree.specs.TestTrees.{test_tree, selector_tree}
 use Rattle.c_tree.specs.Trees as Plain
 use Rattle.c_tree.specs.Trees.{Tree, Forest, Nil, Then, join, tree_of, trees_of, section_tree, sections_of}
 use Rattle.c_tree.specs.Changed.{one}

@@ -5,7 +5,6 @@ use Rattle.std.proofs.lemmas.Bool.{eq-eqb}
 use Rattle.c_tree.specs.declared.tree.Item.{Item, Land}
 use Rattle.c_tree.specs.declared.tree.Step.{Step}
 use Rattle.c_tree.specs.Paths.{item_at}
-use Rattle.c_tree.specs.Trees as T
 use Rattle.c_tree.specs.Trees.{Tree, Forest, Nil, Then, Sections, NoSection, Section, If, While, Do, For, Switch, Block, trees_of, tree_of}
 use Rattle.c_tree.specs.Everywhere.{total_in}
 use Rattle.c_tree.specs.Labels.{land_of, lands, lands_of, lands_inside}
