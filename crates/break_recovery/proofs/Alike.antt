@@ -19,13 +19,12 @@ use Rattle.tidy_loops.proofs.FormLaws.{check_if}
 use Rattle.tidy_loops.specs.Slots.{Tells, count_in, counts_of, reset_in, reset_slot, first_reset, last_reset, but_last, but_first, stop_slot, allowed, breaks, continues, break_slot, continue_slot, broken, continued}
 use Rattle.break_recovery.specs.Next.{of_slot, next_here}
 use Rattle.break_recovery.specs.Places.{Fewer}
-use Rattle.tidy_loops.specs.Remaining.{IsApart}
 use Rattle.tidy_loops.proofs.ExitCounts.{check_most, checks_in_most, checks_of_most, checks_within_most, exits_in_most, exits_of_most}
 use Rattle.tidy_loops.proofs.Outside.{stop_one, last_one, outside_test, outside_reset}
 use Rattle.break_recovery.specs.Steady.{turned, item_turned, is_turned, HasItems, ShowsAlike, ItemShowsAlike, NamesOtherwise, NeedsOtherwise, IsKept, ItemIsKept, AreAlike, AreAlikeOf, SectionsKept, AreSectionsAlike, AsksAlike, IsAlike}
 use Rattle.break_recovery.proofs.Less.{broken_less, continued_less}
 use Rattle.break_recovery.proofs.Within.{is_less, is_some_slot}
-use Rattle.break_recovery.proofs.Stays.{first_none, second_none, both_none, unslot, slot_none, refused, allowed_still, and_false, counted_none, continue_still}
+use Rattle.break_recovery.proofs.Stays.{first_none, second_none, both_none, unslot, slot_none, refused, and_false, counted_none, continue_still}
 use Rattle.break_recovery.proofs.SteadyChanges.{tailed_checks, turned_front, front_checks}
 use Rattle.break_recovery.proofs.ExitsTold.{allowed_so}
 

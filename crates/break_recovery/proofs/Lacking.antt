@@ -15,7 +15,7 @@ use Rattle.tidy_loops.specs.Slots.{reset_slot, last_reset, but_last}
 use Rattle.tidy_loops.specs.Remaining.{loop_list}
 use Rattle.break_recovery.specs.Exits.{is_loop}
 use Rattle.break_recovery.specs.declared.steady.Turned.{Turned}
-use Rattle.break_recovery.specs.Steady.{no_slot, any_slot, both, one_of, set_turned, has_else, turned, item_turned, sections_turned}
+use Rattle.break_recovery.specs.Steady.{no_slot, any_slot, one_of, set_turned, has_else, turned, item_turned, sections_turned}
 use Rattle.break_recovery.proofs.Steadily.{both_none}
 
 module _ (g : ℕ) where

@@ -1,18 +1,15 @@
 -- A change of one slot leaves a list within, once that slot counts no more; and a list that has lost items in the middle.
-use Rattle.std.proofs.Common.{ℕ, zero, suc, ◌+◌, ◌≤◌, ◌<◌, ◌⊎◌, inl, inr, arith, Bool, true, false, eqb, eqb-true, List, [], ◌∷◌, length, take, drop, get_or, slice_get, slice_set, Some, ◌≡◌, ◌≢◌, refl, sym, ap, subst, ◌∙◌}
+use Rattle.std.proofs.Common.{ℕ, zero, suc, ◌+◌, ◌≤◌, ◌<◌, ◌⊎◌, inl, inr, arith, Bool, true, false, eqb, eqb-true, List, [], ◌∷◌, length, take, drop, slice_get, slice_set, Some, ◌≡◌, ◌≢◌, refl, sym, ap, subst, ◌∙◌}
 use Rattle.std.proofs.lemmas.Bool.{eq-eqb}
 use Rattle.std.proofs.lemmas.List.{get_or-set_other}
 use Rattle.c_tree.specs.declared.tree.Item.{Item}
-use Rattle.c_tree.specs.TestTrees.{TestTree, Source}
-use Rattle.c_tree.specs.ExpressionTrees.{Typed, Binary}
-use Rattle.c_tree.specs.declared.tree.BinaryOp.TheVariants.{AndThen}
-use Rattle.c_tree.specs.Trees.{Tree, Forest, Nil, Then, While, Do, For, Break, Continue, join, trees_of}
+use Rattle.c_tree.specs.Trees.{join, trees_of}
 use Rattle.c_tree.specs.Views.{tree_at}
 use Rattle.c_tree.proofs.TreeLaws.{trees-none}
 use Rattle.c_tree.proofs.Views.{trees-first}
-use Rattle.tidy_slots.specs.Counts.{test_count, list_count, item_count}
+use Rattle.tidy_slots.specs.Counts.{list_count}
 use Rattle.tidy_slots.proofs.CountLemmas.{count_join}
-use Rattle.tidy_loops.specs.Slots.{count_in, rest_test, broken, continued, but_first, but_last}
+use Rattle.tidy_loops.specs.Slots.{count_in}
 use Rattle.tidy_loops.specs.Remaining.{IsApart}
 use Rattle.tidy_loops.proofs.Outside.{not_so}
 use Rattle.break_recovery.specs.Loops.{slot_of, list_after, change_first}

@@ -1,5 +1,5 @@
 -- Each label of a resolved function stands at most once, and each of its switches has different cases.
-use Rattle.std.proofs.Common.{◌≢◌, ℤ, List, [], ◌∷◌, length, Option, Some, None, option_map, ◌≡◌}
+use Rattle.std.proofs.Common.{List, length, Option, Some, None, option_map}
 use Rattle.std.specs.Prelude.{IsSomeAnd}
 use Rattle.c_types.specs.declared.kinds.IntKind.{IntKind}
 use Rattle.c_types.specs.Numbers.{promoted}
@@ -8,14 +8,13 @@ use Rattle.c_tree.specs.declared.tree.Top.{Top}
 use Rattle.c_tree.specs.TestTrees.{SelectorTree}
 use Rattle.c_tree.specs.Constants.{kind_of}
 use Rattle.c_tree.specs.Cases.{selector_source, selector_kind}
-use Rattle.c_tree.specs.Trees.{Tree, Evaluate, Return, If, While, Do, For, Switch, Block, Local, Break, Continue, Goto, Mark, Arm, Leap, Land, Arrival, Note}
+use Rattle.c_tree.specs.Trees.{Tree, Switch, Land}
 use Rattle.c_tree.specs.InRange.{body_of}
 use Rattle.c_tree.proofs.WellMoved.{everywhere_map, everywhere_both}
 use Rattle.jump_meaning.specs.Operations.{operand_kind}
 use Rattle.jump_meaning.specs.Step.{switch_kind}
 use Rattle.flat_laws.specs.Parts as P
 use Rattle.lower_laws.specs.Source.{HasOwnCases, HasOwnLabels}
-use Rattle.c_resolved_defs.specs.Within.{Each}
 use Rattle.c_resolved_defs.specs.Form.{HasSourceForm}
 use Rattle.c_resolved_defs.specs.Switches.{switch_labels, AreLabels, HasCases}
 use Rattle.c_resolved_defs.specs.Limits.{FlatCounts}

@@ -1,14 +1,14 @@
-use Rattle.std.proofs.Common.{◌≡◌, not, ◌&&◌, OnOk, refl, sym, ap, subst, ◌∙◌}
+use Rattle.std.proofs.Common.{◌≡◌, not, ◌&&◌, OnOk, sym, ap, subst, ◌∙◌}
 use Rattle.std.proofs.lemmas.Bool.{and_left, and_right, not-false}
 use Rattle.c_tree.specs.declared.tree.Section.{Section}
 use Rattle.c_tree.specs.Paths.{list_of}
-use Rattle.c_tree.specs.Trees.{trees_of, sections_of}
+use Rattle.c_tree.specs.Trees.{trees_of}
 use Rattle.c_tree.specs.Views.{tree_at}
 use Rattle.c_tree.proofs.Views.{at-Evaluate}
 use Rattle.tidy_loops.proofs.FormLaws.{expression_same}
 use Rattle.tidy_laws.specs.Mentions.{list_lacks}
 use Rattle.tidy_loops.specs.Views.{test_at}
-use Rattle.break_recovery.specs.Steady.{any_slot, both, set_turned, has_else, turned, item_turned, sections_turned}
+use Rattle.break_recovery.specs.Steady.{any_slot, both, set_turned, has_else, turned, item_turned}
 use Rattle.break_recovery.proofs.Steadily.{with_none, with_any, turned_more, turned_end, section_more, sections_end, if_on, else_goes, else_stays}
 use Rattle.break_recovery.proofs.Lacking.{turned_lacking}
 use Rattle.break_recovery.proofs.steady.+turned.Goals as goal

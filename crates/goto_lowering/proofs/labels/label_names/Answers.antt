@@ -1,8 +1,6 @@
-use Rattle.std.proofs.Common.{◌≡◌, ◌+◌, ◌++◌, ◌∷◌, [], drop, sym, ap, ◌∙◌}
+use Rattle.std.proofs.Common.{sym, ◌∙◌}
 use Rattle.flat_names.specs.Gathered.{all_used}
-use Rattle.lower_laws.specs.Lowering.{label_names}
-use Rattle.goto_lowering.specs.Steps.{chosen, used_then, next_then}
-use Rattle.goto_lowering.proofs.Steps.{labels_step, labels_end}
+use Rattle.goto_lowering.proofs.Steps.{labels_end}
 use Rattle.goto_lowering.proofs.labels.label_names.Goals as goal
 
 pub returns-clause-value : goal.returns-clause-value
