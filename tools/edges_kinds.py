@@ -139,6 +139,10 @@ KINDS = {
         "while (!# && a) { a--; # = !q; }\n# = 0;\n", "int q = 0;\nwhile (a) {\nif (a == 7) { q = 1; }\n", "q = 0;\n}\n"),
     "guards of loops, all in one block, each set by `!a` of a parameter": parts.all_guards(
         "while (!# && a) { a--; # = !a; }\n# = 0;\n", "{\n", "}\n"),
+    "guards of loops, all in one loop, each set by `!g` and `!h` of two guards round it": parts.all_guards(
+        "while (!# && a) { a--; if (a == 3) { # = !q; } else { # = !r; } }\n# = 0;\n",
+        "int q = 0;\nint r = 0;\nwhile (!q && a) {\nwhile (!r && a) {\nif (a == 7) { q = 1; r = 1; }\n",
+        "}\nr = 0;\n}\nq = 0;\n"),
     "guards of loops one inside the other": kind("", parts.deep_guards),
     "guards of 380 loops one inside the other round all of it": parts.guards_round("a++;\n"),
     "guards of 380 loops round all of it, each set at the end of its loop": parts.guards_round("a++;\n", "# = a == 3;\n"),
